@@ -1,0 +1,32 @@
+-- `layout::Layout::in_range` meets its contract. Each call of `within` is one part of `inRange`.
+use borrow.Author.Needs.{needs}
+use Rattle.layout.specs.Words.{inRange}
+use Rattle.layout.proofs.Laws.{answered-no, answered-yes}
+use Rattle.layout.proofs.Layout.in_range.Statement.{statement}
+use Rattle.layout.proofs.Layout.in_range.Tie as tie
+
+within-requires : tie.Need-within-requires
+within-requires c κs = search needs
+
+returns : tie.Need-returns
+unfolding inRange
+returns c = rw (answered-no (c .before .within .ensures) (c .if1 .taken))
+
+within-requires-2 : tie.Need-within-requires-2
+within-requires-2 c κs = search needs
+
+returns-2 : tie.Need-returns-2
+unfolding inRange
+returns-2 c = rw (answered-yes (c .before .before .before .within .ensures) (c .before .before .if1 .left), answered-no (c .before .within2 .ensures) (c .if2 .taken))
+
+within-requires-3 : tie.Need-within-requires-3
+within-requires-3 c κs = search needs
+
+returns-3 : tie.Need-returns-3
+unfolding inRange
+returns-3 c = rw (answered-yes (c .before .before .before .before .within .ensures) (c .before .before .before .if1 .left), answered-yes (c .before .before .within2 .ensures) (c .before .if2 .left)) (c .within3 .ensures)
+
+pub in-range-spec : {M : Type 1} → statement M
+in-range-spec =
+    tie.close
+    (tie.spec within-requires returns within-requires-2 returns-2 within-requires-3 returns-3)

@@ -1,0 +1,128 @@
+-- The words of a store: where each thing stands, what words 0 to 7 hold, and what a formatted store holds.
+use Prim.Native.Nat.{ℕ, zero, suc, _+_, _*_, _-_, _≤_, _<_}
+use mathlib.Core.Path.{_≡_}
+use mathlib.Core.List.{List, [], _∷_, _++_}
+use mathlib.Core.Bool.{Bool, cond, _&&_}
+use lib.Dec.{eqb, leb, ltb}
+use lib.ListN.{length, getD, replicate}
+use Rattle.layout.specs.declared.Layout.{Layout}
+use Rattle.layout.specs.declared.Opened.{Opened}
+use Rattle.layout.specs.declared.Opened.the-variants.{Open, Refused}
+
+-- "Header k begins at word 8 + 4k: identifier, forward, back, count."
+abbrev pub headWords : ℕ
+headWords = 8
+
+abbrev pub headerWords : ℕ
+headerWords = 4
+
+abbrev pub headerAt : ℕ → ℕ
+headerAt k = headWords + headerWords * k
+
+-- "Cells are numbered: 0 to L - 1 are the lists' headers, L to L + N - 1 are nodes."
+abbrev pub firstNode : Layout → ℕ
+firstNode l = l .lists
+
+abbrev pub cellCount : Layout → ℕ
+cellCount l = firstNode l + l .nodes
+
+pub record Node (l : Layout) (i : ℕ) : Type 0 where
+  pub low : firstNode l ≤ i
+  pub high : i < cellCount l
+
+unfoldable pub isNode : Layout → ℕ → Bool
+isNode l i = leb (firstNode l) i && ltb i (cellCount l)
+
+-- "Node i begins at word 8 + 4L + (3 + P) × (i - L): identifier, forward, back, then P record words."
+abbrev pub linkWords : ℕ
+linkWords = 3
+
+abbrev pub nodeWords : Layout → ℕ
+nodeWords l = linkWords + l .width
+
+unfoldable pub nodeAt : Layout → ℕ → ℕ
+nodeAt l i = headWords + headerWords * l .lists + nodeWords l * (i - firstNode l)
+
+-- the first word of a cell, header or node, and the words behind it
+unfoldable pub cellAt : Layout → ℕ → ℕ
+cellAt l i = cond (ltb i (firstNode l)) (headerAt i) (nodeAt l i)
+
+abbrev pub identAt : Layout → ℕ → ℕ
+identAt l i = cellAt l i
+
+abbrev pub forwardAt : Layout → ℕ → ℕ
+forwardAt l i = cellAt l i + 1
+
+abbrev pub backAt : Layout → ℕ → ℕ
+backAt l i = cellAt l i + 2
+
+abbrev pub countAt : ℕ → ℕ
+countAt k = headerAt k + 3
+
+abbrev pub recordAt : Layout → ℕ → ℕ
+recordAt l i = nodeAt l i + linkWords
+
+-- "The store has exactly 8 + 4L + (3 + P) × N words, at most 32,040."
+unfoldable pub sizeOf : Layout → ℕ
+sizeOf l = headWords + headerWords * l .lists + nodeWords l * l .nodes
+
+-- "The identifier of list k is 42,400 + k."
+abbrev pub identOf : ℕ → ℕ
+identOf k = 42400 + k
+
+-- "Words 0 to 2: the mark RBS as letter codes 82, 66, 83. Word 3: version, 1. .. Word 7: 0."
+unfoldable pub marked : List ℕ → Bool
+marked w =
+    eqb (getD w 0 0) 82
+    && (eqb (getD w 1 0) 66 && (eqb (getD w 2 0) 83 && (eqb (getD w 3 0) 1 && eqb (getD w 7 0) 0)))
+
+-- "Word 4: L, the lists, 1 to 8. Word 5: N, the node cells, 1 to 2,000. Word 6: P, the words of a record, 1 to 13."
+abbrev pub layoutOf : List ℕ → Layout
+layoutOf w = record { lists = getD w 4 0; nodes = getD w 5 0; width = getD w 6 0 }
+
+pub record InRange (l : Layout) : Type 0 where
+  pub someLists : 1 ≤ l .lists
+  pub lists : l .lists ≤ 8
+  pub someNodes : 1 ≤ l .nodes
+  pub nodes : l .nodes ≤ 2000
+  pub someWidth : 1 ≤ l .width
+  pub width : l .width ≤ 13
+
+abbrev pub between : ℕ → ℕ → ℕ → Bool
+between a b x = leb a x && leb x b
+
+unfoldable pub inRange : Layout → Bool
+inRange l = between 1 8 (l .lists) && (between 1 2000 (l .nodes) && between 1 13 (l .width))
+
+-- a question: on yes what follows, on no its refusal
+abbrev pub ask {ℓ} : {A : Type ℓ} → Bool → A → A → A
+ask answer refusal rest = cond answer rest refusal
+
+-- questions 1 to 4, of a store of n words whose first eight are those of h
+unfoldable pub openedBy : ℕ → List ℕ → Opened
+openedBy n h =
+    ask (leb headWords n) (Refused 1)
+    (ask (marked h) (Refused 2)
+    (ask (inRange (layoutOf h)) (Refused 3)
+    (ask (eqb n (sizeOf (layoutOf h))) (Refused 4)
+    (Open (layoutOf h)))))
+
+abbrev pub opened : List ℕ → Opened
+opened w = openedBy (length w) w
+
+-- the same in words: what a store's words are like once questions 1 to 4 are answered yes
+pub record Laid (l : Layout) (w : List ℕ) : Type 0 where
+  pub inRange : InRange l
+  pub exact : length w ≡ sizeOf l
+
+-- "Format writes words 0 to 7, empty headers, and 0 elsewhere."
+abbrev pub head : Layout → List ℕ
+head l = 82 ∷ 66 ∷ 83 ∷ 1 ∷ l .lists ∷ l .nodes ∷ l .width ∷ 0 ∷ []
+
+-- "An empty list's header points to itself both ways": n of them from k on
+unfoldable pub emptyHeaders : ℕ → ℕ → List ℕ
+emptyHeaders k zero = []
+emptyHeaders k (suc n) = identOf k ∷ k ∷ k ∷ 0 ∷ emptyHeaders (suc k) n
+
+unfoldable pub formatted : Layout → List ℕ
+formatted l = head l ++ (emptyHeaders 0 (l .lists) ++ replicate (nodeWords l * l .nodes) 0)

@@ -1,0 +1,69 @@
+-- Soundness as it is decided: the forward links give the only sequence that can be a list's, a turn round it tests what is
+-- asked, and the nodes with an identifier are as many as the lists' members.
+use Prim.Native.Nat.{ℕ, zero, suc, _+_}
+use mathlib.Core.Path.{_≡_}
+use mathlib.Core.List.{List, [], _∷_, _++_}
+use mathlib.Core.Bool.{Bool, true, false, _&&_}
+use lib.Dec.{eqb}
+use lib.ListN.{length, getD}
+use Rattle.sequences.specs.Sequence.{trail}
+use Rattle.layout.specs.declared.Layout.{Layout}
+use Rattle.layout.specs.Words.{firstNode, isNode, identAt, forwardAt, backAt, countAt, identOf}
+
+-- identifier, forward and back of each cell
+pub record View : Type 0 where
+  pub ident : ℕ → ℕ
+  pub forward : ℕ → ℕ
+  pub back : ℕ → ℕ
+
+-- the view of the words of a store, and the count of each list
+abbrev pub viewOf : Layout → List ℕ → View
+viewOf l w =
+    record {
+      ident = λ c. getD w (identAt l c) 0;
+      forward = λ c. getD w (forwardAt l c) 0;
+      back = λ c. getD w (backAt l c) 0
+    }
+
+abbrev pub countIn : List ℕ → ℕ → ℕ
+countIn w k = getD w (countAt k) 0
+
+-- the nodes that the forward links of list k lead through, at most N
+abbrev pub sequenceIn : Layout → View → ℕ → List ℕ
+sequenceIn l v k = trail (v .forward) (isNode l) (l .nodes) (v .forward k)
+
+-- the rest of the turn round list k, from cell x through s: each forward link, identifier and back link is right
+unfoldable pub turn : View → ℕ → ℕ → List ℕ → Bool
+turn v k x [] = eqb (v .forward x) k && eqb (v .back k) x
+turn v k x (y ∷ s) = eqb (v .forward x) y && (eqb (v .ident y) (identOf k) && (eqb (v .back y) x && turn v k y s))
+
+-- list k, whose count is n, has s for its sequence
+unfoldable pub holds : View → ℕ → ℕ → List ℕ → Bool
+holds v k n s = eqb (v .ident k) (identOf k) && (turn v k k s && eqb n (length s))
+
+-- the lists below n all hold
+unfoldable pub allHold : Layout → View → (ℕ → ℕ) → ℕ → Bool
+allHold l v count zero = true
+allHold l v count (suc n) = allHold l v count n && holds v n (count n) (sequenceIn l v n)
+
+-- the members of the lists below n
+unfoldable pub members : Layout → View → ℕ → List ℕ
+members l v zero = []
+members l v (suc n) = members l v n ++ sequenceIn l v n
+
+-- of the n cells from a on, those with an identifier other than 0
+unfoldable pub used : View → ℕ → ℕ → List ℕ
+used v a zero = []
+used v a (suc n) = elim (eqb (v .ident a) 0) [ true ↦ used v (suc a) n | false ↦ a ∷ used v (suc a) n ]
+
+-- every list holds, and as many nodes have an identifier as the lists have members
+unfoldable pub soundIn : Layout → View → (ℕ → ℕ) → Bool
+soundIn l v count =
+    allHold l v count (l .lists) && eqb (length (members l v (l .lists))) (length (used v (firstNode l) (l .nodes)))
+
+-- the same of the words of a store
+abbrev pub sequenceOf : Layout → List ℕ → ℕ → List ℕ
+sequenceOf l w k = sequenceIn l (viewOf l w) k
+
+abbrev pub soundOf : Layout → List ℕ → Bool
+soundOf l w = soundIn l (viewOf l w) (countIn w)

@@ -1,0 +1,49 @@
+-- The lists of a store, in the words of CS-85-18, section 2: distances 1 and -1, identifiers, counts.
+use Prim.Native.Nat.{ℕ, _+_, _<_}
+use mathlib.Core.Path.{_≡_}
+use mathlib.Core.List.{List, [], _∷_, _++_, map}
+use mathlib.Core.Bool.{true}
+use lib.ListN.{length, getD}
+use Rattle.sequences.specs.Sequence.{_∈_, All, Different, Step, steps}
+use Rattle.layout.specs.declared.Layout.{Layout}
+use Rattle.layout.specs.Words.{Node, InRange, marked, layoutOf, sizeOf, identAt, forwardAt, backAt, countAt, identOf}
+
+-- word `at` is to hold `value`
+pub record Write : Type 0 where
+  pub at : ℕ
+  pub value : ℕ
+
+abbrev pub write : ℕ → ℕ → Write
+write a v = record { at = a; value = v }
+
+-- What a sequence s asks of list k: "header and members carry identifier 42,400 + k; from the header, forward leads
+-- through the sequence and back to the header, and back leads the other way round; the count is the sequence's length."
+unfoldable pub asked : Layout → ℕ → List ℕ → List Write
+asked l k s =
+    map (λ c. write (identAt l c) (identOf k)) (k ∷ s)
+    ++ (map (λ p. write (forwardAt l (p .source)) (p .target)) (steps k s k)
+    ++ (map (λ p. write (backAt l (p .target)) (p .source)) (steps k s k)
+    ++ (write (countAt k) (length s) ∷ [])))
+
+-- the words hold what is asked
+abbrev pub Agrees : List ℕ → List Write → Type 0
+Agrees w = All (λ p. getD w (p .at) 0 ≡ p .value)
+
+-- "some sequence of different node cells exists such that .."
+pub record IsList (l : Layout) (w : List ℕ) (k : ℕ) (s : List ℕ) : Type 0 where
+  pub nodes : All (Node l) s
+  pub different : Different s
+  pub agrees : Agrees w (asked l k s)
+
+-- "For each list k some sequence .. Every node in no list has identifier 0; its links and record words are free."
+pub record SoundLists (l : Layout) (w : List ℕ) : Type 0 where
+  pub sequence : ℕ → List ℕ
+  pub lists : (k : ℕ) → k < l .lists → IsList l w k (sequence k)
+  pub outside : (i : ℕ) → Node l i → ((k : ℕ) → k < l .lists → i ∈ sequence k → ⊥) → getD w (identAt l i) 0 ≡ 0
+
+-- "A sound store: words 0 to 7 are as above", the length is exact, and the lists are sound
+pub record Sound (w : List ℕ) : Type 0 where
+  pub marked : marked w ≡ true
+  pub inRange : InRange (layoutOf w)
+  pub exact : length w ≡ sizeOf (layoutOf w)
+  pub lists : SoundLists (layoutOf w) w

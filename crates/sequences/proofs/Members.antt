@@ -1,0 +1,55 @@
+-- Laws of membership, of `All` and of `Different`.
+use Prim.Native.Nat.{ℕ, zero, suc, _+_, _<_, _≤_}
+use mathlib.Core.Path.{_≡_, refl, ap, _∙_, sym, subst}
+use mathlib.Core.List.{List, [], _∷_, _++_, List·Memᴰ, List·Memᴰ·head, List·Memᴰ·tail, List·Memᴰ·append-cases, Memᴰ·append-left, Memᴰ·append-right}
+use mathlib.Core.Logic.{_⊎_, inl, inr, ⊎-elim}
+use native.Mathlib.Decide.{ℕ-discrete}
+use native.Mathlib.Omega.{arith}
+use lib.ListN.{length, getD}
+use Rattle.sequences.specs.Sequence.{_∈_, All, Different}
+
+-- a property of every member holds of a member
+pub all-at {ℓ} : {A : Type ℓ} (P : A → Type 0) (s : List A) {x : A} → All P s → List·Memᴰ x s → (y : A) × (x ≡ y) × P y
+all-at P (y ∷ s) h (List·Memᴰ·head e) = (y, e, h .0)
+all-at P (y ∷ s) h (List·Memᴰ·tail m) = all-at P s (h .1) m
+
+pub all-in : (P : ℕ → Type 0) (s : List ℕ) {x : ℕ} → All P s → x ∈ s → P x
+all-in P s h m = let r = all-at P s h m in subst P (sym (r .1)) (r .2)
+
+pub in-all : (P : ℕ → Type 0) (s : List ℕ) → ((x : ℕ) → x ∈ s → P x) → All P s
+in-all P [] h = tt
+in-all P (x ∷ s) h = (h x (List·Memᴰ·head refl), in-all P s (λ y m. h y (List·Memᴰ·tail m)))
+
+pub all-append {ℓ} : {A : Type ℓ} (P : A → Type 0) (s t : List A) → All P s → All P t → All P (s ++ t)
+all-append P [] t h k = k
+all-append P (x ∷ s) t h k = (h .0, all-append P s t (h .1) k)
+
+pub append-all {ℓ} : {A : Type ℓ} (P : A → Type 0) (s t : List A) → All P (s ++ t) → All P s × All P t
+append-all P [] t h = (tt, h)
+append-all P (x ∷ s) t h = let r = append-all P s t (h .1) in ((h .0, r .0), r .1)
+
+-- membership is decided
+pub member? : (x : ℕ) (s : List ℕ) → (x ∈ s) ⊎ (x ∈ s → ⊥)
+member? x [] = inr (λ m. elim m [ ])
+member? x (y ∷ s) = by (ℕ-discrete x y) (member? x s)
+  where
+    cases : (x ∈ s → ⊥) → (x ≡ y → ⊥) → x ∈ (y ∷ s) → ⊥
+    cases h k (List·Memᴰ·head e) = k e
+    cases h k (List·Memᴰ·tail m) = h m
+    by : Dec (x ≡ y) → (x ∈ s) ⊎ (x ∈ s → ⊥) → (x ∈ (y ∷ s)) ⊎ (x ∈ (y ∷ s) → ⊥)
+    by (yes e) r = inl (List·Memᴰ·head e)
+    by (no k) (inl m) = inl (List·Memᴰ·tail m)
+    by (no k) (inr h) = inr (cases h k)
+
+-- the member at a position
+pub at-in : (s : List ℕ) (i : ℕ) → i < length s → getD s i 0 ∈ s
+at-in [] i h = absurd (omega arith)
+at-in (x ∷ s) zero h = List·Memᴰ·head refl
+at-in (x ∷ s) (suc i) h = List·Memᴰ·tail (at-in s i (omega arith))
+
+-- two sequences of different members that share none, one behind the other
+pub different-append : (s t : List ℕ) → Different s → Different t → ((x : ℕ) → x ∈ s → x ∈ t → ⊥) → Different (s ++ t)
+different-append [] t ds dt h = dt
+different-append (x ∷ s) t ds dt h =
+    (λ m. ⊎-elim (ds .0) (h x (List·Memᴰ·head refl)) (List·Memᴰ·append-cases s m),
+    different-append s t (ds .1) dt (λ y m. h y (List·Memᴰ·tail m)))

@@ -1,0 +1,41 @@
+-- Sequences of cells, and links that lead through them.
+use Prim.Native.Nat.{ℕ, zero, suc}
+use mathlib.Core.Path.{_≡_}
+use mathlib.Core.List.{List, [], _∷_, List·Memᴰ}
+use mathlib.Core.Bool.{Bool, true, false}
+
+-- x is a member of s
+abbrev pub _∈_ : ℕ → List ℕ → Type 0
+x ∈ s = List·Memᴰ x s
+
+infix 20 _∈_
+
+-- every member has the property
+abbrev pub All {ℓ} : {A : Type ℓ} → (A → Type 0) → List A → Type 0
+All P [] = Unit {0}
+All P (x ∷ s) = P x × All P s
+
+-- no member occurs twice
+abbrev pub Different : List ℕ → Type 0
+Different [] = Unit {0}
+Different (x ∷ s) = (x ∈ s → ⊥) × Different s
+
+-- one step of a path
+pub record Step : Type 0 where
+  pub source : ℕ
+  pub target : ℕ
+
+-- the steps from x through s to z
+unfoldable pub steps : ℕ → List ℕ → ℕ → List Step
+steps x [] z = record { source = x; target = z } ∷ []
+steps x (y ∷ s) z = record { source = x; target = y } ∷ steps y s z
+
+-- the cells that are met from c on, each the link of the one before: as long as they are inside, and at most n
+unfoldable pub trail : (ℕ → ℕ) → (ℕ → Bool) → ℕ → ℕ → List ℕ
+trail link inside zero c = []
+trail link inside (suc n) c = elim (inside c) [ true ↦ c ∷ trail link inside n (link c) | false ↦ [] ]
+
+-- the n numbers from a on
+unfoldable pub range : ℕ → ℕ → List ℕ
+range a zero = []
+range a (suc n) = a ∷ range (suc a) n

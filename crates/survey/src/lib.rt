@@ -1,0 +1,210 @@
+// A survey of a store's cells: they are read once, into a column of identifiers, one of forward and one of back links, and all
+// is decided there. A list is walked from its header along the forward links, for at most N nodes; each member's identifier
+// and back link are compared on the way.
+use layout::Layout;
+ghost use mathlib.Core.Path.{_≡_};
+ghost use Prim.Native.Nat.{_+_, _*_, _-_, _<_, _≤_};
+ghost use mathlib.Core.List.{_∷_};
+ghost use lib.ListN.{length, getD};
+ghost use Rattle.layout.specs.Words.{Laid, InRange, cellCount, firstNode, countAt};
+ghost use Rattle.lists.specs.Decide.{sequenceIn, used, soundIn, sequenceOf, soundOf};
+ghost use Rattle.survey.specs.Survey.{columns, Columns, Loaded, ringIn, foundIn};
+
+// A turn round a list: the number of its members, or something on the way is wrong.
+pub enum Ring {
+    Members(u16),
+    Broken,
+}
+
+// What stands at a position of a list.
+pub enum Found {
+    Cell(u16),
+    Unsound,
+    Beyond,
+}
+
+// The first words of a cell.
+struct Links {
+    ident: u16,
+    forward: u16,
+    back: u16,
+}
+
+// The cell that the part begins with.
+fn links_of(part: &[u16]) -> Links
+    requires { ⌜ 2 < length (now part) ⌝ }
+    ensures { λ r. ⌜ (r .ident ≡ getD (now (part .entry)) 0 0) × (r .forward ≡ getD (now (part .entry)) 1 0) × (r .back ≡ getD (now (part .entry)) 2 0) ⌝ }
+{
+    Links {
+        ident: part[0],
+        forward: part[Layout::FORWARD],
+        back: part[Layout::BACK],
+    }
+}
+
+// A column, of which a part is used.
+fn column() -> [u16; 2008]
+    ensures { λ r. ⌜ 2008 ≡ length r ⌝ }
+{
+    [0; 2008]
+}
+
+// Reads each cell into the columns.
+fn load(words: &[u16], l: Layout, idents: &mut [u16], forwards: &mut [u16], backs: &mut [u16])
+    requires { ⌜ Laid l (now words) × Columns l (now idents) (now forwards) (now backs) ⌝ }
+    ensures { λ _. ⌜ Loaded l (now (words .entry)) (now (idents .exit)) (now (forwards .exit)) (now (backs .exit)) ⌝ }
+{
+    let n = l.cell_count();
+    let mut i: u16 = 0;
+    while i < n {
+        let a = l.cell(i);
+        let c = links_of(&words[a..]);
+        idents[i as usize] = c.ident;
+        forwards[i as usize] = c.forward;
+        backs[i as usize] = c.back;
+        i += 1;
+    }
+}
+
+// The count of list k.
+pub fn count(words: &[u16], l: Layout, k: u16) -> u16
+    requires { ⌜ Laid l (now words) × (k < l .lists) ⌝ }
+    ensures { λ r. ⌜ r ≡ getD (now (words .entry)) (countAt k) 0 ⌝ }
+{
+    words[Layout::header(k) + Layout::COUNT]
+}
+
+// The counts of all lists.
+fn all_counts(words: &[u16], l: Layout) -> [u16; 8]
+    requires { ⌜ Laid l (now words) ⌝ }
+    ensures { λ r. ⌜ (8 ≡ length r) × ((k : ℕ) → k < l .lists → getD r k 0 ≡ getD (now (words .entry)) (countAt k) 0) ⌝ }
+{
+    let mut r = [0u16; 8];
+    let mut k: u16 = 0;
+    while k < l.lists {
+        r[k as usize] = count(words, l, k);
+        k += 1;
+    }
+    r
+}
+
+// One turn round list k.
+pub fn ring(idents: &[u16], forwards: &[u16], backs: &[u16], l: Layout, k: u16) -> Ring
+    requires { ⌜ Columns l (now idents) (now forwards) (now backs) × (k < l .lists) ⌝ }
+    ensures { λ r. ⌜ r ≡ ringIn l (columns (now (idents .entry)) (now (forwards .entry)) (now (backs .entry))) k ⌝ }
+{
+    let id = Layout::ident(k);
+    if idents[k as usize] != id {
+        return Ring::Broken;
+    }
+    let mut before = k;
+    let mut at = forwards[k as usize];
+    let mut n: u16 = 0;
+    while l.is_node(at) {
+        if n == l.nodes {
+            return Ring::Broken;
+        }
+        if idents[at as usize] != id {
+            return Ring::Broken;
+        }
+        if backs[at as usize] != before {
+            return Ring::Broken;
+        }
+        before = at;
+        at = forwards[at as usize];
+        n += 1;
+    }
+    if at != k {
+        return Ring::Broken;
+    }
+    if backs[k as usize] != before {
+        return Ring::Broken;
+    }
+    Ring::Members(n)
+}
+
+// The number of nodes whose identifier is not 0.
+pub fn used_nodes(idents: &[u16], l: Layout) -> u16
+    requires { ⌜ InRange l × (length (now idents) ≡ cellCount l) ⌝ }
+    ensures { λ r. ⌜ r ≡ length (used (columns (now (idents .entry)) (now (idents .entry)) (now (idents .entry))) (firstNode l) (l .nodes)) ⌝ }
+{
+    let mut n: u16 = 0;
+    let mut i = l.first_node();
+    let end = l.cell_count();
+    while i < end {
+        if idents[i as usize] != 0 {
+            n += 1;
+        }
+        i += 1;
+    }
+    n
+}
+
+// Are the lists sound?
+pub fn sound(idents: &[u16], forwards: &[u16], backs: &[u16], counts: [u16; 8], l: Layout) -> bool
+    requires { ⌜ Columns l (now idents) (now forwards) (now backs) ⌝ }
+    ensures { λ r. ⌜ r ≡ soundIn l (columns (now (idents .entry)) (now (forwards .entry)) (now (backs .entry))) (λ k. getD counts k 0) ⌝ }
+{
+    let mut total: u16 = 0;
+    let mut k: u16 = 0;
+    while k < l.lists {
+        let Ring::Members(n) = ring(idents, forwards, backs, l, k) else {
+            return false;
+        };
+        if counts[k as usize] != n {
+            return false;
+        }
+        total += n;
+        k += 1;
+    }
+    total == used_nodes(idents, l)
+}
+
+// The cell in front of position p of list k: the header, or the member at p - 1.
+pub fn cell_before(forwards: &[u16], l: Layout, k: u16, p: u16) -> u16
+    requires { ⌜ InRange l × (length (now forwards) ≡ cellCount l) × (k < l .lists) × (p ≤ length (sequenceIn l (columns (now forwards) (now forwards) (now forwards)) k)) ⌝ }
+    ensures { λ r. ⌜ r ≡ getD (k ∷ sequenceIn l (columns (now (forwards .entry)) (now (forwards .entry)) (now (forwards .entry))) k) p 0 ⌝ }
+{
+    let mut c = k;
+    let mut i: u16 = 0;
+    while i < p {
+        c = forwards[c as usize];
+        i += 1;
+    }
+    c
+}
+
+// Are the lists of the lent words sound?
+pub fn sound_words(words: &[u16], l: Layout) -> bool
+    requires { ⌜ Laid l (now words) ⌝ }
+    ensures { λ r. ⌜ r ≡ soundOf l (now (words .entry)) ⌝ }
+{
+    let n = l.cell_count() as usize;
+    let mut idents = column();
+    let mut forwards = column();
+    let mut backs = column();
+    load(words, l, &mut idents[..n], &mut forwards[..n], &mut backs[..n]);
+    let counts = all_counts(words, l);
+    sound(&idents[..n], &forwards[..n], &backs[..n], counts, l)
+}
+
+// The cell of list k at position p, where the lists are sound.
+pub fn find(words: &[u16], l: Layout, k: u16, p: u16) -> Found
+    requires { ⌜ Laid l (now words) × (k < l .lists) ⌝ }
+    ensures { λ r. ⌜ r ≡ foundIn l (now (words .entry)) k p ⌝ }
+{
+    let n = l.cell_count() as usize;
+    let mut idents = column();
+    let mut forwards = column();
+    let mut backs = column();
+    load(words, l, &mut idents[..n], &mut forwards[..n], &mut backs[..n]);
+    let counts = all_counts(words, l);
+    if !sound(&idents[..n], &forwards[..n], &backs[..n], counts, l) {
+        return Found::Unsound;
+    }
+    if counts[k as usize] <= p {
+        return Found::Beyond;
+    }
+    let a = cell_before(&forwards[..n], l, k, p);
+    Found::Cell(forwards[a as usize])
+}
