@@ -14,18 +14,18 @@ use Rattle.layout.specs.declared.Opened.{Opened}
 use Rattle.layout.specs.declared.Opened.the-variants.{Open, Refused}
 use Rattle.layout.specs.Words.{headWords, headerWords, headerAt, firstNode, cellCount, Node, isNode, nodeWords, nodeAt, cellAt, sizeOf, identOf, marked, layoutOf, InRange, between, inRange, openedBy, opened, head, emptyHeaders, formatted}
 
--- a test whose answer r was asked negated, taken and left
+-- a test b that a call answered by r, where the code asked `!r`: it held, or it did not
 pub answered-no : {r b : Bool} → r ≡ b → not r ≡ true → b ≡ false
 answered-no {r} e h = sym e ∙ not-true r h
 
 pub answered-yes : {r b : Bool} → r ≡ b → not r ≡ false → b ≡ true
 answered-yes {r} e h = sym e ∙ not-false r h
 
--- the words of the nodes are few enough to count
-pub product-fits : (p d : ℕ) → p < 65536 → d < 65536 → (3 + p) * d ≤ 65538 * 65535
-product-fits p d hp hd =
+-- the words of n nodes are far fewer than a `usize` can count
+pub product-fits : (p n : ℕ) → p < 65536 → n < 65536 → (3 + p) * n ≤ 65538 * 65535
+product-fits p n hp hn =
     let a : 3 + p ≤ 65538 = omega arith in
-    let b : d ≤ 65535 = omega arith in
+    let b : n ≤ 65535 = omega arith in
     mul-le-mul a b
 
 -- a cell below the first node is a header
@@ -95,9 +95,11 @@ in-range l e =
 pub range-in : (l : Layout) → InRange l → inRange l ≡ true
 unfolding inRange
 range-in l r =
-    rw (between-is 1 8 (l .lists) (r .someLists) (r .lists),
-        between-is 1 2000 (l .nodes) (r .someNodes) (r .nodes),
-        between-is 1 13 (l .width) (r .someWidth) (r .width))
+    rw (
+      between-is 1 8 (l .lists) (r .someLists) (r .lists),
+      between-is 1 2000 (l .nodes) (r .someNodes) (r .nodes),
+      between-is 1 13 (l .width) (r .someWidth) (r .width),
+    )
 
 -- a question that did not refuse was answered yes
 granted : (b : Bool) (k : ℕ) (o : Opened) (l : Layout) → cond b o (Refused k) ≡ Open l → (b ≡ true) × (o ≡ Open l)
@@ -115,11 +117,12 @@ opened-open w l h =
     let e : l ≡ layoutOf w = cc (d .1) in
     rw e (refl, b .0, in-range (layoutOf w) (c .0), eqb-true (length w) (sizeOf (layoutOf w)) (d .0))
 
+-- a store has its first eight words
 size-head : (l : Layout) → headWords ≤ sizeOf l
 unfolding sizeOf
 size-head l = omega arith
 
--- and the other way round
+-- and a store of which all that is so is opened
 pub open-opened : (w : List ℕ) → marked w ≡ true → InRange (layoutOf w) → length w ≡ sizeOf (layoutOf w) → opened w ≡ Open (layoutOf w)
 unfolding openedBy
 open-opened w m r e =
@@ -130,6 +133,7 @@ open-opened w m r e =
 abbrev pub emptyHeader : ℕ → List ℕ
 emptyHeader k = identOf k ∷ k ∷ k ∷ 0 ∷ []
 
+-- n headers have 4 words each
 length-headers : (k n : ℕ) → length (emptyHeaders k n) ≡ 4 * n
 unfolding emptyHeaders
 length-headers k zero = refl
@@ -154,6 +158,7 @@ headers-at rest k (suc n) (suc m) b j e h g =
     behind (emptyHeader k) (emptyHeaders (suc k) n ++ rest) (4 * suc m + j) (4 * m + j) (omega arith)
     ∙ headers-at rest (suc k) n m b j (omega arith) (omega arith) g
 
+-- every word of n zeros is 0, and so is every one past their end
 zeros : (n i : ℕ) → _≡_ {A = ℕ} (getD (replicate n 0) i 0) 0
 zeros zero i = refl
 zeros (suc n) zero = refl
@@ -170,7 +175,12 @@ headersOf l = emptyHeaders 0 (l .lists)
 pub length-formatted : (l : Layout) → length (formatted l) ≡ sizeOf l
 unfolding formatted sizeOf
 length-formatted l =
-    omega (arith, length-append (headersOf l) (nodesOf l), length-headers 0 (l .lists), length-replicate {A = ℕ} (nodeWords l * l .nodes) 0)
+    omega (
+      arith,
+      length-append (headersOf l) (nodesOf l),
+      length-headers 0 (l .lists),
+      length-replicate {A = ℕ} (nodeWords l * l .nodes) 0,
+    )
 
 -- what a formatted store holds: its first eight words
 pub formatted-word : (l : Layout) (j : ℕ) → j < 8 → getD (formatted l) j 0 ≡ getD (head l) j 0

@@ -3,7 +3,7 @@
 // and back link are compared on the way.
 use layout::Layout;
 ghost use mathlib.Core.Path.{_≡_};
-ghost use Prim.Native.Nat.{_+_, _*_, _-_, _<_, _≤_};
+ghost use Prim.Native.Nat.{ℕ, _+_, _*_, _-_, _<_, _≤_};
 ghost use mathlib.Core.List.{_∷_};
 ghost use lib.ListN.{length, getD};
 ghost use Rattle.layout.specs.Words.{Laid, InRange, cellCount, firstNode, countAt};
@@ -11,7 +11,7 @@ ghost use Rattle.lists.specs.Decide.{sequenceIn, used, soundIn, sequenceOf, sou
 ghost use Rattle.survey.specs.Survey.{columns, Columns, Loaded, ringIn, foundIn};
 
 // A turn round a list: the number of its members, or something on the way is wrong.
-pub enum Ring {
+pub enum Round {
     Members(u16),
     Broken,
 }
@@ -89,38 +89,38 @@ fn all_counts(words: &[u16], l: Layout) -> [u16; 8]
 }
 
 // One turn round list k.
-pub fn ring(idents: &[u16], forwards: &[u16], backs: &[u16], l: Layout, k: u16) -> Ring
+pub fn ring(idents: &[u16], forwards: &[u16], backs: &[u16], l: Layout, k: u16) -> Round
     requires { ⌜ Columns l (now idents) (now forwards) (now backs) × (k < l .lists) ⌝ }
     ensures { λ r. ⌜ r ≡ ringIn l (columns (now (idents .entry)) (now (forwards .entry)) (now (backs .entry))) k ⌝ }
 {
     let id = Layout::ident(k);
     if idents[k as usize] != id {
-        return Ring::Broken;
+        return Round::Broken;
     }
     let mut before = k;
     let mut at = forwards[k as usize];
     let mut n: u16 = 0;
     while l.is_node(at) {
         if n == l.nodes {
-            return Ring::Broken;
+            return Round::Broken;
         }
         if idents[at as usize] != id {
-            return Ring::Broken;
+            return Round::Broken;
         }
         if backs[at as usize] != before {
-            return Ring::Broken;
+            return Round::Broken;
         }
         before = at;
         at = forwards[at as usize];
         n += 1;
     }
     if at != k {
-        return Ring::Broken;
+        return Round::Broken;
     }
     if backs[k as usize] != before {
-        return Ring::Broken;
+        return Round::Broken;
     }
-    Ring::Members(n)
+    Round::Members(n)
 }
 
 // The number of nodes whose identifier is not 0.
@@ -148,7 +148,7 @@ pub fn sound(idents: &[u16], forwards: &[u16], backs: &[u16], counts: [u16; 8], 
     let mut total: u16 = 0;
     let mut k: u16 = 0;
     while k < l.lists {
-        let Ring::Members(n) = ring(idents, forwards, backs, l, k) else {
+        let Round::Members(n) = ring(idents, forwards, backs, l, k) else {
             return false;
         };
         if counts[k as usize] != n {

@@ -24,21 +24,38 @@ array-read-if3 c = search needs
 
 returns-3 : tie.Need-returns-3
 unfolding marked
-returns-3 c = rw (eq-eqb _ 82 (c .before .before .if1 .left), eq-eqb _ 66 (c .before .if2 .left), ne-eqb _ 83 (c .if3 .taken))
+returns-3 c =
+    rw (
+      eq-eqb _ 82 (c .before .before .if1 .left),
+      eq-eqb _ 66 (c .before .if2 .left),
+      ne-eqb _ 83 (c .if3 .taken),
+    )
 
 array-read-if4 : tie.Need-array-read-if4
 array-read-if4 c = search needs
 
 returns-4 : tie.Need-returns-4
 unfolding marked
-returns-4 c = rw (eq-eqb _ 82 (c .before .before .before .if1 .left), eq-eqb _ 66 (c .before .before .if2 .left), eq-eqb _ 83 (c .before .if3 .left), ne-eqb _ 1 (c .if4 .taken))
+returns-4 c =
+    rw (
+      eq-eqb _ 82 (c .before .before .before .if1 .left),
+      eq-eqb _ 66 (c .before .before .if2 .left),
+      eq-eqb _ 83 (c .before .if3 .left),
+      ne-eqb _ 1 (c .if4 .taken),
+    )
 
 array-read-result : tie.Need-array-read-result
 array-read-result c = search needs
 
 returns-5 : tie.Need-returns-5
 unfolding marked
-returns-5 c = rw (eq-eqb _ 82 (c .before .before .before .if1 .left), eq-eqb _ 66 (c .before .before .if2 .left), eq-eqb _ 83 (c .before .if3 .left), eq-eqb _ 1 (c .if4 .left))
+returns-5 c =
+    rw (
+      eq-eqb _ 82 (c .before .before .before .if1 .left),
+      eq-eqb _ 66 (c .before .before .if2 .left),
+      eq-eqb _ 83 (c .before .if3 .left),
+      eq-eqb _ 1 (c .if4 .left),
+    )
 
 pub is-marked-spec : {M : Type 1} → statement M
 is-marked-spec =

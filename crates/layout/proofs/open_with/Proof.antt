@@ -16,7 +16,11 @@ is-marked-requires c κs = search needs
 
 returns-2 : tie.Need-returns-2
 unfolding openedBy
-returns-2 c = rw (le-leb 8 _ (c .before .before .if1 .left), answered-no (c .before .is-marked .ensures) (c .if2 .taken))
+returns-2 c =
+    rw (
+      le-leb 8 _ (c .before .before .if1 .left),
+      answered-no (c .before .is-marked .ensures) (c .if2 .taken),
+    )
 
 array-read-t10 : tie.Need-array-read-t10
 array-read-t10 c = search needs
@@ -32,18 +36,40 @@ in-range-requires c κs = search needs
 
 returns-3 : tie.Need-returns-3
 unfolding openedBy
-returns-3 c = rw (le-leb 8 _ (c .before .before .before .before .if1 .left), answered-yes (c .before .before .before .is-marked .ensures) (c .before .before .if2 .left), answered-no (c .before .in-range .ensures) (c .if3 .taken))
+returns-3 c =
+    let m = c .before .before in
+    rw (
+      le-leb 8 _ (m .before .before .if1 .left),
+      answered-yes (m .before .is-marked .ensures) (m .if2 .left),
+      answered-no (c .before .in-range .ensures) (c .if3 .taken),
+    )
 
 size-requires : tie.Need-size-requires
 size-requires c κs = search needs
 
 returns-4 : tie.Need-returns-4
 unfolding openedBy
-returns-4 c = rw (le-leb 8 _ (c .before .before .before .before .before .before .if1 .left), answered-yes (c .before .before .before .before .before .is-marked .ensures) (c .before .before .before .before .if2 .left), answered-yes (c .before .before .before .in-range .ensures) (c .before .before .if3 .left), ne-eqb _ _ (rw (c .before .size .ensures) at (c .if4 .taken)))
+returns-4 c =
+    let r = c .before .before in
+    let m = r .before .before in
+    rw (
+      le-leb 8 _ (m .before .before .if1 .left),
+      answered-yes (m .before .is-marked .ensures) (m .if2 .left),
+      answered-yes (r .before .in-range .ensures) (r .if3 .left),
+      ne-eqb _ _ (rw (c .before .size .ensures) at (c .if4 .taken)),
+    )
 
 returns-5 : tie.Need-returns-5
 unfolding openedBy
-returns-5 c = rw (le-leb 8 _ (c .before .before .before .before .before .before .if1 .left), answered-yes (c .before .before .before .before .before .is-marked .ensures) (c .before .before .before .before .if2 .left), answered-yes (c .before .before .before .in-range .ensures) (c .before .before .if3 .left), eq-eqb _ _ (c .if4 .left ∙ c .before .size .ensures))
+returns-5 c =
+    let r = c .before .before in
+    let m = r .before .before in
+    rw (
+      le-leb 8 _ (m .before .before .if1 .left),
+      answered-yes (m .before .is-marked .ensures) (m .if2 .left),
+      answered-yes (r .before .in-range .ensures) (r .if3 .left),
+      eq-eqb _ _ (c .if4 .left ∙ c .before .size .ensures),
+    )
 
 pub open-with-spec : {M : Type 1} → statement M
 open-with-spec =

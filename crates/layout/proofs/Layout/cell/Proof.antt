@@ -15,10 +15,14 @@ node-requires : tie.Need-node-requires
 node-requires c κs = search needs
 
 returns : tie.Need-returns
-returns c = let a = c .before .before .before .args in rw (cell-header (a .self) (a .i) (omega arith)) (c .header .ensures)
+returns c =
+    let a = c .before .before .before .args in
+    rw (cell-header (a .self) (a .i) (omega arith)) (c .header .ensures)
 
 returns-2 : tie.Need-returns-2
-returns-2 c = let a = c .before .before .before .args in rw (cell-node (a .self) (a .i) (omega arith)) (c .node .ensures)
+returns-2 c =
+    let a = c .before .before .before .args in
+    rw (cell-node (a .self) (a .i) (omega arith)) (c .node .ensures)
 
 pub cell-spec : {M : Type 1} → statement M
 cell-spec =

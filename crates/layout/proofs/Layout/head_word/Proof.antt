@@ -35,18 +35,19 @@ unfolding formatted
 returns-7 c = rw (c .match .keys7)
 
 -- a number below 8 that is none of 0 to 6
-four : (i : ℕ) → (i ≡ 0 → ⊥) → (i ≡ 1 → ⊥) → (i ≡ 2 → ⊥) → (i ≡ 3 → ⊥) → 4 ≤ i
-four i a b c d = omega arith
+past-three : (i : ℕ) → (i ≡ 0 → ⊥) → (i ≡ 1 → ⊥) → (i ≡ 2 → ⊥) → (i ≡ 3 → ⊥) → 4 ≤ i
+past-three i a b c d = omega arith
 
-seven : (i : ℕ) → 4 ≤ i → i < 8 → (i ≡ 4 → ⊥) → (i ≡ 5 → ⊥) → (i ≡ 6 → ⊥) → i ≡ 7
-seven i g h a b c = omega arith
+is-seven : (i : ℕ) → 4 ≤ i → i < 8 → (i ≡ 4 → ⊥) → (i ≡ 5 → ⊥) → (i ≡ 6 → ⊥) → i ≡ 7
+is-seven i g h a b c = omega arith
 
 returns-8 : tie.Need-returns-8
 unfolding formatted
-returns-8 c = let r = c .match .rest in
+returns-8 c =
+    let r = c .match .rest in
     let i = c .before .args .i in
-    let g = four i (r .0 .0 .0 .0 .0 .0 .1) (r .0 .0 .0 .0 .0 .1) (r .0 .0 .0 .0 .1) (r .0 .0 .0 .1) in
-    rw (seven i g (c .before .pre) (r .0 .0 .1) (r .0 .1) (r .1))
+    let g = past-three i (r .0 .0 .0 .0 .0 .0 .1) (r .0 .0 .0 .0 .0 .1) (r .0 .0 .0 .0 .1) (r .0 .0 .0 .1) in
+    rw (is-seven i g (c .before .pre) (r .0 .0 .1) (r .0 .1) (r .1))
 
 pub head-word-spec : {M : Type 1} → statement M
 head-word-spec =

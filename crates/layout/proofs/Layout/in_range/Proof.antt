@@ -17,14 +17,26 @@ within-requires-2 c κs = search needs
 
 returns-2 : tie.Need-returns-2
 unfolding inRange
-returns-2 c = rw (answered-yes (c .before .before .before .within .ensures) (c .before .before .if1 .left), answered-no (c .before .within2 .ensures) (c .if2 .taken))
+returns-2 c =
+    let l = c .before .before in
+    rw (
+      answered-yes (l .before .within .ensures) (l .if1 .left),
+      answered-no (c .before .within2 .ensures) (c .if2 .taken),
+    )
 
 within-requires-3 : tie.Need-within-requires-3
 within-requires-3 c κs = search needs
 
 returns-3 : tie.Need-returns-3
 unfolding inRange
-returns-3 c = rw (answered-yes (c .before .before .before .before .within .ensures) (c .before .before .before .if1 .left), answered-yes (c .before .before .within2 .ensures) (c .before .if2 .left)) (c .within3 .ensures)
+returns-3 c =
+    let n = c .before in
+    let l = n .before .before in
+    rw (
+      answered-yes (l .before .within .ensures) (l .if1 .left),
+      answered-yes (n .before .within2 .ensures) (n .if2 .left),
+    )
+    (c .within3 .ensures)
 
 pub in-range-spec : {M : Type 1} → statement M
 in-range-spec =

@@ -20,7 +20,9 @@ mul-if2 : tie.Need-mul-if2
 mul-if2 c = search needs
 
 returns-2 : tie.Need-returns-2
-returns-2 c = let a = c .before .before .before .args in sym (formatted-node (a .self) (a .i) (omega arith))
+returns-2 c =
+    let a = c .before .before .before .args in
+    sym (formatted-node (a .self) (a .i) (omega arith))
 
 cast-k : tie.Need-cast-k
 cast-k c = search needs
@@ -29,13 +31,23 @@ ident-requires : tie.Need-ident-requires
 ident-requires c κs = search needs
 
 returns-3 : tie.Need-returns-3
-returns-3 c = let a = c .before .before .before .before .before .args in rw (formatted-at (a .self) (a .i) (omega arith) (omega arith), c .before .match .keys1) (c .ident .ensures)
+returns-3 c =
+    let a = c .before .before .before .before .before .args in
+    rw (formatted-at (a .self) (a .i) (omega arith) (omega arith), c .before .match .keys1) (c .ident .ensures)
 
 returns-4 : tie.Need-returns-4
-returns-4 c = let a = c .before .before .before .before .args in rw (formatted-at (a .self) (a .i) (omega arith) (omega arith), c .match .keys2)
+returns-4 c =
+    let a = c .before .before .before .before .args in
+    rw (formatted-at (a .self) (a .i) (omega arith) (omega arith), c .match .keys2)
 
 returns-5 : tie.Need-returns-5
-returns-5 c = let a = c .before .before .before .before .args in rw (formatted-at (a .self) (a .i) (omega arith) (omega arith)) (sym (empty-link ((a .i - 8) / 4) ((a .i - 8) % 4) (omega arith) (c .match .rest .0 .1) (c .match .rest .1)))
+returns-5 c =
+    let a = c .before .before .before .before .args in
+    let n = a .i - 8 in
+    let r = c .match .rest in
+    rw
+    (formatted-at (a .self) (a .i) (omega arith) (omega arith))
+    (sym (empty-link (n / 4) (n % 4) (omega arith) (r .0 .1) (r .1)))
 
 pub initial-spec : {M : Type 1} → statement M
 initial-spec =

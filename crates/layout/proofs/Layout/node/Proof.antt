@@ -32,10 +32,16 @@ cast-result-2 : tie.Need-cast-result-2
 cast-result-2 c = search needs
 
 mul-result-2 : tie.Need-mul-result-2
-mul-result-2 c = let a = c .before .before .before .args in omega (arith, product-fits (a .self .width) (a .i - c .before .before .first-node .result) (omega arith) (omega arith))
+mul-result-2 c =
+    let b = c .before .before in
+    let n = b .before .args .i - b .first-node .result in
+    omega (arith, product-fits (b .before .args .self .width) n (omega arith) (omega arith))
 
 add-result-2 : tie.Need-add-result-2
-add-result-2 c = let a = c .before .before .before .args in omega (arith, product-fits (a .self .width) (a .i - c .before .before .first-node .result) (omega arith) (omega arith))
+add-result-2 c =
+    let b = c .before .before in
+    let n = b .before .args .i - b .first-node .result in
+    omega (arith, product-fits (b .before .args .self .width) n (omega arith) (omega arith))
 
 returns : tie.Need-returns
 unfolding nodeAt

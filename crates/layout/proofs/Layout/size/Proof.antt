@@ -25,10 +25,14 @@ cast-result-2 : tie.Need-cast-result-2
 cast-result-2 c = search needs
 
 mul-result-2 : tie.Need-mul-result-2
-mul-result-2 c = let l = c .before .before .before .args .self in omega (arith, product-fits (l .width) (l .nodes) (omega arith) (omega arith))
+mul-result-2 c =
+    let l = c .before .before .before .args .self in
+    omega (arith, product-fits (l .width) (l .nodes) (omega arith) (omega arith))
 
 add-result-2 : tie.Need-add-result-2
-add-result-2 c = let l = c .before .before .before .args .self in omega (arith, product-fits (l .width) (l .nodes) (omega arith) (omega arith))
+add-result-2 c =
+    let l = c .before .before .before .args .self in
+    omega (arith, product-fits (l .width) (l .nodes) (omega arith) (omega arith))
 
 returns : tie.Need-returns
 unfolding sizeOf

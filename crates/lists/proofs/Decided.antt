@@ -1,0 +1,175 @@
+-- What is decided is what the definition says: `soundOf` is true exactly if the lists are sound.
+use Prim.Native.Nat.{ℕ, zero, suc, _+_, _<_, _≤_}
+use mathlib.Core.Path.{_≡_, refl, ap, _∙_, sym, subst}
+use mathlib.Core.List.{List, [], _∷_, _++_, List·Memᴰ, List·Memᴰ·head, List·Memᴰ·tail, List·Memᴰ·append-cases, Memᴰ·append-left, Memᴰ·append-right}
+use mathlib.Core.Bool.{Bool, true, false, _&&_, and-eq-true-iff}
+use mathlib.Core.Logic.{_⊎_, inl, inr, ⊎-elim}
+use native.Mathlib.Omega.{arith}
+use native.Mathlib.Nat.{eq-or-lt-of-le, le-of-suc-le-suc}
+use lib.ListN.{length, getD}
+use lib.Dec.{eqb}
+use borrow.Author.Tests.{eq-eqb, ne-eqb, eqb-true, eqb-false}
+use Rattle.sequences.specs.Sequence.{_∈_, All, Different}
+use Rattle.sequences.proofs.Members.{all-in, member?, different-append}
+use Rattle.sequences.proofs.Pigeonhole.{pigeonhole, pigeonhole-less}
+use Rattle.layout.specs.declared.Layout.{Layout}
+use Rattle.layout.specs.Words.{firstNode, Node, isNode, identOf, identAt}
+use Rattle.lists.specs.Lists.{IsList, SoundLists}
+use Rattle.lists.specs.Decide.{View, viewOf, countIn, sequenceIn, sequenceOf, holds, allHold, members, used, soundIn, soundOf}
+use Rattle.lists.proofs.Unique.{list-sequence, holds-list, list-holds, member-ident, lists-disjoint}
+
+-- below n + 1: n, or below n
+below-suc : (k n : ℕ) → k < suc n → (k ≡ n) ⊎ (k < n)
+below-suc k n h = eq-or-lt-of-le (le-of-suc-le-suc h)
+
+-- all lists below n hold, one by one
+pub all-hold-at
+    : (l : Layout) (v : View) (count : ℕ → ℕ) (n k : ℕ) → allHold l v count n ≡ true → k < n
+    → holds v k (count k) (sequenceIn l v k) ≡ true
+unfolding allHold
+all-hold-at l v count zero k e h = absurd (omega arith)
+all-hold-at l v count (suc n) k e h =
+    let a = and-eq-true-iff (allHold l v count n) (holds v n (count n) (sequenceIn l v n)) .0 e in
+    ⊎-elim (λ q. subst (λ (j : ℕ). holds v j (count j) (sequenceIn l v j) ≡ true) (sym q) (a .1))
+    (λ q. all-hold-at l v count n k (a .0) q) (below-suc k n h)
+
+pub at-all-hold
+    : (l : Layout) (v : View) (count : ℕ → ℕ) (n : ℕ) → ((k : ℕ) → k < n → holds v k (count k) (sequenceIn l v k) ≡ true)
+    → allHold l v count n ≡ true
+unfolding allHold
+at-all-hold l v count zero h = refl
+at-all-hold l v count (suc n) h =
+    and-eq-true-iff (allHold l v count n) (holds v n (count n) (sequenceIn l v n)) .1
+    (at-all-hold l v count n (λ k q. h k (omega arith)), h n (omega arith))
+
+-- a member of the lists below n is in one of them
+pub members-one : (l : Layout) (v : View) (n x : ℕ) → x ∈ members l v n → (k : ℕ) × (k < n) × (x ∈ sequenceIn l v k)
+unfolding members
+members-one l v zero x m = absurd (elim m [ ])
+members-one l v (suc n) x m =
+    ⊎-elim (λ q. let r = members-one l v n x q in (r .0, omega (arith, r .1), r .2)) (λ q. (n, omega arith, q))
+    (List·Memᴰ·append-cases (members l v n) m)
+
+pub one-members : (l : Layout) (v : View) (n k x : ℕ) → k < n → x ∈ sequenceIn l v k → x ∈ members l v n
+unfolding members
+one-members l v zero k x h m = absurd (omega arith)
+one-members l v (suc n) k x h m =
+    ⊎-elim (λ q. Memᴰ·append-right (members l v n) (subst (λ (j : ℕ). x ∈ sequenceIn l v j) q m))
+    (λ q. Memᴰ·append-left (sequenceIn l v n) (one-members l v n k x q m)) (below-suc k n h)
+
+-- the nodes in use: those between the ends whose identifier is not 0, each once
+pub used-is : (v : View) (a n x : ℕ) → x ∈ used v a n → (a ≤ x) × (x < a + n) × (v .ident x ≡ 0 → ⊥)
+unfolding used
+used-is v a zero x m = absurd (elim m [ ])
+used-is v a (suc n) x m = by (eqb (v .ident a) 0) refl (λ q. used-is v (suc a) n x q) m
+  where
+    by : (b : Bool) → eqb (v .ident a) 0 ≡ b
+        → (x ∈ used v (suc a) n → (suc a ≤ x) × (x < suc a + n) × (v .ident x ≡ 0 → ⊥))
+        → x ∈ (elim b as (λ _. List ℕ) [ true ↦ used v (suc a) n | false ↦ a ∷ used v (suc a) n ])
+        → (a ≤ x) × (x < a + suc n) × (v .ident x ≡ 0 → ⊥)
+    by true e below m = let r = below m in (omega (arith, r .0), omega (arith, r .1), r .2)
+    by false e below (List·Memᴰ·head q) =
+        (omega arith, omega arith, λ z. eqb-false (v .ident a) 0 e (sym (ap (v .ident) q) ∙ z))
+    by false e below (List·Memᴰ·tail m) = let r = below m in (omega (arith, r .0), omega (arith, r .1), r .2)
+
+pub is-used : (v : View) (a n x : ℕ) → a ≤ x → x < a + n → (v .ident x ≡ 0 → ⊥) → x ∈ used v a n
+unfolding used
+is-used v a zero x h k z = absurd (omega arith)
+is-used v a (suc n) x h k z = by (eqb (v .ident a) 0) refl (λ p q. is-used v (suc a) n x p q z) (eq-or-lt-of-le h)
+  where
+    by : (b : Bool) → eqb (v .ident a) 0 ≡ b → (suc a ≤ x → x < suc a + n → x ∈ used v (suc a) n) → (a ≡ x) ⊎ (a < x)
+        → x ∈ (elim b as (λ _. List ℕ) [ true ↦ used v (suc a) n | false ↦ a ∷ used v (suc a) n ])
+    by true e below (inl q) = absurd (z (sym (ap (v .ident) q) ∙ eqb-true (v .ident a) 0 e))
+    by true e below (inr q) = below q (omega arith)
+    by false e below (inl q) = List·Memᴰ·head (sym q)
+    by false e below (inr q) = List·Memᴰ·tail (below q (omega arith))
+
+used-different : (v : View) (a n : ℕ) → Different (used v a n)
+unfolding used
+used-different v a zero = tt
+used-different v a (suc n) = by (eqb (v .ident a) 0) (used-different v (suc a) n)
+  where
+    by : (b : Bool) → Different (used v (suc a) n)
+        → Different (elim b as (λ _. List ℕ) [ true ↦ used v (suc a) n | false ↦ a ∷ used v (suc a) n ])
+    by true d = d
+    by false d = (λ m. omega (arith, used-is v (suc a) n a m .0), d)
+
+module _ (l : Layout) (w : List ℕ) where
+  abbrev Listed : ℕ → Type 0
+  Listed n = (k : ℕ) → k < n → IsList l w k (sequenceOf l w k)
+
+  -- the members of all lists, each once
+  members-different : (n : ℕ) → Listed n → Different (members l (viewOf l w) n)
+  unfolding members
+  members-different zero h = tt
+  members-different (suc n) h =
+      different-append (members l (viewOf l w) n) (sequenceOf l w n) (members-different n (λ k q. h k (omega arith)))
+      (h n (omega arith) .different) apart
+    where
+      apart : (x : ℕ) → x ∈ members l (viewOf l w) n → x ∈ sequenceOf l w n → ⊥
+      apart x m m′ =
+          let r = members-one l (viewOf l w) n x m in
+          omega (arith, r .1,
+            lists-disjoint l w (r .0) n (sequenceOf l w (r .0)) (sequenceOf l w n) x
+              (h (r .0) (omega (arith, r .1))) (h n (omega arith)) (r .2) m′)
+
+  abbrev Used : List ℕ
+  Used = used (viewOf l w) (firstNode l) (l .nodes)
+
+  abbrev All-members : List ℕ
+  All-members = members l (viewOf l w) (l .lists)
+
+  -- a member is a node in use
+  member-used : Listed (l .lists) → (x : ℕ) → x ∈ All-members → x ∈ Used
+  member-used h x m =
+      let r = members-one l (viewOf l w) (l .lists) x m in
+      let i = h (r .0) (r .1) in
+      let n = all-in (Node l) (sequenceOf l w (r .0)) (i .nodes) (r .2) in
+      is-used (viewOf l w) (firstNode l) (l .nodes) x (n .low) (n .high)
+      (λ z. omega (arith, z, member-ident l w (r .0) (sequenceOf l w (r .0)) x i (r .2)))
+
+  -- decided true: the lists are sound
+  pub sound-lists : soundOf l w ≡ true → SoundLists l w
+  unfolding soundIn
+  sound-lists e = record { sequence = sequenceOf l w; lists = listed; outside = unlisted }
+    where
+      parts : (allHold l (viewOf l w) (countIn w) (l .lists) ≡ true) × (eqb (length All-members) (length Used) ≡ true)
+      parts = and-eq-true-iff (allHold l (viewOf l w) (countIn w) (l .lists)) (eqb (length All-members) (length Used)) .0 e
+      listed : (k : ℕ) → k < l .lists → IsList l w k (sequenceOf l w k)
+      listed k h = holds-list l w k h (all-hold-at l (viewOf l w) (countIn w) (l .lists) k (parts .0) h)
+      unlisted : (i : ℕ) → Node l i → ((k : ℕ) → k < l .lists → i ∈ sequenceOf l w k → ⊥) → getD w (identAt l i) 0 ≡ 0
+      unlisted i n h = by (eqb (getD w (identAt l i) 0) 0) refl
+        where
+          apart : i ∈ All-members → ⊥
+          apart m = let r = members-one l (viewOf l w) (l .lists) i m in h (r .0) (r .1) (r .2)
+          by : (b : Bool) → eqb (getD w (identAt l i) 0) 0 ≡ b → getD w (identAt l i) 0 ≡ 0
+          by true q = eqb-true _ _ q
+          by false q =
+              absurd (omega (arith, eqb-true (length All-members) (length Used) (parts .1),
+                pigeonhole-less All-members Used i (members-different (l .lists) listed) (member-used listed)
+                  (is-used (viewOf l w) (firstNode l) (l .nodes) i (n .low) (n .high) (eqb-false _ _ q)) apart))
+
+  -- the lists are sound: decided true
+  pub lists-sound : SoundLists l w → soundOf l w ≡ true
+  unfolding soundIn
+  lists-sound s =
+      and-eq-true-iff (allHold l (viewOf l w) (countIn w) (l .lists)) (eqb (length All-members) (length Used)) .1
+      (at-all-hold l (viewOf l w) (countIn w) (l .lists) (λ k h. list-holds l w k h (s .sequence k) (s .lists k h)),
+      eq-eqb (length All-members) (length Used) (omega (arith,
+        pigeonhole All-members Used (members-different (l .lists) listed) (member-used listed),
+        pigeonhole Used All-members (used-different (viewOf l w) (firstNode l) (l .nodes)) used-member)))
+    where
+      same : (k : ℕ) → k < l .lists → sequenceOf l w k ≡ s .sequence k
+      same k h = list-sequence l w k h (s .sequence k) (s .lists k h)
+      listed : (k : ℕ) → k < l .lists → IsList l w k (sequenceOf l w k)
+      listed k h = subst (IsList l w k) (sym (same k h)) (s .lists k h)
+      used-member : (x : ℕ) → x ∈ Used → x ∈ All-members
+      used-member x m = by (member? x All-members)
+        where
+          u : (firstNode l ≤ x) × (x < firstNode l + l .nodes) × (getD w (identAt l x) 0 ≡ 0 → ⊥)
+          u = used-is (viewOf l w) (firstNode l) (l .nodes) x m
+          by : (x ∈ All-members) ⊎ (x ∈ All-members → ⊥) → x ∈ All-members
+          by (inl q) = q
+          by (inr q) =
+              absurd (u .2 (s .outside x (record { low = u .0; high = u .1 })
+                (λ k h p. q (one-members l (viewOf l w) (l .lists) k x h (subst (λ (t : List ℕ). x ∈ t) (sym (same k h)) p)))))

@@ -1,0 +1,68 @@
+-- A formatted store is sound, and all its lists are empty.
+use Prim.Native.Nat.{ℕ, zero, suc, _+_, _*_, _-_, _<_, _≤_}
+use mathlib.Core.Path.{_≡_, refl, ap, _∙_, sym}
+use mathlib.Core.List.{List, [], _∷_}
+use mathlib.Core.Bool.{true}
+use native.Mathlib.Omega.{arith}
+use native.Mathlib.Nat.{add-zero}
+use lib.ListN.{length, getD}
+use Rattle.sequences.specs.Sequence.{steps}
+use Rattle.layout.specs.declared.Layout.{Layout}
+use Rattle.layout.specs.Words.{firstNode, headWords, headerWords, nodeWords, headerAt, nodeAt, cellAt, Node, InRange, layoutOf, marked, identAt, identOf, formatted}
+use Rattle.layout.proofs.Laws.{cell-header, cell-node, length-formatted, formatted-word, formatted-header, formatted-node}
+use Rattle.lists.specs.Lists.{IsList, SoundLists, Sound}
+use Rattle.lists.specs.Decide.{viewOf, countIn}
+use Rattle.lists.proofs.Agree.{holds-agrees}
+
+-- word j of a cell that is a header
+header-word : (l : Layout) (k j : ℕ) → k < l .lists → j < 4 → getD (formatted l) (cellAt l k + j) 0 ≡ getD (identOf k ∷ k ∷ k ∷ 0 ∷ []) j 0
+header-word l k j h g = rw (cell-header l k h) (formatted-header l k j h g)
+
+pub formatted-list : (l : Layout) (k : ℕ) → k < l .lists → IsList l (formatted l) k []
+unfolding steps
+formatted-list l k h =
+    record {
+      nodes = tt;
+      different = tt;
+      agrees =
+        holds-agrees l (formatted l) k [] (record {
+          ident = ap (λ (a : ℕ). getD (formatted l) a 0) (sym (add-zero (cellAt l k))) ∙ header-word l k 0 h (omega arith);
+          turn =
+            record {
+              idents = tt;
+              forwards = (header-word l k 1 h (omega arith), tt);
+              backs = (header-word l k 2 h (omega arith), tt)
+            };
+          count = formatted-header l k 3 h (omega arith)
+        })
+    }
+
+node-behind : (l : Layout) (i : ℕ) → headWords + headerWords * l .lists ≤ nodeAt l i
+unfolding nodeAt
+node-behind l i = omega arith
+
+pub formatted-lists : (l : Layout) → SoundLists l (formatted l)
+formatted-lists l =
+    record {
+      sequence = λ _. [];
+      lists = formatted-list l;
+      outside = λ i n _. formatted-node l (cellAt l i) (omega (arith, cell-node l i (n .low), node-behind l i))
+    }
+
+pub layout-formatted : (l : Layout) → layoutOf (formatted l) ≡ l
+layout-formatted l =
+    λ i. record {
+      lists = formatted-word l 4 (omega arith) i;
+      nodes = formatted-word l 5 (omega arith) i;
+      width = formatted-word l 6 (omega arith) i
+    }
+
+pub formatted-sound : (l : Layout) → InRange l → Sound (formatted l)
+unfolding marked formatted
+formatted-sound l r =
+    record {
+      marked = refl;
+      inRange = r;
+      exact = length-formatted l;
+      lists = formatted-lists l
+    }

@@ -1,0 +1,4 @@
+pub mod Agree
+pub mod Unique
+pub mod Decided
+pub mod Empty
