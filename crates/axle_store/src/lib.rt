@@ -6,6 +6,7 @@ use survey::Found;
 ghost use mathlib.Core.Path.{_≡_};
 ghost use Prim.Native.Nat.{_+_, _*_};
 ghost use lib.ListN.{length};
+ghost use Rattle.layout.specs.Words.{InRange, sizeOf, formatted};
 ghost use Rattle.axle_store.specs.Answers.{checkedNumber, formattedNumber, countedNumber, countedLength};
 ghost use Rattle.axle_store.specs.Calls.{formatAnswer, formatWords, checkAnswer, lengthAnswer, placeOf, readNumber, readWords, readStart};
 
@@ -75,6 +76,18 @@ impl Counted {
     }
 }
 
+// Writes the words of a formatted store.
+fn fill(words: &mut [u16], l: Layout)
+    requires { ⌜ InRange l × (length (now words) ≡ sizeOf l) ⌝ }
+    ensures { λ _. ⌜ now (words .exit) ≡ formatted l ⌝ }
+{
+    let mut i: usize = 0;
+    while i < words.len() {
+        words[i] = l.initial(i);
+        i += 1;
+    }
+}
+
 // Writes a store of empty lists.
 pub fn format(words: &mut [u16], lists: u16, nodes: u16, width: u16) -> Formatted
     ensures answer { λ r. ⌜ r ≡ formatAnswer (record { lists = lists; nodes = nodes; width = width }) (now (words .entry)) ⌝ }
@@ -91,11 +104,7 @@ pub fn format(words: &mut [u16], lists: u16, nodes: u16, width: u16) -> Formatte
     if words.len() != l.size() {
         return Formatted::Refused(4);
     }
-    let mut i: usize = 0;
-    while i < words.len() {
-        words[i] = l.initial(i);
-        i += 1;
-    }
+    fill(words, l);
     Formatted::Done
 }
 

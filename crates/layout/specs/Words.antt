@@ -110,6 +110,11 @@ openedBy n h =
 abbrev pub opened : List ℕ → Opened
 opened w = openedBy (length w) w
 
+-- what a call does after them: a refusal is handed on, else the rest is asked of the layout
+abbrev pub afterOpen {ℓ} : {A : Type ℓ} → Opened → (ℕ → A) → (Layout → A) → A
+afterOpen (Refused n) refuse rest = refuse n
+afterOpen (Open l) refuse rest = rest l
+
 -- the same in words: what a store's words are like once questions 1 to 4 are answered yes
 pub record Laid (l : Layout) (w : List ℕ) : Type 0 where
   pub inRange : InRange l

@@ -1,3 +1,12 @@
+-- `survey::all_counts` meets its contract. The loop's invariant: the counts of the lists below k are filled in.
+use Prim.Native.Nat.{ℕ, _+_, _-_, _≤_}
+use mathlib.Core.Path.{_≡_, refl, ap, _∙_, sym}
+use native.Mathlib.Omega.{arith}
+use lib.ListN.{length, getD, length-set}
+use borrow.Author.Needs.{needs}
+use Rattle.layout.specs.Words.{Laid}
+use Rattle.lists.specs.Decide.{countIn}
+use Rattle.survey.proofs.Laws.{Filled, filled-more}
 use Rattle.survey.proofs.all_counts.Statement.{statement}
 use Rattle.survey.proofs.all_counts.Tie as tie
 use Rattle.survey.proofs.all_counts.Reads as reads
@@ -5,10 +14,11 @@ use Rattle.survey.proofs.all_counts.Lts as lts
 use Rattle.survey.proofs.count.Reads as count-reads
 
 abbrev Inv-loop : tie.InvT-loop
-Inv-loop words l r₀ k₀ r k = ?
+Inv-loop words l r₀ k₀ r k =
+    (Laid l words) × (k ≤ l .lists) × (length r ≡ 8) × Filled (countIn words) r k
 
 abbrev μ-loop : tie.MeasureT-loop
-μ-loop words l r₀ k₀ r k = ?
+μ-loop words l r₀ k₀ r k = l .lists - k
 
 -- src/lib.rt:84:5
 loop-holds : tie.Need-loop-holds Inv-loop μ-loop

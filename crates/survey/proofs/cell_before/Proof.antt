@@ -1,13 +1,27 @@
+-- `survey::cell_before` meets its contract. The loop's invariant: c is the cell in front of position i.
+use Prim.Native.Nat.{ℕ, _+_, _-_, _≤_}
+use mathlib.Core.Path.{_≡_, refl, ap, _∙_, sym}
+use mathlib.Core.List.{_∷_}
+use native.Mathlib.Omega.{arith}
+use native.Mathlib.Numerals.{add-one}
+use lib.ListN.{length, getD}
+use Rattle.layout.specs.declared.Layout.{Layout}
+use Rattle.lists.specs.Decide.{sequenceIn}
+use Rattle.survey.specs.Survey.{columns}
+use Rattle.survey.proofs.Laws.{before-next, before-cell}
 use Rattle.survey.proofs.cell_before.Statement.{statement}
 use Rattle.survey.proofs.cell_before.Tie as tie
 use Rattle.survey.proofs.cell_before.Reads as reads
 use Rattle.survey.proofs.cell_before.Lts as lts
 
 abbrev Inv-loop : tie.InvT-loop
-Inv-loop forwards k p c₀ i₀ c i = ?
+Inv-loop forwards k p c₀ i₀ c i =
+    (i ≤ p)
+    × ((l : Layout) → p ≤ length (sequenceIn l (columns forwards forwards forwards) k)
+    → c ≡ getD (k ∷ sequenceIn l (columns forwards forwards forwards) k) i 0)
 
 abbrev μ-loop : tie.MeasureT-loop
-μ-loop forwards k p c₀ i₀ c i = ?
+μ-loop forwards k p c₀ i₀ c i = p - i
 
 -- src/lib.rt:170:5
 loop-holds : tie.Need-loop-holds Inv-loop μ-loop

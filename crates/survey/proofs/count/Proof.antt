@@ -1,4 +1,10 @@
+-- `survey::count` meets its contract. The count stands within the header, and the header within the store.
+use Prim.Native.Nat.{ℕ, _+_}
+use mathlib.Core.Path.{ap}
+use native.Mathlib.Omega.{arith}
+use lib.ListN.{getD}
 use borrow.Author.Needs.{needs}
+use Rattle.layout.proofs.Laws.{header-fits}
 use Rattle.survey.proofs.count.Statement.{statement}
 use Rattle.survey.proofs.count.Tie as tie
 use Rattle.survey.proofs.count.Reads as reads
@@ -19,11 +25,13 @@ mul-result c = search needs
 
 -- src/lib.rt:74:5
 shared-slice-read-result : tie.Need-shared-slice-read-result
-shared-slice-read-result c = ?
+shared-slice-read-result c =
+    let s = c .before .before .before in
+    omega (arith, header-fits (s .args .l) (s .args .k) (s .pre .1))
 
 -- src/lib.rt:70:1
 returns : tie.Need-returns
-returns c = ?
+returns c = ap (λ (n : ℕ). getD (c .before .before .before .args .words .now) (n + 3) 0) (c .before .header .ensures)
 
 pub count-spec : {M : Type 1} → statement M
 count-spec =

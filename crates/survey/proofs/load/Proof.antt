@@ -1,3 +1,13 @@
+-- `survey::load` meets its contract. The loop's invariant: the columns hold the words of the cells below i.
+use Prim.Native.Nat.{ℕ, _+_, _-_, _≤_}
+use mathlib.Core.Path.{_≡_, refl, ap, _∙_, sym}
+use native.Mathlib.Omega.{arith}
+use lib.ListN.{length, getD, length-set}
+use borrow.Author.Needs.{needs}
+use Rattle.layout.specs.Words.{Laid, cellCount}
+use Rattle.layout.proofs.Laws.{cell-fits}
+use Rattle.lists.specs.Decide.{viewOf}
+use Rattle.survey.proofs.Laws.{Filled, filled-more, filled-all, part-length, part-at, part-first, cell-beyond}
 use Rattle.survey.proofs.load.Statement.{statement}
 use Rattle.survey.proofs.load.Tie as tie
 use Rattle.survey.proofs.load.Reads as reads
@@ -7,10 +17,13 @@ use Rattle.layout.proofs.Layout.cell_count.Reads as cell-count-reads
 use Rattle.survey.proofs.links_of.Reads as links-of-reads
 
 abbrev Inv-loop : tie.InvT-loop
-Inv-loop words l idents₀ forwards₀ backs₀ n i₀ idents forwards backs i = ?
+Inv-loop words l idents₀ forwards₀ backs₀ n i₀ idents forwards backs i =
+    (i ≤ n) × Laid l words × (n ≡ cellCount l)
+    × (length idents ≡ n) × (length forwards ≡ n) × (length backs ≡ n)
+    × Filled (viewOf l words .ident) idents i × Filled (viewOf l words .forward) forwards i × Filled (viewOf l words .back) backs i
 
 abbrev μ-loop : tie.MeasureT-loop
-μ-loop words l idents₀ forwards₀ backs₀ n i₀ idents forwards backs i = ?
+μ-loop words l idents₀ forwards₀ backs₀ n i₀ idents forwards backs i = n - i
 
 -- src/lib.rt:57:9
 cell-count-requires : tie.Need-cell-count-requires Inv-loop μ-loop

@@ -1,3 +1,12 @@
+-- `survey::ring` meets its contract. The loop's invariant: the turn has met n members and comes to `at`.
+use Prim.Native.Nat.{ℕ, _+_, _-_, _≤_, _<_}
+use mathlib.Core.Path.{_≡_, refl, ap, _∙_, sym}
+use native.Mathlib.Omega.{arith}
+use lib.ListN.{length, getD}
+use borrow.Author.Needs.{needs}
+use Rattle.layout.proofs.Laws.{is-node}
+use Rattle.survey.specs.Survey.{columns, Columns}
+use Rattle.survey.proofs.Laws.{Turning, turning-first, turning-next, ring-foreign, ring-long, ring-other, ring-unback, ring-open, ring-loose, ring-closed}
 use Rattle.survey.proofs.ring.Statement.{statement}
 use Rattle.survey.proofs.ring.Tie as tie
 use Rattle.survey.proofs.ring.Reads as reads
@@ -6,10 +15,11 @@ use Rattle.layout.proofs.Layout.ident.Reads as ident-reads
 use Rattle.layout.proofs.Layout.is_node.Reads as is-node-reads
 
 abbrev Inv-loop : tie.InvT-loop
-Inv-loop idents forwards backs l k id before₀ at₀ n₀ before at n = ?
+Inv-loop idents forwards backs l k id before₀ at₀ n₀ before at n =
+    Columns l idents forwards backs × (k < l .lists) × Turning l (columns idents forwards backs) k n before at
 
 abbrev μ-loop : tie.MeasureT-loop
-μ-loop idents forwards backs l k id before₀ at₀ n₀ before at n = ?
+μ-loop idents forwards backs l k id before₀ at₀ n₀ before at n = l .nodes - n
 
 -- src/lib.rt:96:9
 ident-requires : tie.Need-ident-requires Inv-loop μ-loop

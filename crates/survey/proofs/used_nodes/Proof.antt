@@ -1,3 +1,13 @@
+-- `survey::used_nodes` meets its contract. The loop's invariant: n and the used nodes from i on make up all that are used.
+use Prim.Native.Nat.{ℕ, _+_, _-_, _≤_}
+use mathlib.Core.Path.{_≡_, refl, ap, _∙_, sym}
+use mathlib.Core.List.{_∷_}
+use native.Mathlib.Omega.{arith}
+use native.Mathlib.Numerals.{add-one}
+use lib.ListN.{length, getD}
+use Rattle.lists.specs.Decide.{used}
+use Rattle.survey.specs.Survey.{columns}
+use Rattle.survey.proofs.Laws.{used-in, used-out, used-none, used-length}
 use Rattle.survey.proofs.used_nodes.Statement.{statement}
 use Rattle.survey.proofs.used_nodes.Tie as tie
 use Rattle.survey.proofs.used_nodes.Reads as reads
@@ -6,10 +16,12 @@ use Rattle.layout.proofs.Layout.cell_count.Reads as cell-count-reads
 use Rattle.layout.proofs.Layout.first_node.Reads as first-node-reads
 
 abbrev Inv-loop : tie.InvT-loop
-Inv-loop idents n₀ i₀ end n i = ?
+Inv-loop idents n₀ i₀ end n i =
+    let v = columns idents idents idents in
+    (i ≤ end) × (n + length (used v i (end - i)) ≡ length (used v i₀ (end - i₀)))
 
 abbrev μ-loop : tie.MeasureT-loop
-μ-loop idents n₀ i₀ end n i = ?
+μ-loop idents n₀ i₀ end n i = end - i
 
 -- src/lib.rt:132:9
 first-node-requires : tie.Need-first-node-requires Inv-loop μ-loop
