@@ -47,6 +47,10 @@ nodeAt l i = headWords + headerWords * l .lists + nodeWords l * (i - firstNode l
 unfoldable pub cellAt : Layout → ℕ → ℕ
 cellAt l i = cond (ltb i (firstNode l)) (headerAt i) (nodeAt l i)
 
+-- the words of a cell: a header's four, a node's three and its record
+unfoldable pub cellWords : Layout → ℕ → ℕ
+cellWords l i = cond (ltb i (firstNode l)) headerWords (nodeWords l)
+
 abbrev pub identAt : Layout → ℕ → ℕ
 identAt l i = cellAt l i
 

@@ -6,11 +6,12 @@ use mathlib.Core.Bool.{Bool, true, false, _&&_, and-eq-true-iff}
 use lib.Dec.{eqb}
 use lib.ListN.{length, getD}
 use borrow.Author.Tests.{eq-eqb, eqb-true}
-use Rattle.sequences.specs.Sequence.{All, Step, steps}
+use Rattle.sequences.specs.Sequence.{All, Step, steps, Forward, Backward}
 use Rattle.sequences.proofs.Members.{all-append, append-all}
+use Rattle.stores.specs.Stores.{Write, write}
 use Rattle.layout.specs.declared.Layout.{Layout}
 use Rattle.layout.specs.Words.{identAt, forwardAt, backAt, countAt, identOf}
-use Rattle.lists.specs.Lists.{Write, write, asked, Agrees}
+use Rattle.lists.specs.Lists.{asked, Agrees}
 use Rattle.lists.specs.Decide.{View, viewOf, countIn, turn, holds}
 
 -- what holds of every image
@@ -25,8 +26,8 @@ all-map P f (x ∷ s) h = (h .0, all-map P f s (h .1))
 -- the three kinds of words that a turn compares
 pub record Turn (v : View) (k x : ℕ) (s : List ℕ) : Type 0 where
   pub idents : All (λ c. v .ident c ≡ identOf k) s
-  pub forwards : All (λ (p : Step). v .forward (p .source) ≡ p .target) (steps x s k)
-  pub backs : All (λ (p : Step). v .back (p .target) ≡ p .source) (steps x s k)
+  pub forwards : Forward (v .forward) x s k
+  pub backs : Backward (v .back) x s k
 
 both : {a b : Bool} → a ≡ true → b ≡ true → (a && b) ≡ true
 both {a} {b} p q = and-eq-true-iff a b .1 (p, q)

@@ -5,18 +5,11 @@ use mathlib.Core.List.{List, [], _∷_, _++_, map}
 use mathlib.Core.Bool.{true}
 use lib.ListN.{length, getD}
 use Rattle.sequences.specs.Sequence.{_∈_, All, Different, Step, steps}
+use Rattle.stores.specs.Stores.{Write, write}
 use Rattle.layout.specs.declared.Layout.{Layout}
 use Rattle.layout.specs.Words.{Node, InRange, marked, layoutOf, sizeOf, identAt, forwardAt, backAt, countAt, identOf}
 
--- word `at` is to hold `value`
-pub record Write : Type 0 where
-  pub at : ℕ
-  pub value : ℕ
-
-abbrev pub write : ℕ → ℕ → Write
-write a v = record { at = a; value = v }
-
--- What a sequence s asks of list k: "header and members carry identifier 42,400 + k; from the header, forward leads
+-- What a sequence s asks of list k, as the stores that would make it so: "header and members carry identifier 42,400 + k; from the header, forward leads
 -- through the sequence and back to the header, and back leads the other way round; the count is the sequence's length."
 unfoldable pub asked : Layout → ℕ → List ℕ → List Write
 asked l k s =

@@ -1,3 +1,4 @@
 pub mod Members
 pub mod Pigeonhole
 pub mod Trail
+pub mod Splice

@@ -5,7 +5,7 @@ use mathlib.Core.List.{List, [], _∷_, _++_, List·Memᴰ, List·Memᴰ·head, 
 use mathlib.Core.Logic.{_⊎_, inl, inr, ⊎-elim}
 use native.Mathlib.Decide.{ℕ-discrete}
 use native.Mathlib.Omega.{arith}
-use lib.ListN.{length, getD}
+use lib.ListN.{length, getD, take, drop}
 use Rattle.sequences.specs.Sequence.{_∈_, All, Different}
 
 -- a property of every member holds of a member
@@ -27,6 +27,16 @@ all-append P (x ∷ s) t h k = (h .0, all-append P s t (h .1) k)
 pub append-all {ℓ} : {A : Type ℓ} (P : A → Type 0) (s t : List A) → All P (s ++ t) → All P s × All P t
 append-all P [] t h = (tt, h)
 append-all P (x ∷ s) t h = let r = append-all P s t (h .1) in ((h .0, r .0), r .1)
+
+pub all-take {ℓ} : {A : Type ℓ} (P : A → Type 0) (s : List A) (n : ℕ) → All P s → All P (take n s)
+all-take P s zero h = tt
+all-take P [] (suc n) h = tt
+all-take P (x ∷ s) (suc n) h = (h .0, all-take P s n (h .1))
+
+pub all-drop {ℓ} : {A : Type ℓ} (P : A → Type 0) (s : List A) (n : ℕ) → All P s → All P (drop n s)
+all-drop P s zero h = h
+all-drop P [] (suc n) h = tt
+all-drop P (x ∷ s) (suc n) h = all-drop P s n (h .1)
 
 -- membership is decided
 pub member? : (x : ℕ) (s : List ℕ) → (x ∈ s) ⊎ (x ∈ s → ⊥)

@@ -5,7 +5,7 @@ use mathlib.Core.List.{List, [], _∷_, _++_, List·Memᴰ, List·Memᴰ·head, 
 use mathlib.Core.Bool.{Bool, true, false}
 use native.Mathlib.Omega.{arith}
 use lib.ListN.{length, getD}
-use Rattle.sequences.specs.Sequence.{_∈_, All, Different, Step, steps, trail}
+use Rattle.sequences.specs.Sequence.{_∈_, All, Different, Step, steps, Forward, trail}
 use Rattle.sequences.proofs.Members.{in-all}
 
 module _ (link : ℕ → ℕ) (inside : ℕ → Bool) where
@@ -41,13 +41,9 @@ module _ (link : ℕ → ℕ) (inside : ℕ → Bool) where
       by true e h = rw (trail-on n c e) (e, h)
       by false e h = rw (trail-out (suc n) c e) tt
 
-  -- the link of each step's source is its target
-  abbrev Leads : ℕ → List ℕ → ℕ → Type 0
-  Leads x s z = All (λ (p : Step). link (p .source) ≡ p .target) (steps x s z)
-
   -- what links lead through, on to a cell outside, is the trail
   pub leads-trail
-      : (n x : ℕ) (s : List ℕ) (z : ℕ) → All (λ y. inside y ≡ true) s → inside z ≡ false → Leads x s z → length s ≤ n
+      : (n x : ℕ) (s : List ℕ) (z : ℕ) → All (λ y. inside y ≡ true) s → inside z ≡ false → Forward link x s z → length s ≤ n
       → trail link inside n (link x) ≡ s
   unfolding steps
   leads-trail n x [] z h o p k = ap (trail link inside n) (p .0) ∙ trail-out n z o
@@ -57,17 +53,17 @@ module _ (link : ℕ → ℕ) (inside : ℕ → Bool) where
 
   -- from a member on, links lead through the shorter rest
   leads-from
-      : (x : ℕ) (s : List ℕ) (z y : ℕ) → All (λ y. inside y ≡ true) s → Leads x s z → y ∈ s
-      → (r : List ℕ) × All (λ y. inside y ≡ true) r × Leads y r z × (length r < length s)
+      : (x : ℕ) (s : List ℕ) (z y : ℕ) → All (λ y. inside y ≡ true) s → Forward link x s z → y ∈ s
+      → (r : List ℕ) × All (λ y. inside y ≡ true) r × Forward link y r z × (length r < length s)
   unfolding steps
   leads-from x (c ∷ s) z y h p (List·Memᴰ·head e) =
-      (s, h .1, subst (λ (a : ℕ). Leads a s z) (sym e) (p .1), omega arith)
+      (s, h .1, subst (λ (a : ℕ). Forward link a s z) (sym e) (p .1), omega arith)
   leads-from x (c ∷ s) z y h p (List·Memᴰ·tail m) =
       let r = leads-from c s z y (h .1) (p .1) m in (r .0, r .1, r .2, omega (arith, r .3))
 
   -- so a cell is met once
   pub leads-different
-      : (x : ℕ) (s : List ℕ) (z : ℕ) → All (λ y. inside y ≡ true) s → inside z ≡ false → Leads x s z → Different s
+      : (x : ℕ) (s : List ℕ) (z : ℕ) → All (λ y. inside y ≡ true) s → inside z ≡ false → Forward link x s z → Different s
   unfolding steps
   leads-different x [] z h o p = tt
   leads-different x (y ∷ s) z h o p = (again, leads-different y s z (h .1) o (p .1))

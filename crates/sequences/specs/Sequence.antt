@@ -30,6 +30,14 @@ unfoldable pub steps : ℕ → List ℕ → ℕ → List Step
 steps x [] z = record { source = x; target = z } ∷ []
 steps x (y ∷ s) z = record { source = x; target = y } ∷ steps y s z
 
+-- forward links lead from x through s to z
+abbrev pub Forward : (ℕ → ℕ) → ℕ → List ℕ → ℕ → Type 0
+Forward f x s z = All (λ (p : Step). f (p .source) ≡ p .target) (steps x s z)
+
+-- back links lead the other way round
+abbrev pub Backward : (ℕ → ℕ) → ℕ → List ℕ → ℕ → Type 0
+Backward g x s z = All (λ (p : Step). g (p .target) ≡ p .source) (steps x s z)
+
 -- the cells that are met from c on, each the link of the one before: as long as they are inside, and at most n
 unfoldable pub trail : (ℕ → ℕ) → (ℕ → Bool) → ℕ → ℕ → List ℕ
 trail link inside zero c = []
@@ -39,3 +47,12 @@ trail link inside (suc n) c = elim (inside c) [ true ↦ c ∷ trail link inside
 unfoldable pub range : ℕ → ℕ → List ℕ
 range a zero = []
 range a (suc n) = a ∷ range (suc a) n
+
+-- the cell in front of what follows x and s, and the first cell of s and z
+abbrev pub lastOf : ℕ → List ℕ → ℕ
+lastOf x [] = x
+lastOf x (y ∷ s) = lastOf y s
+
+abbrev pub firstOf : List ℕ → ℕ → ℕ
+firstOf [] z = z
+firstOf (y ∷ s) z = y

@@ -1,7 +1,7 @@
 -- Laws of the columns that the cells are read into, of a turn round a list, and of soundness as it is decided.
-use Prim.Native.Nat.{ℕ, zero, suc, _+_, _*_, _-_, _≤_, _<_}
-use mathlib.Core.Path.{_≡_, refl, sym, ap, _∙_, subst, fun-ext}
-use mathlib.Core.List.{List, [], _∷_, _++_}
+use Prim.Native.Nat.{ℕ, zero, suc, _+_, _-_, _≤_, _<_}
+use mathlib.Core.Path.{_≡_, refl, sym, ap, _∙_, fun-ext}
+use mathlib.Core.List.{List, [], _∷_}
 use mathlib.Core.Bool.{Bool, true, false, cond, _&&_, and-eq-true-iff, and-false, and-assoc}
 use native.Mathlib.Omega.{arith}
 use native.Mathlib.Nat.{add-zero, sub-zero, mul-le-mul-left}
@@ -9,20 +9,20 @@ use native.Mathlib.Numerals.{add-one}
 use native.Mathlib.Decide.{ℕ-discrete, decLt}
 use lib.Dec.{eqb}
 use lib.ListN.{length, getD, set, take, drop, length-drop, length-append, List·getD-eq-default}
-use lib.Seq.{take-all, getD-drop, getD-set-same, getD-set-other}
+use lib.Seq.{length-take-le, take-all, getD-drop, getD-set-same, getD-set-other}
 use borrow.Author.Tests.{eq-eqb, ne-eqb, eqb-true}
 use Rattle.sequences.specs.Sequence.{trail}
 use Rattle.sequences.proofs.Members.{all-in, at-in}
 use Rattle.sequences.proofs.Trail.{trail-on, trail-out, trail-none, trail-length, trail-inside, trail-link}
 use Rattle.layout.specs.declared.Layout.{Layout}
-use Rattle.layout.specs.Words.{firstNode, cellCount, Node, isNode, nodeWords, nodeAt, cellAt, identAt, forwardAt, backAt, identOf, sizeOf}
+use Rattle.layout.specs.Words.{firstNode, cellCount, isNode, nodeWords, nodeAt, cellAt, identOf, sizeOf, InRange, Laid}
 use Rattle.layout.proofs.Laws.{cell-node, is-node}
-use Rattle.lists.specs.Decide.{View, viewOf, countIn, sequenceIn, turn, holds, allHold, members, used, soundIn, soundOf}
-use Rattle.survey.specs.declared.Round.{Round}
+use Rattle.lists.specs.Decide.{View, viewOf, countIn, sequenceIn, turn, holds, allHold, members, used, soundIn, sequenceOf, soundOf}
+use Rattle.lists.proofs.Decided.{all-hold-at}
 use Rattle.survey.specs.declared.Round.the-variants.{Members, Broken}
 use Rattle.survey.specs.Survey.{columns, Loaded, ringIn}
 
--- a part `&w[a..]`, as the borrow checker has it: word i of it is word a + i of w
+-- a part `&w[a..]`, as the borrow checker has it
 abbrev pub partFrom : List ℕ → ℕ → List ℕ
 partFrom w a = take (length w - a) (drop a w)
 
@@ -32,14 +32,19 @@ part-drop w a = take-all (length w - a) (drop a w) (omega (arith, length-drop a 
 pub part-length : (w : List ℕ) (a : ℕ) → length (partFrom w a) ≡ length w - a
 part-length w a = ap length (part-drop w a) ∙ length-drop a w
 
+-- word i of it is word a + i of w
 pub part-at : (w : List ℕ) (a i : ℕ) → getD (partFrom w a) i 0 ≡ getD w (a + i) 0
 part-at w a i = ap (λ (t : List ℕ). getD t i 0) (part-drop w a) ∙ getD-drop a w i 0
 
 pub part-first : (w : List ℕ) (a : ℕ) → getD (partFrom w a) 0 0 ≡ getD w a 0
 part-first w a = part-at w a 0 ∙ ap (λ (n : ℕ). getD w n 0) (add-zero a)
 
+-- the part of a column with one entry for each cell
+pub column-part : (l : Layout) (n : ℕ) (xs : List ℕ) → InRange l → n ≡ cellCount l → 2008 ≡ length xs → n ≡ length (take n xs)
+column-part l n xs r e h = sym (length-take-le n xs (omega arith))
+
 -- a cell beyond the last would stand behind the last word
-pub cell-beyond : (l : Layout) (c : ℕ) → cellCount l ≤ c → sizeOf l ≤ cellAt l c
+cell-beyond : (l : Layout) (c : ℕ) → cellCount l ≤ c → sizeOf l ≤ cellAt l c
 unfolding sizeOf nodeAt
 cell-beyond l c h =
     let n : l .nodes ≤ c - firstNode l = omega arith in
@@ -49,6 +54,7 @@ cell-beyond l c h =
 abbrev pub Filled : (ℕ → ℕ) → List ℕ → ℕ → Type 0
 Filled f xs n = (c : ℕ) → c < n → getD xs c 0 ≡ f c
 
+-- one member more
 pub filled-more : (f : ℕ → ℕ) (xs : List ℕ) (n v : ℕ) → n < length xs → v ≡ f n → Filled f xs n → Filled f (set xs n v) (n + 1)
 filled-more f xs n v h e p c k = by (ℕ-discrete c n)
   where
@@ -57,12 +63,26 @@ filled-more f xs n v h e p c k = by (ℕ-discrete c n)
     by (no q) = getD-set-other xs n c v 0 q ∙ p c (omega arith)
 
 -- where f is 0 behind the list's end, all is given by f
-pub filled-all : (f : ℕ → ℕ) (xs : List ℕ) (n : ℕ) → length xs ≡ n → ((c : ℕ) → n ≤ c → f c ≡ 0) → Filled f xs n → (c : ℕ) → getD xs c 0 ≡ f c
+filled-all : (f : ℕ → ℕ) (xs : List ℕ) (n : ℕ) → length xs ≡ n → ((c : ℕ) → n ≤ c → f c ≡ 0) → Filled f xs n → (c : ℕ) → getD xs c 0 ≡ f c
 filled-all f xs n e z p c = by (decLt c n)
   where
     by : Dec (c < n) → getD xs c 0 ≡ f c
     by (yes h) = p c h
     by (no h) = List·getD-eq-default xs 0 (omega arith) ∙ sym (z c (omega arith))
+
+-- columns that are filled for each cell hold the words of the cells: behind the last cell the store has ended too
+pub loaded-all : (l : Layout) (w i f b : List ℕ) (n : ℕ) → Laid l w → cellCount l ≡ n
+    → length i ≡ n → Filled (viewOf l w .ident) i n → length f ≡ n → Filled (viewOf l w .forward) f n
+    → length b ≡ n → Filled (viewOf l w .back) b n → Loaded l w i f b
+loaded-all l w i f b n laid e hi pi hf pf hb pb =
+    record {
+      idents = filled-all (viewOf l w .ident) i n hi (λ c h. List·getD-eq-default w 0 (behind c h)) pi;
+      forwards = filled-all (viewOf l w .forward) f n hf (λ c h. List·getD-eq-default w 0 (omega (arith, behind c h))) pf;
+      backs = filled-all (viewOf l w .back) b n hb (λ c h. List·getD-eq-default w 0 (omega (arith, behind c h))) pb
+    }
+  where
+    behind : (c : ℕ) → n ≤ c → length w ≤ cellAt l c
+    behind c h = omega (arith, cell-beyond l c (omega arith))
 
 -- the columns of the cells are a view of the words
 pub loaded-view : (l : Layout) (w i f b : List ℕ) → Loaded l w i f b → columns i f b ≡ viewOf l w
@@ -85,32 +105,34 @@ pub record Turning (l : Layout) (v : View) (k n x y : ℕ) : Type 0 where
   pub count : length (sequenceIn l v k) ≡ n + length (rest l v n y)
 
 module _ (l : Layout) (v : View) (k : ℕ) where
+  -- at the header nothing is met
   pub turning-first : Turning l v k 0 k (v .forward k)
   turning-first = record { link = refl; few = omega arith; same = rw sub-zero; count = rw sub-zero (omega arith) }
 
+  -- a header with another identifier
   pub ring-foreign : (v .ident k ≡ identOf k → ⊥) → Broken ≡ ringIn l v k
   unfolding ringIn
   ring-foreign h = rw (ne-eqb _ _ h)
 
   module _ (n x y : ℕ) (t : Turning l v k n x y) where
-    -- at a node: the next of the cells
+    -- what is left: at a node this node and the rest, else nothing
     rest-on : isNode l y ≡ true → n < l .nodes → rest l v n y ≡ y ∷ rest l v (n + 1) (v .forward y)
     rest-on e h =
         let m : l .nodes - n ≡ suc (l .nodes - (n + 1)) = omega arith in
         rw m (trail-on (v .forward) (isNode l) (l .nodes - (n + 1)) y e)
 
-    -- not at a node: none
     rest-out : isNode l y ≡ false → rest l v n y ≡ []
     rest-out e = trail-out (v .forward) (isNode l) (l .nodes - n) y e
 
     rest-full : n ≡ l .nodes → rest l v n y ≡ []
     rest-full e = let m : l .nodes - n ≡ 0 = omega arith in rw m (trail-none (v .forward) (isNode l) y)
 
+    -- the rest of the turn decides
     ring-broken : turn v k x (rest l v n y) ≡ false → Broken ≡ ringIn l v k
     unfolding ringIn
     ring-broken e = rw (t .same, e, and-false)
 
-    -- the turn ends as broken: all nodes are met and no header, ..
+    -- the turn is broken: as many members as there are nodes are met and another node follows, ..
     pub ring-long : k < l .lists → isNode l y ≡ true → n ≡ l .nodes → Broken ≡ ringIn l v k
     unfolding turn
     ring-long h e m =
@@ -143,6 +165,7 @@ module _ (l : Layout) (v : View) (k : ℕ) where
         let m : length (sequenceIn l v k) ≡ n = t .count ∙ rw (rest-out e) (omega arith) in
         rw (eq-eqb _ _ i, t .same, rest-out e, eq-eqb _ _ (t .link ∙ q), eq-eqb _ _ b, m)
 
+    -- or it goes on
     pub turning-next : isNode l y ≡ true → n < l .nodes → v .ident y ≡ identOf k → v .back y ≡ x → Turning l v k (n + 1) y (v .forward y)
     unfolding turn
     turning-next e h i b =
@@ -154,14 +177,15 @@ module _ (l : Layout) (v : View) (k : ℕ) where
         }
 
 -- of the cells from a on the first is used, or not
-pub used-in : (v : View) (a n : ℕ) → (v .ident a ≡ 0 → ⊥) → used v a (suc n) ≡ a ∷ used v (suc a) n
+used-in : (v : View) (a n : ℕ) → (v .ident a ≡ 0 → ⊥) → used v a (suc n) ≡ a ∷ used v (suc a) n
 unfolding used
 used-in v a n h = rw (used, ne-eqb _ _ h)
 
-pub used-out : (v : View) (a n : ℕ) → v .ident a ≡ 0 → used v a (suc n) ≡ used v (suc a) n
+used-out : (v : View) (a n : ℕ) → v .ident a ≡ 0 → used v a (suc n) ≡ used v (suc a) n
 unfolding used
 used-out v a n h = rw (used, eq-eqb _ _ h)
 
+-- of no cells none
 pub used-none : (v : View) (a : ℕ) → used v a 0 ≡ []
 unfolding used
 used-none v a = refl
@@ -186,6 +210,17 @@ used-length v a (suc n) = by (ℕ-discrete (v .ident a) 0) (used-length v (suc a
     by (yes e) h = rw (used-out v a n e) (omega arith)
     by (no e) h = rw (used-in v a n e) (omega arith)
 
+-- of the cells from a up to e, one by one
+module _ (v : View) (a e : ℕ) (h : a < e) where
+  one-left : e - a ≡ suc (e - (a + 1))
+  one-left = omega arith
+
+  pub used-one : (v .ident a ≡ 0 → ⊥) → length (used v a (e - a)) ≡ length (used v (a + 1) (e - (a + 1))) + 1
+  used-one q = rw (one-left, used-in v a (e - (a + 1)) q, ← add-one a) (omega arith)
+
+  pub used-skip : v .ident a ≡ 0 → length (used v a (e - a)) ≡ length (used v (a + 1) (e - (a + 1)))
+  used-skip q = rw (one-left, used-out v a (e - (a + 1)) q, ← add-one a)
+
 -- the answer of a turn: what was tested, and the number of members
 members-said : (b : Bool) (m n : ℕ) → Members n ≡ cond b (Members m) Broken → (b ≡ true) × (m ≡ n)
 members-said true m n e = (refl, cc)
@@ -196,6 +231,7 @@ broken-said true m e = let z : _≡_ {A = ℕ} 0 1 = cc in absurd (omega arith)
 broken-said false m e = refl
 
 module _ (l : Layout) (v : View) (k : ℕ) where
+  -- the answer of the turn round list k
   abbrev tested : Bool
   tested = eqb (v .ident k) (identOf k) && turn v k k (sequenceIn l v k)
 
@@ -207,14 +243,19 @@ module _ (l : Layout) (v : View) (k : ℕ) where
       let b = both (eqb (v .ident k) (identOf k)) (turn v k k (sequenceIn l v k)) (s .0) in
       (b .0, b .1, s .1)
 
+  -- the members that it counts are those of the sequence, no more than there are nodes
   pub ring-length : (n : ℕ) → Members n ≡ ringIn l v k → length (sequenceIn l v k) ≡ n
   ring-length n e = ring-said n e .2
 
+  pub ring-few : (n : ℕ) → Members n ≡ ringIn l v k → n ≤ l .nodes
+  ring-few n e = rw (ring-length n e) at (trail-length (v .forward) (isNode l) (l .nodes) (v .forward k))
+
+  -- a list holds where its count is that number
   pub ring-holds : (n count : ℕ) → Members n ≡ ringIn l v k → count ≡ n → holds v k count (sequenceIn l v k) ≡ true
   unfolding holds
   ring-holds n count e q = let s = ring-said n e in rw (s .0, s .1, eq-eqb _ _ (q ∙ sym (s .2)))
 
-  -- a list does not hold where its count is another or its turn is broken
+  -- and does not where its count is another or its turn is broken
   pub ring-miscount : (n count : ℕ) → Members n ≡ ringIn l v k → (count ≡ n → ⊥) → holds v k count (sequenceIn l v k) ≡ false
   unfolding holds
   ring-miscount n count e q = let s = ring-said n e in rw (s .0, s .1, ne-eqb _ _ (λ r. q (r ∙ s .2)))
@@ -223,24 +264,12 @@ module _ (l : Layout) (v : View) (k : ℕ) where
   unfolding ringIn holds
   ring-not count e = rw (← and-assoc, broken-said tested (length (sequenceIn l v k)) e)
 
+-- the count of a list that holds
 holds-count : (v : View) (k n : ℕ) (s : List ℕ) → holds v k n s ≡ true → n ≡ length s
 unfolding holds
 holds-count v k n s e =
     let a = both (eqb (v .ident k) (identOf k)) (turn v k k s && eqb n (length s)) e in
     eqb-true _ _ (both (turn v k k s) (eqb n (length s)) (a .1) .1)
-
--- the lists below n hold, so each of them does
-pub all-hold : (l : Layout) (v : View) (count : ℕ → ℕ) (n k : ℕ) → allHold l v count n ≡ true → k < n → holds v k (count k) (sequenceIn l v k) ≡ true
-unfolding allHold
-all-hold l v count zero k e h = absurd (omega arith)
-all-hold l v count (suc n) k e h =
-    let b = both _ _ e in
-    by (ℕ-discrete k n) (b .1) (all-hold l v count n k (b .0))
-  where
-    by : Dec (k ≡ n) → holds v n (count n) (sequenceIn l v n) ≡ true
-        → (k < n → holds v k (count k) (sequenceIn l v k) ≡ true) → holds v k (count k) (sequenceIn l v k) ≡ true
-    by (yes q) t s = rw q t
-    by (no q) t s = s (omega arith)
 
 -- counts that agree give one answer
 all-hold-same : (l : Layout) (v : View) (c d : ℕ → ℕ) (n : ℕ) → ((k : ℕ) → k < n → c k ≡ d k) → allHold l v c n ≡ allHold l v d n
@@ -248,8 +277,17 @@ unfolding allHold
 all-hold-same l v c d zero h = refl
 all-hold-same l v c d (suc n) h = rw (h n (omega arith), all-hold-same l v c d n (λ k q. h k (omega arith)))
 
+-- the number of members of no list, and of one list more
+pub members-none : (l : Layout) (v : View) → 0 ≡ length (members l v 0)
+unfolding members
+members-none l v = refl
+
+pub members-more : (l : Layout) (v : View) (k : ℕ) → length (members l v (k + 1)) ≡ length (members l v k) + length (sequenceIn l v k)
+unfolding members
+members-more l v k = rw add-one (length-append (members l v k) (sequenceIn l v k))
+
 module _ (l : Layout) (v : View) (count : ℕ → ℕ) where
-  -- one list more
+  -- no list, and one list more
   pub all-hold-none : allHold l v count 0 ≡ true
   unfolding allHold
   all-hold-none = refl
@@ -258,23 +296,20 @@ module _ (l : Layout) (v : View) (count : ℕ → ℕ) where
   unfolding allHold
   all-hold-more k e h = rw (add-one, e, h)
 
-  pub members-none : length (members l v 0) ≡ 0
-  unfolding members
-  members-none = refl
-
-  pub members-more : (k : ℕ) → length (members l v (k + 1)) ≡ length (members l v k) + length (sequenceIn l v k)
-  unfolding members
-  members-more k = rw add-one (length-append (members l v k) (sequenceIn l v k))
-
-  -- the lists hold: the numbers of members and of used nodes decide
-  pub sound-by : allHold l v count (l .lists) ≡ true → soundIn l v count ≡ eqb (length (members l v (l .lists))) (length (used v (firstNode l) (l .nodes)))
+  -- all lists hold: the numbers of members and of used nodes decide
+  pub sound-by : (k m n : ℕ) → k ≡ l .lists → allHold l v count k ≡ true → m ≡ length (members l v k)
+      → n ≡ length (used v (firstNode l) (l .nodes)) → eqb m n ≡ soundIn l v count
   unfolding soundIn
-  sound-by e = rw e
+  sound-by k m n q e x y =
+      let all : allHold l v count (l .lists) ≡ true = rw q at e in
+      rw (x, y, q, all)
 
+  -- sound: each list holds
   pub sound-hold : soundIn l v count ≡ true → (k : ℕ) → k < l .lists → holds v k (count k) (sequenceIn l v k) ≡ true
   unfolding soundIn
-  sound-hold e k h = all-hold l v count (l .lists) k (both _ _ e .0) h
+  sound-hold e k h = all-hold-at l v count (l .lists) k (both _ _ e .0) h
 
+  -- one list does not hold: not sound
   pub sound-not : (k : ℕ) → k < l .lists → holds v k (count k) (sequenceIn l v k) ≡ false → false ≡ soundIn l v count
   sound-not k h n = by (soundIn l v count) refl
     where
@@ -287,11 +322,15 @@ module _ (l : Layout) (v : View) (count : ℕ → ℕ) where
   sound-count e k h = holds-count v k (count k) (sequenceIn l v k) (sound-hold e k h)
 
 -- soundness as decided from the columns and the counts is that of the words
-pub sound-loaded : (l : Layout) (w i f b : List ℕ) (count : ℕ → ℕ) → Loaded l w i f b
-    → ((k : ℕ) → k < l .lists → count k ≡ countIn w k) → soundIn l (columns i f b) count ≡ soundOf l w
+pub sound-loaded : (l : Layout) (w i f b : List ℕ) (count : ℕ → ℕ) {r : Bool} → Loaded l w i f b
+    → ((k : ℕ) → k < l .lists → count k ≡ countIn w k) → r ≡ soundIn l (columns i f b) count → r ≡ soundOf l w
 unfolding soundIn
-sound-loaded l w i f b count h c =
-    rw (loaded-view l w i f b h, all-hold-same l (viewOf l w) count (countIn w) (l .lists) c)
+sound-loaded l w i f b count h c e =
+    e ∙ rw (loaded-view l w i f b h, all-hold-same l (viewOf l w) count (countIn w) (l .lists) c)
+
+-- and the sequence of a list is that of the words
+pub sequence-loaded : (l : Layout) (w i f b : List ℕ) (k : ℕ) → Loaded l w i f b → sequenceIn l (columns f f f) k ≡ sequenceOf l w k
+sequence-loaded l w i f b k h = ap (λ (v : View). sequenceIn l v k) (loaded-view l w i f b h)
 
 -- the cell in front of a position of list k: its link is the cell at the position, and it is a cell of the store
 module _ (l : Layout) (v : View) (k : ℕ) where

@@ -1,17 +1,15 @@
 -- The columns that a store's cells are read into, and what is decided from them.
-use Prim.Native.Nat.{ℕ, _<_, _≤_}
+use Prim.Native.Nat.{ℕ}
 use mathlib.Core.Path.{_≡_}
 use mathlib.Core.List.{List}
-use mathlib.Core.Bool.{Bool, cond, _&&_}
-use lib.Dec.{eqb, ltb}
+use mathlib.Core.Bool.{cond, _&&_}
+use lib.Dec.{eqb}
 use lib.ListN.{length, getD}
 use Rattle.layout.specs.declared.Layout.{Layout}
-use Rattle.layout.specs.Words.{InRange, ask, cellCount, identAt, forwardAt, backAt, identOf}
-use Rattle.lists.specs.Decide.{View, sequenceIn, turn, sequenceOf, soundOf}
+use Rattle.layout.specs.Words.{InRange, cellCount, identAt, forwardAt, backAt, identOf}
+use Rattle.lists.specs.Decide.{View, sequenceIn, turn}
 use Rattle.survey.specs.declared.Round.{Round}
 use Rattle.survey.specs.declared.Round.the-variants.{Members, Broken}
-use Rattle.survey.specs.declared.Found.{Found}
-use Rattle.survey.specs.declared.Found.the-variants.{Cell, Unsound, Beyond}
 
 -- columns as a view of the cells
 abbrev pub columns : List ℕ → List ℕ → List ℕ → View
@@ -35,10 +33,3 @@ pub record Loaded (l : Layout) (w i f b : List ℕ) : Type 0 where
 unfoldable pub ringIn : Layout → View → ℕ → Round
 ringIn l v k =
     cond (eqb (v .ident k) (identOf k) && turn v k k (sequenceIn l v k)) (Members (length (sequenceIn l v k))) Broken
-
--- the cell of list k at position p
-unfoldable pub foundIn : Layout → List ℕ → ℕ → ℕ → Found
-foundIn l w k p =
-    ask (soundOf l w) Unsound
-    (ask (ltb p (length (sequenceOf l w k))) Beyond
-    (Cell (getD (sequenceOf l w k) p 0)))

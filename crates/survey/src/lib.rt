@@ -7,20 +7,13 @@ ghost use Prim.Native.Nat.{ℕ, _+_, _*_, _-_, _<_, _≤_};
 ghost use mathlib.Core.List.{_∷_};
 ghost use lib.ListN.{length, getD};
 ghost use Rattle.layout.specs.Words.{Laid, InRange, cellCount, firstNode, countAt};
-ghost use Rattle.lists.specs.Decide.{sequenceIn, used, soundIn, sequenceOf, soundOf};
-ghost use Rattle.survey.specs.Survey.{columns, Columns, Loaded, ringIn, foundIn};
+ghost use Rattle.lists.specs.Decide.{sequenceIn, used, soundIn};
+ghost use Rattle.survey.specs.Survey.{columns, Columns, Loaded, ringIn};
 
 // A turn round a list: the number of its members, or something on the way is wrong.
 pub enum Round {
     Members(u16),
     Broken,
-}
-
-// What stands at a position of a list.
-pub enum Found {
-    Cell(u16),
-    Unsound,
-    Beyond,
 }
 
 // The first words of a cell.
@@ -43,14 +36,14 @@ fn links_of(part: &[u16]) -> Links
 }
 
 // A column, of which a part is used.
-fn column() -> [u16; 2008]
+pub fn column() -> [u16; 2008]
     ensures { λ r. ⌜ 2008 ≡ length r ⌝ }
 {
     [0; 2008]
 }
 
 // Reads each cell into the columns.
-fn load(words: &[u16], l: Layout, idents: &mut [u16], forwards: &mut [u16], backs: &mut [u16])
+pub fn load(words: &[u16], l: Layout, idents: &mut [u16], forwards: &mut [u16], backs: &mut [u16])
     requires { ⌜ Laid l (now words) × Columns l (now idents) (now forwards) (now backs) ⌝ }
     ensures { λ _. ⌜ Loaded l (now (words .entry)) (now (idents .exit)) (now (forwards .exit)) (now (backs .exit)) ⌝ }
 {
@@ -67,7 +60,7 @@ fn load(words: &[u16], l: Layout, idents: &mut [u16], forwards: &mut [u16], back
 }
 
 // The count of list k.
-pub fn count(words: &[u16], l: Layout, k: u16) -> u16
+fn count(words: &[u16], l: Layout, k: u16) -> u16
     requires { ⌜ Laid l (now words) × (k < l .lists) ⌝ }
     ensures { λ r. ⌜ r ≡ getD (now (words .entry)) (countAt k) 0 ⌝ }
 {
@@ -75,7 +68,7 @@ pub fn count(words: &[u16], l: Layout, k: u16) -> u16
 }
 
 // The counts of all lists.
-fn all_counts(words: &[u16], l: Layout) -> [u16; 8]
+pub fn all_counts(words: &[u16], l: Layout) -> [u16; 8]
     requires { ⌜ Laid l (now words) ⌝ }
     ensures { λ r. ⌜ (8 ≡ length r) × ((k : ℕ) → k < l .lists → getD r k 0 ≡ getD (now (words .entry)) (countAt k) 0) ⌝ }
 {
@@ -172,39 +165,4 @@ pub fn cell_before(forwards: &[u16], l: Layout, k: u16, p: u16) -> u16
         i += 1;
     }
     c
-}
-
-// Are the lists of the lent words sound?
-pub fn sound_words(words: &[u16], l: Layout) -> bool
-    requires { ⌜ Laid l (now words) ⌝ }
-    ensures { λ r. ⌜ r ≡ soundOf l (now (words .entry)) ⌝ }
-{
-    let n = l.cell_count() as usize;
-    let mut idents = column();
-    let mut forwards = column();
-    let mut backs = column();
-    load(words, l, &mut idents[..n], &mut forwards[..n], &mut backs[..n]);
-    let counts = all_counts(words, l);
-    sound(&idents[..n], &forwards[..n], &backs[..n], counts, l)
-}
-
-// The cell of list k at position p, where the lists are sound.
-pub fn find(words: &[u16], l: Layout, k: u16, p: u16) -> Found
-    requires { ⌜ Laid l (now words) × (k < l .lists) ⌝ }
-    ensures { λ r. ⌜ r ≡ foundIn l (now (words .entry)) k p ⌝ }
-{
-    let n = l.cell_count() as usize;
-    let mut idents = column();
-    let mut forwards = column();
-    let mut backs = column();
-    load(words, l, &mut idents[..n], &mut forwards[..n], &mut backs[..n]);
-    let counts = all_counts(words, l);
-    if !sound(&idents[..n], &forwards[..n], &backs[..n], counts, l) {
-        return Found::Unsound;
-    }
-    if counts[k as usize] <= p {
-        return Found::Beyond;
-    }
-    let a = cell_before(&forwards[..n], l, k, p);
-    Found::Cell(forwards[a as usize])
 }

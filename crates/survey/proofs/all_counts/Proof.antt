@@ -1,17 +1,14 @@
 -- `survey::all_counts` meets its contract. The loop's invariant: the counts of the lists below k are filled in.
-use Prim.Native.Nat.{ℕ, _+_, _-_, _≤_}
-use mathlib.Core.Path.{_≡_, refl, ap, _∙_, sym}
+use Prim.Native.Nat.{_-_, _≤_}
+use mathlib.Core.Path.{_≡_, refl, sym}
 use native.Mathlib.Omega.{arith}
-use lib.ListN.{length, getD, length-set}
+use lib.ListN.{length, length-set}
 use borrow.Author.Needs.{needs}
 use Rattle.layout.specs.Words.{Laid}
 use Rattle.lists.specs.Decide.{countIn}
 use Rattle.survey.proofs.Laws.{Filled, filled-more}
 use Rattle.survey.proofs.all_counts.Statement.{statement}
 use Rattle.survey.proofs.all_counts.Tie as tie
-use Rattle.survey.proofs.all_counts.Reads as reads
-use Rattle.survey.proofs.all_counts.Lts as lts
-use Rattle.survey.proofs.count.Reads as count-reads
 
 abbrev Inv-loop : tie.InvT-loop
 Inv-loop words l r₀ k₀ r k =
@@ -20,41 +17,38 @@ Inv-loop words l r₀ k₀ r k =
 abbrev μ-loop : tie.MeasureT-loop
 μ-loop words l r₀ k₀ r k = l .lists - k
 
--- src/lib.rt:84:5
 loop-holds : tie.Need-loop-holds Inv-loop μ-loop
-loop-holds c = ?
+loop-holds c = (c .before .pre, omega arith, refl, λ j h. absurd (omega arith))
 
--- src/lib.rt:85:25
 count-requires : tie.Need-count-requires Inv-loop μ-loop
-count-requires c κs = ?
+count-requires c κs = search needs
 
--- src/lib.rt:85:11
 cast-r : tie.Need-cast-r Inv-loop μ-loop
-cast-r c = ?
+cast-r c = search needs
 
--- src/lib.rt:85:9
 mul-r : tie.Need-mul-r Inv-loop μ-loop
-mul-r c = ?
+mul-r c = search needs
 
--- src/lib.rt:85:9
 array-write-r : tie.Need-array-write-r Inv-loop μ-loop
-array-write-r c = ?
+array-write-r c = search needs
 
--- src/lib.rt:86:9
 add-k : tie.Need-add-k Inv-loop μ-loop
-add-k c = ?
+add-k c = search needs
 
--- src/lib.rt:84:5
 loop-less : tie.Need-loop-less Inv-loop μ-loop
-loop-less c = ?
+loop-less c = search needs
 
--- src/lib.rt:84:5
 loop-again : tie.Need-loop-again Inv-loop μ-loop
-loop-again c = ?
+loop-again c =
+    let t = c .before .before .before .loop in
+    (t .inv .0, omega arith, simp length-set (t .inv .2),
+      filled-more (countIn (c .before .before .before .before .before .args .words .now)) (t .r) (t .k) (c .count .result)
+      (omega arith) (c .count .ensures) (t .inv .3))
 
--- src/lib.rt:78:1
 returns : tie.Need-returns Inv-loop μ-loop
-returns c = ?
+returns c =
+    let t = c .before .before .loop in
+    (sym (t .inv .2), λ k h. t .inv .3 k (omega arith))
 
 pub all-counts-spec : {M : Type 1} → statement M
 all-counts-spec =

@@ -1,125 +1,130 @@
 -- `survey::load` meets its contract. The loop's invariant: the columns hold the words of the cells below i.
 use Prim.Native.Nat.{ℕ, _+_, _-_, _≤_}
-use mathlib.Core.Path.{_≡_, refl, ap, _∙_, sym}
+use mathlib.Core.Path.{_≡_, ap, _∙_, sym}
 use native.Mathlib.Omega.{arith}
 use lib.ListN.{length, getD, length-set}
 use borrow.Author.Needs.{needs}
-use Rattle.layout.specs.Words.{Laid, cellCount}
+use Rattle.layout.specs.Words.{Laid, cellCount, cellAt}
 use Rattle.layout.proofs.Laws.{cell-fits}
 use Rattle.lists.specs.Decide.{viewOf}
-use Rattle.survey.proofs.Laws.{Filled, filled-more, filled-all, part-length, part-at, part-first, cell-beyond}
+use Rattle.survey.proofs.Laws.{Filled, filled-more, loaded-all, part-length, part-at, part-first}
 use Rattle.survey.proofs.load.Statement.{statement}
 use Rattle.survey.proofs.load.Tie as tie
-use Rattle.survey.proofs.load.Reads as reads
-use Rattle.survey.proofs.load.Lts as lts
-use Rattle.layout.proofs.Layout.cell.Reads as cell-reads
-use Rattle.layout.proofs.Layout.cell_count.Reads as cell-count-reads
-use Rattle.survey.proofs.links_of.Reads as links-of-reads
 
 abbrev Inv-loop : tie.InvT-loop
 Inv-loop words l idents₀ forwards₀ backs₀ n i₀ idents forwards backs i =
+    let v = viewOf l words in
     (i ≤ n) × Laid l words × (n ≡ cellCount l)
     × (length idents ≡ n) × (length forwards ≡ n) × (length backs ≡ n)
-    × Filled (viewOf l words .ident) idents i × Filled (viewOf l words .forward) forwards i × Filled (viewOf l words .back) backs i
+    × Filled (v .ident) idents i × Filled (v .forward) forwards i × Filled (v .back) backs i
 
 abbrev μ-loop : tie.MeasureT-loop
 μ-loop words l idents₀ forwards₀ backs₀ n i₀ idents forwards backs i = n - i
 
--- src/lib.rt:57:9
 cell-count-requires : tie.Need-cell-count-requires Inv-loop μ-loop
-cell-count-requires c κs = ?
+cell-count-requires c κs = search needs
 
--- src/lib.rt:59:5
 loop-holds : tie.Need-loop-holds Inv-loop μ-loop
-loop-holds c = ?
+loop-holds c =
+    let s = c .before .before .before .before .before in
+    (omega arith, s .pre .0, c .cell-count .ensures,
+      omega arith, omega arith, omega arith,
+      λ j h. absurd (omega arith), λ j h. absurd (omega arith), λ j h. absurd (omega arith))
 
--- src/lib.rt:60:13
 cell-requires : tie.Need-cell-requires Inv-loop μ-loop
-cell-requires c κs = ?
+cell-requires c κs = search needs
 
--- src/lib.rt:61:26
+-- the cell's words stand within the store
+fits : (c : tie.After-cell Inv-loop μ-loop) → c .cell .result + 3 ≤ length (c .before .before .before .before .before .before .before .before .args .words .now)
+fits c =
+    let v = c .before .before .loop .inv in
+    omega (arith, cell-fits (c .before .before .before .before .before .before .before .before .args .l) (c .before .before .loop .i) (v .1 .inRange) (omega arith))
+
 mul-links-of : tie.Need-mul-links-of Inv-loop μ-loop
-mul-links-of c = ?
+mul-links-of c = omega (arith, fits c)
 
--- src/lib.rt:61:26
 sub-links-of : tie.Need-sub-links-of Inv-loop μ-loop
-sub-links-of c = ?
+sub-links-of c = omega (arith, fits c)
 
--- src/lib.rt:61:26
 part-links-of-start : tie.Need-part-links-of-start Inv-loop μ-loop
-part-links-of-start c = ?
+part-links-of-start c = omega (arith, fits c)
 
--- src/lib.rt:61:26
 part-links-of-end : tie.Need-part-links-of-end Inv-loop μ-loop
-part-links-of-end c = ?
+part-links-of-end c = search needs
 
--- src/lib.rt:61:13
 links-of-requires : tie.Need-links-of-requires Inv-loop μ-loop
-links-of-requires c κs = ?
+links-of-requires c κs =
+    let s = c .before .before .before .before .before .before .before .before .before in
+    omega (arith, fits (c .before), part-length (s .args .words .now) (c .before .cell .result))
 
--- src/lib.rt:62:16
 cast-idents : tie.Need-cast-idents Inv-loop μ-loop
-cast-idents c = ?
+cast-idents c = search needs
 
--- src/lib.rt:62:9
 mul-idents : tie.Need-mul-idents Inv-loop μ-loop
-mul-idents c = ?
+mul-idents c = search needs
 
--- src/lib.rt:62:9
 slice-write-idents : tie.Need-slice-write-idents Inv-loop μ-loop
-slice-write-idents c = ?
+slice-write-idents c = search needs
 
--- src/lib.rt:63:18
 cast-forwards : tie.Need-cast-forwards Inv-loop μ-loop
-cast-forwards c = ?
+cast-forwards c = search needs
 
--- src/lib.rt:63:9
 mul-forwards : tie.Need-mul-forwards Inv-loop μ-loop
-mul-forwards c = ?
+mul-forwards c = search needs
 
--- src/lib.rt:63:9
 slice-write-forwards : tie.Need-slice-write-forwards Inv-loop μ-loop
-slice-write-forwards c = ?
+slice-write-forwards c = search needs
 
--- src/lib.rt:64:15
 cast-backs : tie.Need-cast-backs Inv-loop μ-loop
-cast-backs c = ?
+cast-backs c = search needs
 
--- src/lib.rt:64:9
 mul-backs : tie.Need-mul-backs Inv-loop μ-loop
-mul-backs c = ?
+mul-backs c = search needs
 
--- src/lib.rt:64:9
 slice-write-backs : tie.Need-slice-write-backs Inv-loop μ-loop
-slice-write-backs c = ?
+slice-write-backs c = search needs
 
--- src/lib.rt:65:9
 add-i : tie.Need-add-i Inv-loop μ-loop
-add-i c = ?
+add-i c = omega arith
 
--- src/lib.rt:59:5
 loop-less : tie.Need-loop-less Inv-loop μ-loop
-loop-less c = ?
+loop-less c = omega arith
 
--- src/lib.rt:59:5
 loop-again : tie.Need-loop-again Inv-loop μ-loop
-loop-again c = ?
+loop-again c =
+    let s = c .before .before .before .before .before .before .before .before .before .before in
+    let t = c .before .before .before .before .loop in
+    let w = s .args .words .now in
+    let v = viewOf (s .args .l) w in
+    let a = c .before .before .cell .result in
+    let r = c .links-of .result in
+    let e = c .links-of .ensures in
+    let at : a ≡ cellAt (s .args .l) (t .i) = c .before .before .cell .ensures in
+    (omega arith, t .inv .1, t .inv .2,
+      simp length-set (t .inv .3), simp length-set (t .inv .4), simp length-set (t .inv .5),
+      filled-more (v .ident) (t .idents) (t .i) (r .ident) (omega arith)
+      (e .0 ∙ part-first w a ∙ ap (λ (x : ℕ). getD w x 0) at) (t .inv .6),
+      filled-more (v .forward) (t .forwards) (t .i) (r .forward) (omega arith)
+      (e .1 ∙ part-at w a 1 ∙ ap (λ (x : ℕ). getD w (x + 1) 0) at) (t .inv .7),
+      filled-more (v .back) (t .backs) (t .i) (r .back) (omega arith)
+      (e .2 ∙ part-at w a 2 ∙ ap (λ (x : ℕ). getD w (x + 2) 0) at) (t .inv .8))
 
--- src/lib.rt:53:1
 same-length : tie.Need-same-length Inv-loop μ-loop
-same-length c = ?
+same-length c = omega arith
 
--- src/lib.rt:53:1
 same-length-2 : tie.Need-same-length-2 Inv-loop μ-loop
-same-length-2 c = ?
+same-length-2 c = omega arith
 
--- src/lib.rt:53:1
 same-length-3 : tie.Need-same-length-3 Inv-loop μ-loop
-same-length-3 c = ?
+same-length-3 c = omega arith
 
--- src/lib.rt:53:1
 returns : tie.Need-returns Inv-loop μ-loop
-returns c = ?
+returns c =
+    let s = c .before .before .before .before .before .before .before .args in
+    let t = c .before .loop in
+    let e : t .i ≡ cellCount (s .l) = omega arith in
+    loaded-all (s .l) (s .words .now) (t .idents) (t .forwards) (t .backs) (t .i) (t .inv .1) (sym e)
+    (omega arith) (t .inv .6) (omega arith) (t .inv .7) (omega arith) (t .inv .8)
 
 pub load-spec : {M : Type 1} → statement M
 load-spec =

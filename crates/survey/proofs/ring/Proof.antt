@@ -1,18 +1,17 @@
 -- `survey::ring` meets its contract. The loop's invariant: the turn has met n members and comes to `at`.
-use Prim.Native.Nat.{ℕ, _+_, _-_, _≤_, _<_}
-use mathlib.Core.Path.{_≡_, refl, ap, _∙_, sym}
+use Prim.Native.Nat.{ℕ, _-_, _<_}
+use mathlib.Core.Bool.{true, false}
+use mathlib.Core.Path.{_≡_, _∙_, sym}
 use native.Mathlib.Omega.{arith}
-use lib.ListN.{length, getD}
 use borrow.Author.Needs.{needs}
 use Rattle.layout.proofs.Laws.{is-node}
+use Rattle.layout.specs.declared.Layout.{Layout}
+use Rattle.layout.specs.Words.{cellCount, isNode, identOf}
+use Rattle.lists.specs.Decide.{View}
 use Rattle.survey.specs.Survey.{columns, Columns}
 use Rattle.survey.proofs.Laws.{Turning, turning-first, turning-next, ring-foreign, ring-long, ring-other, ring-unback, ring-open, ring-loose, ring-closed}
 use Rattle.survey.proofs.ring.Statement.{statement}
 use Rattle.survey.proofs.ring.Tie as tie
-use Rattle.survey.proofs.ring.Reads as reads
-use Rattle.survey.proofs.ring.Lts as lts
-use Rattle.layout.proofs.Layout.ident.Reads as ident-reads
-use Rattle.layout.proofs.Layout.is_node.Reads as is-node-reads
 
 abbrev Inv-loop : tie.InvT-loop
 Inv-loop idents forwards backs l k id before₀ at₀ n₀ before at n =
@@ -21,117 +20,141 @@ Inv-loop idents forwards backs l k id before₀ at₀ n₀ before at n =
 abbrev μ-loop : tie.MeasureT-loop
 μ-loop idents forwards backs l k id before₀ at₀ n₀ before at n = l .nodes - n
 
--- src/lib.rt:96:9
 ident-requires : tie.Need-ident-requires Inv-loop μ-loop
-ident-requires c κs = ?
+ident-requires c κs = search needs
 
--- src/lib.rt:97:8
 mul-if1 : tie.Need-mul-if1 Inv-loop μ-loop
-mul-if1 c = ?
+mul-if1 c = search needs
 
--- src/lib.rt:97:8
 shared-slice-read-if1 : tie.Need-shared-slice-read-if1 Inv-loop μ-loop
-shared-slice-read-if1 c = ?
+shared-slice-read-if1 c = search needs
 
--- src/lib.rt:98:9
 returns : tie.Need-returns Inv-loop μ-loop
-returns c = ?
+returns c =
+    let s = c .before .before .before .before .before .before .args in
+    ring-foreign (s .l) (columns (s .idents .now) (s .forwards .now) (s .backs .now)) (s .k)
+    (λ e. c .if1 .taken (e ∙ sym (c .before .before .ident .ensures)))
 
--- src/lib.rt:101:18
 mul-at : tie.Need-mul-at Inv-loop μ-loop
-mul-at c = ?
+mul-at c = search needs
 
--- src/lib.rt:101:18
 shared-slice-read-at : tie.Need-shared-slice-read-at Inv-loop μ-loop
-shared-slice-read-at c = ?
+shared-slice-read-at c = search needs
 
--- src/lib.rt:103:5
 loop-holds : tie.Need-loop-holds Inv-loop μ-loop
-loop-holds c = ?
+loop-holds c =
+    let s = c .before .before .before .before .before .before .before in
+    (s .pre .0, s .pre .1, turning-first (s .args .l) (columns (s .args .idents .now) (s .args .forwards .now) (s .args .backs .now)) (s .args .k))
 
--- src/lib.rt:103:11
+-- the places in the loop, and what is known there
+abbrev At : Type 0
+At = tie.At-loop Inv-loop μ-loop
+
+abbrev layout : At → Layout
+layout c = c .before .before .before .before .before .before .before .before .args .l
+
+abbrev list : At → ℕ
+list c = c .before .before .before .before .before .before .before .before .args .k
+
+abbrev view : At → View
+view c = let s = c .before .before .before .before .before .before .before .before .args in columns (s .idents .now) (s .forwards .now) (s .backs .now)
+
+ident-is : (c : At) → c .before .before .before .before .ident .result ≡ identOf (list c)
+ident-is c = c .before .before .before .before .ident .ensures
+
+at-node : (c : tie.Then2 Inv-loop μ-loop) → isNode (layout (c .before .before)) (c .before .before .loop .at) ≡ true
+at-node c = sym (c .before .is-node .ensures) ∙ c .if2 .taken
+
+inside : (c : tie.Then2 Inv-loop μ-loop) → c .before .before .loop .at < cellCount (layout (c .before .before))
+inside c = is-node (layout (c .before .before)) (c .before .before .loop .at) (at-node c) .high
+
+not-node : (c : tie.Else2 Inv-loop μ-loop) → isNode (layout (c .before .before)) (c .before .before .loop .at) ≡ false
+not-node c = sym (c .before .is-node .ensures) ∙ c .if2 .left
+
 is-node-requires : tie.Need-is-node-requires Inv-loop μ-loop
-is-node-requires c κs = ?
+is-node-requires c κs = search needs
 
--- src/lib.rt:105:13
 returns-2 : tie.Need-returns-2 Inv-loop μ-loop
-returns-2 c = ?
+returns-2 c =
+    let h = c .before .before .before .before in
+    ring-long (layout h) (view h) (list h) (h .loop .n) (h .loop .before) (h .loop .at) (h .loop .inv .2)
+    (h .loop .inv .1) (at-node (c .before .before)) (c .if3 .taken)
 
--- src/lib.rt:107:19
 cast-if4 : tie.Need-cast-if4 Inv-loop μ-loop
-cast-if4 c = ?
+cast-if4 c = omega (arith, inside (c .before .before))
 
--- src/lib.rt:107:12
 mul-if4 : tie.Need-mul-if4 Inv-loop μ-loop
-mul-if4 c = ?
+mul-if4 c = omega (arith, inside (c .before .before))
 
--- src/lib.rt:107:12
 shared-slice-read-if4 : tie.Need-shared-slice-read-if4 Inv-loop μ-loop
-shared-slice-read-if4 c = ?
+shared-slice-read-if4 c = omega (arith, inside (c .before .before .before))
 
--- src/lib.rt:108:13
 returns-3 : tie.Need-returns-3 Inv-loop μ-loop
-returns-3 c = ?
+returns-3 c =
+    let h = c .before .before .before .before .before .before in
+    ring-other (layout h) (view h) (list h) (h .loop .n) (h .loop .before) (h .loop .at) (h .loop .inv .2)
+    (at-node (c .before .before .before .before)) (omega arith) (λ e. c .if4 .taken (e ∙ sym (ident-is h)))
 
--- src/lib.rt:110:18
 cast-if5 : tie.Need-cast-if5 Inv-loop μ-loop
-cast-if5 c = ?
+cast-if5 c = omega (arith, inside (c .before .before .before .before))
 
--- src/lib.rt:110:12
 mul-if5 : tie.Need-mul-if5 Inv-loop μ-loop
-mul-if5 c = ?
+mul-if5 c = omega (arith, inside (c .before .before .before .before))
 
--- src/lib.rt:110:12
 shared-slice-read-if5 : tie.Need-shared-slice-read-if5 Inv-loop μ-loop
-shared-slice-read-if5 c = ?
+shared-slice-read-if5 c = omega (arith, inside (c .before .before .before .before .before))
 
--- src/lib.rt:111:13
 returns-4 : tie.Need-returns-4 Inv-loop μ-loop
-returns-4 c = ?
+returns-4 c =
+    let h = c .before .before .before .before .before .before .before .before in
+    ring-unback (layout h) (view h) (list h) (h .loop .n) (h .loop .before) (h .loop .at) (h .loop .inv .2)
+    (at-node (c .before .before .before .before .before .before)) (omega arith) (c .before .before .if4 .left ∙ ident-is h) (c .if5 .taken)
 
--- src/lib.rt:114:23
 cast-at : tie.Need-cast-at Inv-loop μ-loop
-cast-at c = ?
+cast-at c = omega (arith, inside (c .before .before .before .before .before .before))
 
--- src/lib.rt:114:14
 mul-at-2 : tie.Need-mul-at-2 Inv-loop μ-loop
-mul-at-2 c = ?
+mul-at-2 c = omega (arith, inside (c .before .before .before .before .before .before))
 
--- src/lib.rt:114:14
 shared-slice-read-at-2 : tie.Need-shared-slice-read-at-2 Inv-loop μ-loop
-shared-slice-read-at-2 c = ?
+shared-slice-read-at-2 c = omega (arith, inside (c .before .before .before .before .before .before .before))
 
--- src/lib.rt:115:9
 add-n : tie.Need-add-n Inv-loop μ-loop
-add-n c = ?
+add-n c = omega arith
 
--- src/lib.rt:103:5
 loop-less : tie.Need-loop-less Inv-loop μ-loop
-loop-less c = ?
+loop-less c = search needs
 
--- src/lib.rt:103:5
 loop-again : tie.Need-loop-again Inv-loop μ-loop
-loop-again c = ?
+loop-again c =
+    let h = c .before .before .before .before .before .before .before .before .before in
+    (h .loop .inv .0, h .loop .inv .1,
+      turning-next (layout h) (view h) (list h) (h .loop .n) (h .loop .before) (h .loop .at) (h .loop .inv .2)
+      (at-node (c .before .before .before .before .before .before .before)) (omega arith) (c .before .before .before .if4 .left ∙ ident-is h) (c .before .if5 .left))
 
--- src/lib.rt:118:9
 returns-5 : tie.Need-returns-5 Inv-loop μ-loop
-returns-5 c = ?
+returns-5 c =
+    let h = c .before .before .before in
+    ring-open (layout h) (view h) (list h) (h .loop .n) (h .loop .before) (h .loop .at) (h .loop .inv .2)
+    (not-node (c .before)) (c .if6 .taken)
 
--- src/lib.rt:120:8
 mul-if7 : tie.Need-mul-if7 Inv-loop μ-loop
-mul-if7 c = ?
+mul-if7 c = search needs
 
--- src/lib.rt:120:8
 shared-slice-read-if7 : tie.Need-shared-slice-read-if7 Inv-loop μ-loop
-shared-slice-read-if7 c = ?
+shared-slice-read-if7 c = search needs
 
--- src/lib.rt:121:9
 returns-6 : tie.Need-returns-6 Inv-loop μ-loop
-returns-6 c = ?
+returns-6 c =
+    let h = c .before .before .before .before .before in
+    ring-loose (layout h) (view h) (list h) (h .loop .n) (h .loop .before) (h .loop .at) (h .loop .inv .2)
+    (not-node (c .before .before .before)) (c .if7 .taken)
 
--- src/lib.rt:92:1
 returns-7 : tie.Need-returns-7 Inv-loop μ-loop
-returns-7 c = ?
+returns-7 c =
+    let h = c .before .before .before .before .before in
+    ring-closed (layout h) (view h) (list h) (h .loop .n) (h .loop .before) (h .loop .at) (h .loop .inv .2)
+    (h .before .before .if1 .left ∙ ident-is h) (not-node (c .before .before .before)) (c .before .before .if6 .left) (c .if7 .left)
 
 pub ring-spec : {M : Type 1} → statement M
 ring-spec =

@@ -1,19 +1,18 @@
 -- `survey::sound` meets its contract. The loop's invariant: the lists below k hold, and they have `total` members.
-use Prim.Native.Nat.{ℕ, _+_, _*_, _-_, _≤_, _<_}
+use Prim.Native.Nat.{ℕ, _*_, _-_, _≤_}
 use mathlib.Core.Path.{_≡_, refl, ap, _∙_, sym}
-use mathlib.Core.Bool.{true, false}
+use mathlib.Core.Bool.{true}
 use native.Mathlib.Omega.{arith}
 use lib.ListN.{length, getD}
 use borrow.Author.Needs.{needs}
-use Rattle.lists.specs.Decide.{allHold, members}
-use Rattle.survey.specs.Survey.{columns, Columns}
-use Rattle.survey.proofs.Laws.{ring-holds}
+use Rattle.layout.specs.declared.Layout.{Layout}
+use Rattle.layout.specs.Words.{firstNode}
+use Rattle.lists.specs.Decide.{View, allHold, members}
+use Rattle.survey.specs.declared.Round.the-variants.{Members, Broken}
+use Rattle.survey.specs.Survey.{columns, Columns, ringIn}
+use Rattle.survey.proofs.Laws.{ring-holds, ring-length, ring-few, ring-miscount, ring-not, all-hold-none, all-hold-more, members-none, members-more, sound-by, sound-not, used-same}
 use Rattle.survey.proofs.sound.Statement.{statement}
 use Rattle.survey.proofs.sound.Tie as tie
-use Rattle.survey.proofs.sound.Reads as reads
-use Rattle.survey.proofs.sound.Lts as lts
-use Rattle.survey.proofs.ring.Reads as ring-reads
-use Rattle.survey.proofs.used_nodes.Reads as used-nodes-reads
 
 abbrev Inv-loop : tie.InvT-loop
 Inv-loop idents forwards backs l counts total₀ k₀ total k =
@@ -25,65 +24,97 @@ Inv-loop idents forwards backs l counts total₀ k₀ total k =
 abbrev μ-loop : tie.MeasureT-loop
 μ-loop idents forwards backs l counts total₀ k₀ total k = l .lists - k
 
--- src/lib.rt:150:5
 loop-holds : tie.Need-loop-holds Inv-loop μ-loop
-loop-holds c = ?
+loop-holds c =
+    let s = c .before .before .before in
+    let v = columns (s .args .idents .now) (s .args .forwards .now) (s .args .backs .now) in
+    (s .pre, omega arith, all-hold-none (s .args .l) v (λ j. getD (s .args .t4) j 0), members-none (s .args .l) v, omega arith)
 
--- src/lib.rt:151:33
+-- the places in the loop, and what the turn round list k says
+abbrev At : Type 0
+At = tie.At-loop Inv-loop μ-loop
+
+abbrev layout : At → Layout
+layout c = c .before .before .before .before .args .l
+
+abbrev view : At → View
+view c = let s = c .before .before .before .before .args in columns (s .idents .now) (s .forwards .now) (s .backs .now)
+
+abbrev counted : At → ℕ → ℕ
+counted c k = getD (c .before .before .before .before .args .t4) k 0
+
+abbrev found : tie.After-n Inv-loop μ-loop → ℕ
+found c = c .n .given .0 .0
+
+said : (c : tie.After-n Inv-loop μ-loop) → let h = c .before .before .before .before .before in Members (found c) ≡ ringIn (layout h) (view h) (h .loop .k)
+said c = sym (c .n .given .1) ∙ c .before .before .ring .ensures
+
+broken : (c : tie.After-enum-told Inv-loop μ-loop) → let h = c .before .before .before .before .before in Broken ≡ ringIn (layout h) (view h) (h .loop .k)
+broken c = sym (c .enum-told .given .1) ∙ c .before .before .ring .ensures
+
 ring-requires : tie.Need-ring-requires Inv-loop μ-loop
-ring-requires c κs = ?
+ring-requires c κs = search needs
 
--- src/lib.rt:151:28
 enum-known-n : tie.Need-enum-known-n Inv-loop μ-loop
-enum-known-n c = ?
+enum-known-n c = search needs
 
--- src/lib.rt:152:13
 enum-told : tie.Need-enum-told Inv-loop μ-loop
-enum-told c = ?
+enum-told c = search needs
 
--- src/lib.rt:152:13
 returns : tie.Need-returns Inv-loop μ-loop
-returns c = ?
+returns c =
+    let h = c .before .before .before .before .before in
+    sound-not (layout h) (view h) (counted h) (h .loop .k) (c .before .before .before .if1 .taken)
+    (ring-not (layout h) (view h) (h .loop .k) (counted h (h .loop .k)) (broken c))
 
--- src/lib.rt:154:19
 cast-if2 : tie.Need-cast-if2 Inv-loop μ-loop
-cast-if2 c = ?
+cast-if2 c = search needs
 
--- src/lib.rt:154:12
 mul-if2 : tie.Need-mul-if2 Inv-loop μ-loop
-mul-if2 c = ?
+mul-if2 c = search needs
 
--- src/lib.rt:154:12
 array-read-if2 : tie.Need-array-read-if2 Inv-loop μ-loop
-array-read-if2 c = ?
+array-read-if2 c = search needs
 
--- src/lib.rt:155:13
 returns-2 : tie.Need-returns-2 Inv-loop μ-loop
-returns-2 c = ?
+returns-2 c =
+    let h = c .before .before .before .before .before .before .before in
+    let a = c .before .before in
+    sound-not (layout h) (view h) (counted h) (h .loop .k) (omega arith)
+    (ring-miscount (layout h) (view h) (h .loop .k) (found a) (counted h (h .loop .k)) (said a) (c .if2 .taken))
 
--- src/lib.rt:157:9
 add-total : tie.Need-add-total Inv-loop μ-loop
-add-total c = ?
+add-total c =
+    let h = c .before .before .before .before .before .before .before in
+    omega (arith, ring-few (layout h) (view h) (h .loop .k) (found (c .before .before)) (said (c .before .before)))
 
--- src/lib.rt:158:9
 add-k : tie.Need-add-k Inv-loop μ-loop
-add-k c = ?
+add-k c = search needs
 
--- src/lib.rt:150:5
 loop-less : tie.Need-loop-less Inv-loop μ-loop
-loop-less c = ?
+loop-less c = search needs
 
--- src/lib.rt:150:5
 loop-again : tie.Need-loop-again Inv-loop μ-loop
-loop-again c = ?
+loop-again c =
+    let h = c .before .before .before .before .before .before .before in
+    let a = c .before .before in
+    let k = h .loop .k in
+    (h .loop .inv .0, omega arith,
+      all-hold-more (layout h) (view h) (counted h) k (h .loop .inv .2)
+      (ring-holds (layout h) (view h) k (found a) (counted h k) (said a) (c .if2 .left)),
+      omega (arith, members-more (layout h) (view h) k, ring-length (layout h) (view h) k (found a) (said a)),
+      omega (arith, ring-few (layout h) (view h) k (found a) (said a)))
 
--- src/lib.rt:160:14
 used-nodes-requires : tie.Need-used-nodes-requires Inv-loop μ-loop
-used-nodes-requires c κs = ?
+used-nodes-requires c κs = search needs
 
--- src/lib.rt:144:1
 returns-3 : tie.Need-returns-3 Inv-loop μ-loop
-returns-3 c = ?
+returns-3 c =
+    let h = c .before .before .before in
+    let i = h .before .before .before .before .args .idents .now in
+    sound-by (layout h) (view h) (counted h) (h .loop .k) (h .loop .total) (c .used-nodes .result) (omega arith)
+    (h .loop .inv .2) (h .loop .inv .3)
+    (c .used-nodes .ensures ∙ ap length (used-same (columns i i i) (view h) (firstNode (layout h)) (layout h .nodes) refl))
 
 pub sound-spec : {M : Type 1} → statement M
 sound-spec =

@@ -1,19 +1,16 @@
 -- `survey::used_nodes` meets its contract. The loop's invariant: n and the used nodes from i on make up all that are used.
-use Prim.Native.Nat.{ℕ, _+_, _-_, _≤_}
-use mathlib.Core.Path.{_≡_, refl, ap, _∙_, sym}
-use mathlib.Core.List.{_∷_}
+use Prim.Native.Nat.{_+_, _-_, _≤_, _<_}
+use mathlib.Core.Path.{_≡_}
+use mathlib.Core.Logic.{⊎-elim}
 use native.Mathlib.Omega.{arith}
-use native.Mathlib.Numerals.{add-one}
-use lib.ListN.{length, getD}
+use lib.ListN.{length}
+use borrow.Author.Needs.{needs}
+use Rattle.layout.specs.Words.{firstNode}
 use Rattle.lists.specs.Decide.{used}
 use Rattle.survey.specs.Survey.{columns}
-use Rattle.survey.proofs.Laws.{used-in, used-out, used-none, used-length}
+use Rattle.survey.proofs.Laws.{used-one, used-skip, used-none, used-length}
 use Rattle.survey.proofs.used_nodes.Statement.{statement}
 use Rattle.survey.proofs.used_nodes.Tie as tie
-use Rattle.survey.proofs.used_nodes.Reads as reads
-use Rattle.survey.proofs.used_nodes.Lts as lts
-use Rattle.layout.proofs.Layout.cell_count.Reads as cell-count-reads
-use Rattle.layout.proofs.Layout.first_node.Reads as first-node-reads
 
 abbrev Inv-loop : tie.InvT-loop
 Inv-loop idents n₀ i₀ end n i =
@@ -23,49 +20,62 @@ Inv-loop idents n₀ i₀ end n i =
 abbrev μ-loop : tie.MeasureT-loop
 μ-loop idents n₀ i₀ end n i = end - i
 
--- src/lib.rt:132:9
 first-node-requires : tie.Need-first-node-requires Inv-loop μ-loop
-first-node-requires c κs = ?
+first-node-requires c κs = search needs
 
--- src/lib.rt:133:9
 cell-count-requires : tie.Need-cell-count-requires Inv-loop μ-loop
-cell-count-requires c κs = ?
+cell-count-requires c κs = search needs
 
--- src/lib.rt:134:5
 loop-holds : tie.Need-loop-holds Inv-loop μ-loop
-loop-holds c = ?
+loop-holds c = omega arith
 
--- src/lib.rt:135:19
 cast-if1 : tie.Need-cast-if1 Inv-loop μ-loop
-cast-if1 c = ?
+cast-if1 c = search needs
 
--- src/lib.rt:135:12
 mul-if1 : tie.Need-mul-if1 Inv-loop μ-loop
-mul-if1 c = ?
+mul-if1 c = search needs
 
--- src/lib.rt:135:12
 shared-slice-read-if1 : tie.Need-shared-slice-read-if1 Inv-loop μ-loop
-shared-slice-read-if1 c = ?
+shared-slice-read-if1 c = search needs
 
--- src/lib.rt:136:13
 add-n : tie.Need-add-n Inv-loop μ-loop
-add-n c = ?
+add-n c =
+    let f = c .before .before .before .before .before .before .before .args .idents .now in
+    let a = c .before .before .before .before .before .first-node .result in
+    let e = c .before .before .before .before .cell-count .result in
+    omega (arith, used-length (columns f f f) a (e - a))
 
--- src/lib.rt:138:9
 add-i : tie.Need-add-i Inv-loop μ-loop
-add-i c = ?
+add-i c = search needs
 
--- src/lib.rt:134:5
 loop-less : tie.Need-loop-less Inv-loop μ-loop
-loop-less c = ?
+loop-less c = search needs
 
--- src/lib.rt:134:5
 loop-again : tie.Need-loop-again Inv-loop μ-loop
-loop-again c = ?
+loop-again c =
+    let f = c .before .before .before .before .before .before .before .args .idents .now in
+    let v = columns f f f in
+    let t = c .before .before .before .loop in
+    let e = c .before .before .before .before .cell-count .result in
+    let h : t .i < e = c .before .before .loop-test .taken in
+    (omega arith,
+      ⊎-elim
+      (λ w. omega (arith, used-one v (t .i) e h (w .0 .taken), w .1))
+      (λ w. omega (arith, used-skip v (t .i) e h (w .0 .left), w .1))
+      (c .if1 .came))
 
--- src/lib.rt:127:1
 returns : tie.Need-returns Inv-loop μ-loop
-returns c = ?
+returns c =
+    let s = c .before .before .before .before .before .args in
+    let v = columns (s .idents .now) (s .idents .now) (s .idents .now) in
+    let t = c .before .loop in
+    let a = c .before .before .before .first-node .result in
+    let e = c .before .before .cell-count .result in
+    let z : e - t .i ≡ 0 = omega arith in
+    let d : e - a ≡ s .l .nodes = omega arith in
+    let none : length (used v (t .i) (e - t .i)) ≡ 0 = rw (z, used-none v (t .i)) in
+    let all : length (used v a (e - a)) ≡ length (used v (firstNode (s .l)) (s .l .nodes)) = rw (d, c .before .before .before .first-node .ensures) in
+    omega (arith, none, all)
 
 pub used-nodes-spec : {M : Type 1} → statement M
 used-nodes-spec =

@@ -1,0 +1,2 @@
+// Insert and delete.
+use layout::Layout;

@@ -1,0 +1,102 @@
+-- Questions 5 to 10: what a call asks for, and the site in the lists that it gets.
+use Prim.Native.Nat.{ℕ, zero, suc, _+_, _<_}
+use mathlib.Core.Path.{_≡_}
+use mathlib.Core.List.{List, [], _∷_, _++_}
+use mathlib.Core.Bool.{Bool, cond}
+use lib.Dec.{eqb, leb, ltb}
+use lib.ListN.{length, getD}
+use Rattle.sequences.specs.Sequence.{Forward}
+use Rattle.layout.specs.declared.Layout.{Layout}
+use Rattle.layout.specs.Words.{InRange, ask, firstNode, cellCount, isNode, opened, afterOpen}
+use Rattle.lists.specs.Decide.{View, viewOf, countIn, sequenceIn, soundIn}
+use Rattle.survey.specs.Survey.{columns}
+use Rattle.requests.specs.declared.Free.{Free}
+use Rattle.requests.specs.declared.Free.the-variants.{Cell, Full}
+use Rattle.requests.specs.declared.Site.{Site}
+use Rattle.requests.specs.declared.Request.{Request}
+use Rattle.requests.specs.declared.Request.the-variants.{Check, Whole, Member, Gap}
+use Rattle.requests.specs.declared.Sited.{Sited}
+use Rattle.requests.specs.declared.Sited.the-variants.{At, Refused}
+use Rattle.requests.specs.declared.Looked.{Looked}
+use Rattle.requests.specs.declared.Looked.the-variants as K
+
+-- "counting up from the starting cell and on from cell L after the last": n cells from c on
+unfoldable pub nextCell : Layout → ℕ → ℕ
+nextCell l c = cond (eqb (c + 1) (cellCount l)) (firstNode l) (c + 1)
+
+unfoldable pub around : Layout → ℕ → ℕ → List ℕ
+around l c zero = []
+around l c (suc n) = c ∷ around l (nextCell l c) n
+
+-- "the first free cell met": a node is free if its identifier is 0
+unfoldable pub firstFree : (ℕ → ℕ) → List ℕ → Free
+firstFree ident [] = Full
+firstFree ident (c ∷ cs) = cond (eqb (ident c) 0) (Cell c) (firstFree ident cs)
+
+abbrev pub withFree {ℓ} : {A : Type ℓ} → Free → A → (ℕ → A) → A
+withFree Full refusal rest = refusal
+withFree (Cell c) refusal rest = rest c
+
+-- question 7 of read and delete: the member of list k at position p, with the cells before and after it
+unfoldable pub memberAt : ℕ → ℕ → List ℕ → Sited
+memberAt k p s =
+    ask (ltb p (length s)) (Refused 7)
+    (At (record { before = getD (k ∷ s) p 0; cell = getD s p 0; after = getD (s ++ k ∷ []) (p + 1) 0; count = length s }))
+
+-- questions 7 to 10 of insert: the gap of list k at position p, and a free cell for a record of m words, searched from cell c
+unfoldable pub gapAt : Layout → (ℕ → ℕ) → ℕ → ℕ → ℕ → ℕ → List ℕ → Sited
+gapAt l ident k p c m s =
+    ask (leb p (length s)) (Refused 7)
+    (ask (isNode l c) (Refused 8)
+    (ask (eqb m (l .width)) (Refused 9)
+    (withFree (firstFree ident (around l c (l .nodes))) (Refused 10)
+    (λ i. At (record { before = getD (k ∷ s) p 0; cell = i; after = getD (s ++ k ∷ []) p 0; count = length s })))))
+
+-- questions 5 and 6, before those of the sequence of list k
+abbrev pub ofList : Layout → View → (ℕ → ℕ) → ℕ → (List ℕ → Sited) → Sited
+ofList l v count k rest =
+    ask (ltb k (l .lists)) (Refused 5)
+    (ask (soundIn l v count) (Refused 6)
+    (rest (sequenceIn l v k)))
+
+-- the questions of each request
+unfoldable pub siteIn : Layout → View → (ℕ → ℕ) → Request → Sited
+siteIn l v count Check = ask (soundIn l v count) (Refused 6) (At (record { before = 0; cell = 0; after = 0; count = 0 }))
+siteIn l v count (Whole k) = ofList l v count k (λ s. At (record { before = k; cell = k; after = k; count = length s }))
+siteIn l v count (Member k p) = ofList l v count k (memberAt k p)
+siteIn l v count (Gap k p c m) = ofList l v count k (gapAt l (v .ident) k p c m)
+
+-- the list that a request names; a check asks nothing of list 0 that every store does not answer
+abbrev pub listOf : Request → ℕ
+listOf Check = 0
+listOf (Whole k) = k
+listOf (Member k p) = k
+listOf (Gap k p c m) = k
+
+-- the same of the words of a store
+abbrev pub siteOf : Layout → List ℕ → Request → Sited
+siteOf l w q = siteIn l (viewOf l w) (countIn w) q
+
+abbrev pub withSite {ℓ} : {A : Type ℓ} → Sited → (ℕ → A) → (Site → A) → A
+withSite (Refused n) refuse rest = refuse n
+withSite (At t) refuse rest = rest t
+
+-- all questions of a call: 1 to 4 of the words, then those of the request
+unfoldable pub lookOf : List ℕ → Request → Looked
+lookOf w q = afterOpen (opened w) K.Refused (λ l. withSite (siteOf l w q) K.Refused (λ t. K.At l t))
+
+-- and what a call makes of the outcome
+abbrev pub withLook {ℓ} : {A : Type ℓ} → Looked → (ℕ → A) → (Layout → Site → A) → A
+withLook (K.Refused n) refuse rest = refuse n
+withLook (K.At l t) refuse rest = rest l t
+
+-- a forward column in which the links of list k lead round its n members
+abbrev pub sequenceBy : Layout → List ℕ → ℕ → List ℕ
+sequenceBy l f k = sequenceIn l (columns f f f) k
+
+pub record Closed (l : Layout) (f : List ℕ) (k n : ℕ) : Type 0 where
+  pub inRange : InRange l
+  pub column : length f ≡ cellCount l
+  pub list : k < l .lists
+  pub count : n ≡ length (sequenceBy l f k)
+  pub forward : Forward (λ c. getD f c 0) k (sequenceBy l f k) k

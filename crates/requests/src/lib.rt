@@ -1,0 +1,168 @@
+// Questions 5 to 10. A request says what a call asks of the lists, and the site is what it gets: a cell with the cells before
+// and after it, and the list's length. All is decided before the first store.
+use layout::Layout;
+use layout::Opened;
+ghost use mathlib.Core.Path.{_≡_};
+ghost use lib.ListN.{length, getD};
+ghost use Rattle.layout.specs.Words.{InRange, Node, Laid, cellCount};
+ghost use Rattle.survey.specs.Survey.{columns, Columns};
+ghost use Rattle.requests.specs.Requests.{around, firstFree, memberAt, gapAt, siteIn, listOf, siteOf, lookOf, sequenceBy, Closed};
+
+// What a call asks for.
+pub enum Request {
+    // The store is sound.
+    Check,
+    // A whole list.
+    Whole(u16),
+    // The member of a list at a position.
+    Member(u16, u16),
+    // The gap of a list at a position, with a free cell searched from a starting cell for a record of so many words.
+    Gap(u16, u16, u16, usize),
+}
+
+// Where a call works.
+pub struct Site {
+    pub before: u16,
+    pub cell: u16,
+    pub after: u16,
+    pub count: u16,
+}
+
+pub enum Sited {
+    At(Site),
+    Refused(u16),
+}
+
+pub enum Looked {
+    At(Layout, Site),
+    Refused(u16),
+}
+
+// A search for a free node.
+pub enum Free {
+    Cell(u16),
+    Full,
+}
+
+// The first free node from the starting cell on, and on from the first node after the last.
+fn free_cell(idents: &[u16], l: Layout, start: u16) -> Free
+    requires { ⌜ InRange l × (length (now idents) ≡ cellCount l) × Node l start ⌝ }
+    ensures { λ r. ⌜ r ≡ firstFree (λ c. getD (now (idents .entry)) c 0) (around l start (l .nodes)) ⌝ }
+{
+    let mut c = start;
+    let mut left = l.nodes;
+    while 0 < left {
+        if idents[c as usize] == 0 {
+            return Free::Cell(c);
+        }
+        c += 1;
+        if c == l.cell_count() {
+            c = l.first_node();
+        }
+        left -= 1;
+    }
+    Free::Full
+}
+
+// The list that a request names; a check names none, and asks nothing of list 0 that every store does not answer.
+fn list_of(q: Request) -> u16
+    ensures { λ r. ⌜ r ≡ listOf q ⌝ }
+{
+    match q {
+        Request::Check => 0,
+        Request::Whole(k) => k,
+        Request::Member(k, _) => k,
+        Request::Gap(k, _, _, _) => k,
+    }
+}
+
+// The member of list k, which has n members, at position p.
+fn member(forwards: &[u16], l: Layout, k: u16, n: u16, p: u16) -> Sited
+    requires { ⌜ Closed l (now forwards) k n ⌝ }
+    ensures { λ r. ⌜ r ≡ memberAt k p (sequenceBy l (now (forwards .entry)) k) ⌝ }
+{
+    if n <= p {
+        return Sited::Refused(7);
+    }
+    let before = survey::cell_before(forwards, l, k, p);
+    let cell = forwards[before as usize];
+    let after = forwards[cell as usize];
+    Sited::At(Site { before, cell, after, count: n })
+}
+
+// The gap of list k, which has n members, at position p, and a free cell.
+fn gap(idents: &[u16], forwards: &[u16], l: Layout, k: u16, n: u16, p: u16, start: u16, size: usize) -> Sited
+    requires { ⌜ Closed l (now forwards) k n × (length (now idents) ≡ cellCount l) ⌝ }
+    ensures { λ r. ⌜ r ≡ gapAt l (λ c. getD (now (idents .entry)) c 0) k p start size (sequenceBy l (now (forwards .entry)) k) ⌝ }
+{
+    if n < p {
+        return Sited::Refused(7);
+    }
+    if !l.is_node(start) {
+        return Sited::Refused(8);
+    }
+    if size != l.width as usize {
+        return Sited::Refused(9);
+    }
+    match free_cell(idents, l, start) {
+        Free::Full => Sited::Refused(10),
+        Free::Cell(cell) => {
+            let before = survey::cell_before(forwards, l, k, p);
+            Sited::At(Site { before, cell, after: forwards[before as usize], count: n })
+        }
+    }
+}
+
+// The site that a request gets, by the columns and the counts.
+pub fn site_by(idents: &[u16], forwards: &[u16], backs: &[u16], counts: [u16; 8], l: Layout, q: Request) -> Sited
+    requires { ⌜ Columns l (now idents) (now forwards) (now backs) ⌝ }
+    ensures { λ r. ⌜ r ≡ siteIn l (columns (now (idents .entry)) (now (forwards .entry)) (now (backs .entry))) (λ k. getD counts k 0) q ⌝ }
+{
+    let k = list_of(q);
+    if l.lists <= k {
+        return Sited::Refused(5);
+    }
+    if !survey::sound(idents, forwards, backs, counts, l) {
+        return Sited::Refused(6);
+    }
+    let n = counts[k as usize];
+    match q {
+        Request::Check => Sited::At(Site { before: 0, cell: 0, after: 0, count: 0 }),
+        Request::Whole(k) => Sited::At(Site { before: k, cell: k, after: k, count: n }),
+        Request::Member(k, p) => member(forwards, l, k, n, p),
+        Request::Gap(k, p, start, size) => gap(idents, forwards, l, k, n, p, start, size),
+    }
+}
+
+// The same by the lent words, which are read into the columns.
+fn site_in(words: &[u16], l: Layout, q: Request, idents: &mut [u16], forwards: &mut [u16], backs: &mut [u16]) -> Sited
+    requires { ⌜ Laid l (now words) × Columns l (now idents) (now forwards) (now backs) ⌝ }
+    ensures { λ r. ⌜ r ≡ siteOf l (now (words .entry)) q ⌝ }
+{
+    survey::load(words, l, idents, forwards, backs);
+    site_by(idents, forwards, backs, survey::all_counts(words, l), l, q)
+}
+
+fn site_of(words: &[u16], l: Layout, q: Request) -> Sited
+    requires { ⌜ Laid l (now words) ⌝ }
+    ensures { λ r. ⌜ r ≡ siteOf l (now (words .entry)) q ⌝ }
+{
+    let n = l.cell_count() as usize;
+    let mut idents = survey::column();
+    let mut forwards = survey::column();
+    let mut backs = survey::column();
+    site_in(words, l, q, &mut idents[..n], &mut forwards[..n], &mut backs[..n])
+}
+
+// All questions of a call, put to the lent words.
+pub fn look(words: &[u16], q: Request) -> Looked
+    ensures { λ r. ⌜ r ≡ lookOf (now (words .entry)) q ⌝ }
+{
+    match layout::open(words) {
+        Opened::Refused(n) => Looked::Refused(n),
+        Opened::Open(l) => match site_of(words, l, q) {
+            Sited::Refused(n) => Looked::Refused(n),
+            Sited::At(t) => Looked::At(l, t),
+        },
+    }
+}

@@ -1,0 +1,109 @@
+-- Laws of runs of stores.
+use Prim.Native.Nat.{ℕ, suc, zero, _+_, _-_, _≤_, _<_}
+use mathlib.Core.Path.{_≡_, refl, ap, _∙_, sym, subst}
+use mathlib.Core.List.{List, [], _∷_, _++_}
+use mathlib.Core.Bool.{true, false, cond}
+use native.Mathlib.Omega.{arith}
+use native.Mathlib.Numerals.{add-one}
+use native.Mathlib.Nat.{add-zero}
+use lib.Dec.{ltb}
+use lib.ListN.{length, getD, set, take, drop, length-set, length-append, take-append-drop}
+use lib.Seq.{take-suc, take-all, take-take, getD-set-same, getD-set-other}
+use borrow.Author.Tests.{lt-ltb, le-ltb}
+use Rattle.stores.specs.declared.Answer.the-variants as A
+use Rattle.stores.specs.Stores.{Write, write, store, run, applied, Spares, stores, answerOf, writesOf, inRow}
+
+-- stores in a row one after the other
+pub run-append : (ps qs : List Write) (w : List ℕ) → run (ps ++ qs) w ≡ run qs (run ps w)
+unfolding run
+run-append [] qs w = refl
+run-append (p ∷ ps) qs w = run-append ps qs (store w p)
+
+pub length-run : (ps : List Write) (w : List ℕ) → length (run ps w) ≡ length w
+unfolding run
+length-run [] w = refl
+length-run (p ∷ ps) w = length-run ps (store w p) ∙ length-set w (p .at) (p .value)
+
+-- no store, one store more, all stores
+pub applied-none : (ps : List Write) (w : List ℕ) → applied ps 0 w ≡ w
+unfolding run
+applied-none [] w = refl
+applied-none (p ∷ ps) w = refl
+
+pub applied-more : (ps : List Write) (i : ℕ) (w : List ℕ) → i < length ps → applied ps (i + 1) w ≡ store (applied ps i w) (getD ps i (write 0 0))
+unfolding run
+applied-more ps i w h =
+    ap (λ (n : ℕ). applied ps n w) (add-one i)
+    ∙ ap (λ (qs : List Write). run qs w) (take-suc ps i (write 0 0) h)
+    ∙ run-append (take i ps) (getD ps i (write 0 0) ∷ []) w
+
+pub applied-all : (ps : List Write) (m : ℕ) (w : List ℕ) → length ps ≤ m → applied ps m w ≡ run ps w
+applied-all ps m w h = ap (λ (qs : List Write). run qs w) (take-all m ps h)
+
+-- a longer run passes through what every smaller allowance leaves
+pub applied-through : (ps : List Write) (m n : ℕ) (w : List ℕ) → m ≤ n → applied ps n w ≡ run (drop m (take n ps)) (applied ps m w)
+applied-through ps m n w h =
+    ap (λ (qs : List Write). run qs w) (sym (take-append-drop m (take n ps)))
+    ∙ run-append (take m (take n ps)) (drop m (take n ps)) w
+    ∙ ap (λ (qs : List Write). run (drop m (take n ps)) (run qs w)) (take-take m n ps h)
+
+-- done exactly if the allowance suffices
+pub answer-stopped : (ps : List Write) (m : ℕ) → m < length ps → A.Stopped m ≡ answerOf (stores ps) m
+answer-stopped ps m h = rw (lt-ltb m (length ps) h)
+
+pub answer-done : (ps : List Write) (m : ℕ) → length ps ≤ m → A.Done (length ps) ≡ answerOf (stores ps) m
+answer-done ps m h = rw (le-ltb m (length ps) h)
+
+-- the stores of two rows, one by one
+pub length-writes : (at vs : List ℕ) → length at ≡ length vs → length (writesOf at vs) ≡ length at
+unfolding writesOf
+length-writes [] vs e = refl
+length-writes (a ∷ at) [] e = absurd (omega arith)
+length-writes (a ∷ at) (v ∷ vs) e = ap suc (length-writes at vs (omega arith))
+
+pub writes-at : (at vs : List ℕ) (i : ℕ) → length at ≡ length vs → i < length at → getD (writesOf at vs) i (write 0 0) ≡ write (getD at i 0) (getD vs i 0)
+unfolding writesOf
+writes-at [] vs i e h = absurd (omega arith)
+writes-at (a ∷ at) [] i e h = absurd (omega arith)
+writes-at (a ∷ at) (v ∷ vs) zero e h = refl
+writes-at (a ∷ at) (v ∷ vs) (suc i) e h = writes-at at vs i (omega arith) (omega arith)
+
+-- a word that no store goes to stays
+pub run-out : (ps : List Write) (w : List ℕ) (a : ℕ) → Spares a ps → getD (run ps w) a 0 ≡ getD w a 0
+unfolding run
+run-out [] w a h = refl
+run-out (p ∷ ps) w a h = run-out ps (store w p) a (h .1) ∙ getD-set-other w (p .at) a (p .value) 0 (h .0)
+
+-- a word that no later store goes to has the value stored
+pub run-in
+    : (ps : List Write) (p : Write) (qs : List Write) (w : List ℕ)
+    → p .at < length w → Spares (p .at) qs → getD (run (ps ++ p ∷ qs) w) (p .at) 0 ≡ p .value
+unfolding run
+run-in ps p qs w h n =
+    ap (λ (x : List ℕ). getD x (p .at) 0) (run-append ps (p ∷ qs) w)
+    ∙ run-out qs (store (run ps w) p) (p .at) n
+    ∙ getD-set-same (run ps w) (p .at) (p .value) 0 (subst (λ (n : ℕ). p .at < n) (sym (length-run ps w)) h)
+
+-- stores in a row of addresses
+pub row-spares : (a b : ℕ) (vs : List ℕ) → ((j : ℕ) → j < length vs → a ≡ b + j → ⊥) → Spares a (inRow b vs)
+unfolding inRow
+row-spares a b [] h = tt
+row-spares a b (v ∷ vs) h =
+    (λ e. h 0 (omega arith) (omega arith), row-spares a (b + 1) vs (λ j k e. h (suc j) (omega arith) (omega arith)))
+
+pub length-row : (b : ℕ) (vs : List ℕ) → length (inRow b vs) ≡ length vs
+unfolding inRow
+length-row b [] = refl
+length-row b (v ∷ vs) = ap suc (length-row (b + 1) vs)
+
+pub row-at : (b : ℕ) (vs w : List ℕ) (j : ℕ) → b + length vs ≤ length w → j < length vs → getD (run (inRow b vs) w) (b + j) 0 ≡ getD vs j 0
+unfolding inRow run
+row-at b [] w j h k = absurd (omega arith)
+row-at b (v ∷ vs) w zero h k =
+    ap (λ (n : ℕ). getD (run (inRow (b + 1) vs) (set w b v)) n 0) (add-zero b)
+    ∙ run-out (inRow (b + 1) vs) (set w b v) b (row-spares b (b + 1) vs (λ j k e. omega arith))
+    ∙ getD-set-same w b v 0 (omega arith)
+row-at b (v ∷ vs) w (suc j) h k =
+    let e : b + suc j ≡ b + 1 + j = omega arith in
+    ap (λ (n : ℕ). getD (run (inRow (b + 1) vs) (set w b v)) n 0) e
+    ∙ row-at (b + 1) vs (set w b v) j (omega (arith, length-set w b v)) (omega arith)

@@ -1,0 +1,77 @@
+-- A call is a refusal or a list of word stores; an allowance cuts it short.
+use Prim.Native.Nat.{ℕ, _+_, _≤_, _<_}
+use mathlib.Core.Path.{_≡_}
+use mathlib.Core.List.{List, [], _∷_}
+use mathlib.Core.Bool.{cond}
+use lib.Dec.{ltb}
+use lib.ListN.{length, getD, set, take}
+use Rattle.sequences.specs.Sequence.{All}
+use Rattle.stores.specs.declared.Answer.{Answer}
+use Rattle.stores.specs.declared.Answer.the-variants as A
+
+-- a word store: word `at` becomes `value`
+pub record Write : Type 0 where
+  pub at : ℕ
+  pub value : ℕ
+
+abbrev pub write : ℕ → ℕ → Write
+write a v = record { at = a; value = v }
+
+abbrev pub store : List ℕ → Write → List ℕ
+store w p = set w (p .at) (p .value)
+
+-- the words after all the stores, in order
+unfoldable pub run : List Write → List ℕ → List ℕ
+run [] w = w
+run (p ∷ ps) w = run ps (store w p)
+
+-- "make the first stores of their list up to it": the words after the first m stores
+abbrev pub applied : List Write → ℕ → List ℕ → List ℕ
+applied ps m w = run (take m ps) w
+
+-- none of the stores goes to word a
+abbrev pub Spares : ℕ → List Write → Type 0
+Spares a = All (λ (p : Write). a ≡ p .at → ⊥)
+
+-- what a call comes to, before any store is made
+pub data Plan : Type 0 where
+  refuse : ℕ → Plan
+  stores : List Write → Plan
+
+-- "The answer is done with the number of stores, or stopped with the number. Stopped is given if the allowance is below the
+-- whole number needed, and only then."
+abbrev pub answerOf : Plan → ℕ → Answer
+answerOf (refuse n) m = A.Refused n
+answerOf (stores ps) m = cond (ltb m (length ps)) (A.Stopped m) (A.Done (length ps))
+
+-- "A refusal is its number, no store made."
+abbrev pub wordsAfter : Plan → ℕ → List ℕ → List ℕ
+wordsAfter (refuse n) m w = w
+wordsAfter (stores ps) m w = applied ps m w
+
+-- the number of an answer, 0 for none, and its number of stores
+abbrev pub answerNumber : Answer → ℕ
+answerNumber (A.Done n) = 0
+answerNumber (A.Stopped n) = 0
+answerNumber (A.Refused n) = n
+
+abbrev pub answerStores : Answer → ℕ
+answerStores (A.Done n) = n
+answerStores (A.Stopped n) = n
+answerStores (A.Refused n) = 0
+
+-- the stores whose addresses and values stand in two rows
+unfoldable pub writesOf : List ℕ → List ℕ → List Write
+writesOf [] vs = []
+writesOf (a ∷ at) [] = []
+writesOf (a ∷ at) (v ∷ vs) = write a v ∷ writesOf at vs
+
+-- the values vs, from address a on
+unfoldable pub inRow : ℕ → List ℕ → List Write
+inRow a [] = []
+inRow a (v ∷ vs) = write a v ∷ inRow (a + 1) vs
+
+-- two rows of one length, whose addresses lie below n
+pub record Planned (n : ℕ) (at values : List ℕ) : Type 0 where
+  pub rows : length at ≡ length values
+  pub inside : (i : ℕ) → i < length at → getD at i 0 < n

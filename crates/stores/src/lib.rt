@@ -1,0 +1,65 @@
+// Word stores under an allowance. A call that changes a store is planned whole before its first store; the plan is a row of
+// addresses and a row of values. A step makes one of the stores; a run makes the first of them, up to the allowance, so what a
+// cut leaves is what a smaller allowance leaves.
+ghost use mathlib.Core.Path.{_≡_};
+ghost use Prim.Native.Nat.{ℕ, _+_, _<_, _≤_};
+ghost use lib.ListN.{length, getD};
+ghost use Rattle.stores.specs.Stores.{write, store, stores, applied, answerOf, answerNumber, answerStores, writesOf, Planned};
+
+// The answer of a call that stores.
+pub enum Answer {
+    Done(u16),
+    Stopped(u16),
+    Refused(u16),
+}
+
+impl Answer {
+    // The number of the refusal, 0 for none.
+    pub fn number(self) -> u16
+        ensures { λ r. ⌜ r ≡ answerNumber self ⌝ }
+    {
+        match self {
+            Answer::Done(_) => 0,
+            Answer::Stopped(_) => 0,
+            Answer::Refused(n) => n,
+        }
+    }
+
+    // The number of stores made.
+    pub fn stores(self) -> u16
+        ensures { λ r. ⌜ r ≡ answerStores self ⌝ }
+    {
+        match self {
+            Answer::Done(n) => n,
+            Answer::Stopped(n) => n,
+            Answer::Refused(_) => 0,
+        }
+    }
+}
+
+// Makes store i of the plan, and nothing else.
+fn step(words: &mut [u16], at: &[u16], values: &[u16], i: usize)
+    requires { ⌜ Planned (length (now words)) (now at) (now values) × (i < length (now at)) ⌝ }
+    ensures { λ _. ⌜ now (words .exit) ≡ store (now (words .entry)) (getD (writesOf (now (at .entry)) (now (values .entry))) i (write 0 0)) ⌝ }
+{
+    let a = at[i] as usize;
+    words[a] = values[i];
+}
+
+// Makes the stores of the plan, up to the allowance.
+pub fn run(words: &mut [u16], at: &[u16], values: &[u16], allowance: u16) -> Answer
+    requires { ⌜ Planned (length (now words)) (now at) (now values) × (length (now at) < 65536) ⌝ }
+    ensures answer { λ r. ⌜ r ≡ answerOf (stores (writesOf (now (at .entry)) (now (values .entry)))) allowance ⌝ }
+    ensures words { λ _. ⌜ now (words .exit) ≡ applied (writesOf (now (at .entry)) (now (values .entry))) allowance (now (words .entry)) ⌝ }
+{
+    let whole = at.len() as u16;
+    let mut i: u16 = 0;
+    while i < whole {
+        if i == allowance {
+            return Answer::Stopped(i);
+        }
+        step(words, at, values, i as usize);
+        i += 1;
+    }
+    Answer::Done(i)
+}

@@ -1,0 +1,192 @@
+//! Scripts of the program `cases`: the operations, and the lines that a run must print.
+
+use crate::store;
+
+/// The words that the program holds.
+pub const CAPACITY: usize = 32_100;
+
+#[derive(Clone, Debug, PartialEq, Eq)]
+pub enum Operation {
+    Fill { size: u16, value: u16 },
+    Put { at: u16, value: u16 },
+    PutAll { at: u16, values: Vec<u16> },
+    Format { lists: u16, nodes: u16, width: u16 },
+    Check,
+    Length { list: u16 },
+    Read { list: u16, position: u16 },
+}
+
+use Operation::*;
+
+impl Operation {
+    pub fn words(&self) -> Vec<u16> {
+        match *self {
+            Fill { size, value } => vec![1, size, value],
+            Put { at, value } => vec![2, at, value],
+            PutAll { at, ref values } => [&[3, at, values.len() as u16], &values[..]].concat(),
+            Format { lists, nodes, width } => vec![4, lists, nodes, width],
+            Check => vec![5],
+            Length { list } => vec![6, list],
+            Read { list, position } => vec![7, list, position],
+        }
+    }
+
+    /// The operation that the words begin with.
+    pub fn first(words: &[u16]) -> Option<Operation> {
+        Some(match *words {
+            [1, size, value, ..] => Fill { size, value },
+            [2, at, value, ..] => Put { at, value },
+            [3, at, n, ref rest @ ..] => PutAll { at, values: rest.get(..n.into())?.to_vec() },
+            [4, lists, nodes, width, ..] => Format { lists, nodes, width },
+            [5, ..] => Check,
+            [6, list, ..] => Length { list },
+            [7, list, position, ..] => Read { list, position },
+            _ => return None,
+        })
+    }
+
+    /// Does it to the store, and says what is printed.
+    pub fn run(&self, words: &mut Vec<u16>) -> Vec<Line> {
+        match *self {
+            Fill { size, value } => {
+                *words = vec![value; CAPACITY.min(size.into())];
+                vec![]
+            }
+            Put { at, value } => {
+                put(words, at.into(), value);
+                vec![]
+            }
+            PutAll { at, ref values } => {
+                for (i, &value) in values.iter().enumerate() {
+                    put(words, usize::from(at) + i, value);
+                }
+                vec![]
+            }
+            Format { lists, nodes, width } => {
+                let number = store::format(words, lists, nodes, width);
+                vec![Line::answer("format", number, format!("format {lists} {nodes} {width} = {number}")), words_line(words)]
+            }
+            Check => {
+                let number = store::check(words);
+                vec![Line::answer("check", number, format!("check = {number}"))]
+            }
+            Length { list } => {
+                let (number, length) = store::length(words, list).map_or_else(|n| (n, 0), |length| (0, length));
+                vec![Line::answer("length", number, format!("length {list} = {number} {length}"))]
+            }
+            Read { list, position } => {
+                let (number, part) = store::read(words, list, position).map_or_else(|n| (n, &[][..]), |part| (0, part));
+                vec![Line::answer("read", number, format!("read {list} {position} = {number}:{}", spaced(part)))]
+            }
+        }
+    }
+}
+
+fn put(words: &mut [u16], at: usize, value: u16) {
+    if at < words.len() {
+        words[at] = value;
+    }
+}
+
+fn spaced(words: &[u16]) -> String {
+    words.iter().map(|w| format!(" {w}")).collect()
+}
+
+fn words_line(words: &[u16]) -> Line {
+    if words.len() <= 64 {
+        Line::plain(format!("words ={}", spaced(words)))
+    } else {
+        let sum = words.iter().fold(0u64, |sum, &w| (sum * 65_599 + u64::from(w)) % 4_294_967_291);
+        Line::plain(format!("checksum = {sum}"))
+    }
+}
+
+/// A line that is printed. Of a call: its name and the number of its answer.
+#[derive(Clone, Debug, PartialEq, Eq)]
+pub struct Line {
+    pub text: String,
+    pub answer: Option<(&'static str, u16)>,
+}
+
+impl Line {
+    fn plain(text: String) -> Line {
+        Line { text, answer: None }
+    }
+
+    fn answer(call: &'static str, number: u16, text: String) -> Line {
+        Line { text, answer: Some((call, number)) }
+    }
+}
+
+/// The answer numbers that each call can give.
+pub const ANSWERS: [(&str, &[u16]); 4] = [
+    ("format", &[0, 3, 4]),
+    ("check", &[0, 1, 2, 3, 4, 6]),
+    ("length", &[0, 1, 2, 3, 4, 5, 6]),
+    ("read", &[0, 1, 2, 3, 4, 5, 6, 7]),
+];
+
+/// The lines that a run of the script must print. A word of it is two bytes, low byte first.
+pub fn lines_of(script: &[u8]) -> Vec<Line> {
+    let words: Vec<u16> = script.chunks_exact(2).map(|b| u16::from_le_bytes([b[0], b[1]])).collect();
+    let mut rest = &words[..];
+    let mut store = vec![];
+    let mut lines = vec![];
+    while let Some(operation) = Operation::first(rest) {
+        lines.extend(operation.run(&mut store));
+        rest = &rest[operation.words().len()..];
+    }
+    if !rest.is_empty() || script.len() % 2 == 1 {
+        lines.push(Line::plain("bad script".into()));
+    }
+    lines.push(Line::plain("end".into()));
+    lines
+}
+
+#[cfg(test)]
+mod tests {
+    use super::*;
+
+    fn bytes(words: &[u16]) -> Vec<u8> {
+        words.iter().flat_map(|w| w.to_le_bytes()).collect()
+    }
+
+    fn texts(script: &[u8]) -> Vec<String> {
+        lines_of(script).into_iter().map(|line| line.text).collect()
+    }
+
+    #[test]
+    fn operations_are_read_as_written() {
+        let all = [
+            Fill { size: 24, value: 9 },
+            Put { at: 3, value: 1 },
+            PutAll { at: 5, values: vec![7, 8, 9] },
+            PutAll { at: 5, values: vec![] },
+            Format { lists: 1, nodes: 2, width: 3 },
+            Check,
+            Length { list: 2 },
+            Read { list: 2, position: 4 },
+        ];
+        for operation in all {
+            let words = operation.words();
+            assert_eq!(Operation::first(&words), Some(operation));
+            assert_eq!(Operation::first(&words[..words.len() - 1]), None);
+        }
+    }
+
+    #[test]
+    fn bad_scripts() {
+        assert_eq!(texts(&[]), ["end"]);
+        assert_eq!(texts(&bytes(&[5])), ["check = 1", "end"]);
+        assert_eq!(texts(&bytes(&[5, 99])), ["check = 1", "bad script", "end"]);
+        assert_eq!(texts(&bytes(&[5, 7, 0])), ["check = 1", "bad script", "end"]);
+        assert_eq!(texts(&bytes(&[3, 0, 2, 1])), ["bad script", "end"]);
+        assert_eq!(texts(&[5, 0, 5]), ["check = 1", "bad script", "end"]);
+    }
+
+    #[test]
+    fn words_outside_the_store_are_not_stored() {
+        let script = bytes(&[1, 2, 9, 2, 2, 5, 3, 1, 2, 6, 7, 4, 0, 0, 0]);
+        assert_eq!(texts(&script), ["format 0 0 0 = 3", "words = 9 6", "end"]);
+    }
+}

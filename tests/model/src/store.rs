@@ -1,0 +1,287 @@
+//! A store is a slice of words. Here is what its words mean, when it is sound, and what format, check, length and read
+//! answer.
+
+use std::collections::HashSet;
+
+/// The identifier of list 0.
+pub const IDENTIFIER: u16 = 42_400;
+
+/// Stores of at most so many nodes are judged by enumeration too.
+pub const FEW_NODES: usize = 5;
+
+/// L, N and P.
+#[derive(Clone, Copy, Debug, PartialEq, Eq)]
+pub struct Shape {
+    pub lists: usize,
+    pub nodes: usize,
+    pub width: usize,
+}
+
+impl Shape {
+    pub fn new(lists: usize, nodes: usize, width: usize) -> Shape {
+        Shape { lists, nodes, width }
+    }
+
+    pub fn in_range(self) -> bool {
+        (1..=8).contains(&self.lists) && (1..=2000).contains(&self.nodes) && (1..=13).contains(&self.width)
+    }
+
+    /// The words of a store.
+    pub fn size(self) -> usize {
+        8 + 4 * self.lists + (3 + self.width) * self.nodes
+    }
+
+    /// The cells that are nodes.
+    pub fn node_cells(self) -> std::ops::Range<usize> {
+        self.lists..self.lists + self.nodes
+    }
+
+    /// The first word of a cell: identifier, forward, back, then the count of a header or the record of a node.
+    pub fn cell(self, i: usize) -> usize {
+        if i < self.lists {
+            8 + 4 * i
+        } else {
+            8 + 4 * self.lists + (3 + self.width) * (i - self.lists)
+        }
+    }
+}
+
+fn identifier_of(list: usize) -> u16 {
+    IDENTIFIER + list as u16
+}
+
+/// Questions 1 to 4.
+pub fn open(words: &[u16]) -> Result<Shape, u16> {
+    if words.len() < 8 {
+        return Err(1);
+    }
+    if words[0..4] != [82, 66, 83, 1] || words[7] != 0 {
+        return Err(2);
+    }
+    let shape = Shape::new(words[4].into(), words[5].into(), words[6].into());
+    if !shape.in_range() {
+        return Err(3);
+    }
+    if words.len() != shape.size() {
+        return Err(4);
+    }
+    Ok(shape)
+}
+
+/// Is this sequence of different nodes the list? Header and members carry its identifier; from the header, forward leads
+/// through the sequence and back to the header, and back leads the other way round; the count is the sequence's length.
+fn is_list(words: &[u16], shape: Shape, list: usize, sequence: &[usize]) -> bool {
+    let mut way = vec![list];
+    way.extend(sequence);
+    way.push(list);
+    let carried = way.iter().all(|&i| words[shape.cell(i)] == identifier_of(list));
+    let forward = way.windows(2).all(|w| usize::from(words[shape.cell(w[0]) + 1]) == w[1]);
+    let back = way.windows(2).all(|w| usize::from(words[shape.cell(w[1]) + 2]) == w[0]);
+    let count = usize::from(words[shape.cell(list) + 3]) == sequence.len();
+    carried && forward && back && count
+}
+
+/// Every sequence of different cells out of `cells`, the empty one too.
+pub fn sequences(cells: &[usize]) -> Vec<Vec<usize>> {
+    let mut all = vec![vec![]];
+    for &first in cells {
+        let others: Vec<usize> = cells.iter().copied().filter(|&c| c != first).collect();
+        for rest in sequences(&others) {
+            all.push([vec![first], rest].concat());
+        }
+    }
+    all
+}
+
+/// The list's sequence, found among all that there are.
+fn list_by_enumeration(words: &[u16], shape: Shape, list: usize, all: &[Vec<usize>]) -> Option<Vec<usize>> {
+    let fitting: Vec<&Vec<usize>> = all.iter().filter(|s| is_list(words, shape, list, s)).collect();
+    assert!(fitting.len() <= 1, "list {list} has several sequences: {fitting:?}");
+    fitting.first().map(|s| s.to_vec())
+}
+
+/// The list's sequence, found by its forward links.
+fn list_by_links(words: &[u16], shape: Shape, list: usize) -> Option<Vec<usize>> {
+    let mut sequence = vec![];
+    let mut visited = HashSet::new();
+    let mut at: usize = words[shape.cell(list) + 1].into();
+    while at != list {
+        if !shape.node_cells().contains(&at) || !visited.insert(at) {
+            return None;
+        }
+        sequence.push(at);
+        at = words[shape.cell(at) + 1].into();
+    }
+    Some(sequence).filter(|s| is_list(words, shape, list, s))
+}
+
+/// The sequence of each list if the store is sound: every list has one, and a node in none has identifier 0.
+fn sound_if(words: &[u16], shape: Shape, found: impl Fn(usize) -> Option<Vec<usize>>) -> Option<Vec<Vec<usize>>> {
+    let lists: Vec<Vec<usize>> = (0..shape.lists).map(found).collect::<Option<_>>()?;
+    let members: HashSet<usize> = lists.iter().flatten().copied().collect();
+    let others_are_free = shape.node_cells().all(|i| members.contains(&i) || words[shape.cell(i)] == 0);
+    others_are_free.then_some(lists)
+}
+
+pub fn lists_by_enumeration(words: &[u16], shape: Shape) -> Option<Vec<Vec<usize>>> {
+    let all = sequences(&shape.node_cells().collect::<Vec<_>>());
+    sound_if(words, shape, |k| list_by_enumeration(words, shape, k, &all))
+}
+
+pub fn lists_by_links(words: &[u16], shape: Shape) -> Option<Vec<Vec<usize>>> {
+    sound_if(words, shape, |k| list_by_links(words, shape, k))
+}
+
+/// The sequence of each list, or nothing if the store is not sound.
+pub fn lists(words: &[u16], shape: Shape) -> Option<Vec<Vec<usize>>> {
+    let found = lists_by_links(words, shape);
+    if shape.nodes <= FEW_NODES {
+        assert_eq!(found, lists_by_enumeration(words, shape), "the model disagrees with itself on {words:?}");
+    }
+    found
+}
+
+/// The words of a sound store whose lists have these sequences. What is free is taken from `free`: the records, and the
+/// links of nodes in no list.
+pub fn store_of(shape: Shape, lists: &[Vec<usize>], mut free: impl FnMut() -> u16) -> Vec<u16> {
+    let mut words = vec![82, 66, 83, 1, shape.lists as u16, shape.nodes as u16, shape.width as u16, 0];
+    words.resize(8 + 4 * shape.lists, 0);
+    words.resize_with(shape.size(), &mut free);
+    for i in shape.node_cells() {
+        words[shape.cell(i)] = 0;
+    }
+    for (list, sequence) in lists.iter().enumerate() {
+        let mut way = vec![list];
+        way.extend(sequence);
+        way.push(list);
+        for w in way.windows(2) {
+            words[shape.cell(w[0])] = identifier_of(list);
+            words[shape.cell(w[0]) + 1] = w[1] as u16;
+            words[shape.cell(w[1]) + 2] = w[0] as u16;
+        }
+        words[shape.cell(list) + 3] = sequence.len() as u16;
+    }
+    words
+}
+
+/// Format: 0, or the number of its refusal.
+pub fn format(words: &mut [u16], lists: u16, nodes: u16, width: u16) -> u16 {
+    let shape = Shape::new(lists.into(), nodes.into(), width.into());
+    if !shape.in_range() {
+        return 3;
+    }
+    if words.len() != shape.size() {
+        return 4;
+    }
+    words.copy_from_slice(&store_of(shape, &vec![vec![]; shape.lists], || 0));
+    0
+}
+
+/// Check: 0 for a sound store, or the number of its refusal.
+pub fn check(words: &[u16]) -> u16 {
+    match open(words) {
+        Err(number) => number,
+        Ok(shape) if lists(words, shape).is_none() => 6,
+        Ok(_) => 0,
+    }
+}
+
+/// Questions 1 to 6 of a call that names a list: the store's shape and the list's sequence, or the number of the refusal.
+fn list_of(words: &[u16], list: u16) -> Result<(Shape, Vec<usize>), u16> {
+    let shape = open(words)?;
+    if usize::from(list) >= shape.lists {
+        return Err(5);
+    }
+    let mut found = lists(words, shape).ok_or(6u16)?;
+    Ok((shape, found.swap_remove(list.into())))
+}
+
+/// Length: the list's length, or the number of the refusal.
+pub fn length(words: &[u16], list: u16) -> Result<u16, u16> {
+    list_of(words, list).map(|(_, sequence)| sequence.len() as u16)
+}
+
+/// Read: the record's words, or the number of the refusal.
+pub fn read(words: &[u16], list: u16, position: u16) -> Result<&[u16], u16> {
+    let (shape, sequence) = list_of(words, list)?;
+    let &cell = sequence.get(usize::from(position)).ok_or(7u16)?;
+    Ok(&words[shape.cell(cell) + 3..][..shape.width])
+}
+
+#[cfg(test)]
+mod tests {
+    use super::*;
+    use crate::random::Random;
+
+    /// C1 to C3 of docs/FORMAT.md, word by word.
+    #[test]
+    fn marked_store() {
+        let mut words = vec![7; 24];
+        assert_eq!(format(&mut words, 1, 3, 1), 0);
+        assert_eq!(words[..12], [82, 66, 83, 1, 1, 3, 1, 0, 42400, 0, 0, 0]);
+        assert_eq!(words[12..], [0; 12]);
+        assert_eq!((check(&words), length(&words, 0), read(&words, 0, 0)), (0, Ok(0), Err(7)));
+        for (a, v) in [(19, 700), (17, 0), (18, 0), (16, 42400), (11, 1), (9, 2)] {
+            words[a] = v;
+        }
+        assert_eq!(check(&words), 6);
+        words[10] = 2;
+        assert_eq!((length(&words, 0), read(&words, 0, 0), read(&words, 0, 1)), (Ok(1), Ok(&[700][..]), Err(7)));
+        for (a, v) in [(23, 512), (21, 0), (22, 2), (20, 42400), (11, 2), (17, 3), (10, 3)] {
+            words[a] = v;
+        }
+        assert_eq!((length(&words, 0), read(&words, 0, 0), read(&words, 0, 1)), (Ok(2), Ok(&[700][..]), Ok(&[512][..])));
+        assert_eq!((length(&words, 1), read(&words, 0, 2)), (Err(5), Err(7)));
+    }
+
+    #[test]
+    fn sequences_of_five() {
+        let all = sequences(&[1, 2, 3, 4, 5]);
+        assert_eq!(all.len(), 1 + 5 + 20 + 60 + 120 + 120);
+        assert_eq!(all.iter().collect::<HashSet<_>>().len(), all.len());
+    }
+
+    /// Both ways of judging agree on all stores of one list and two nodes over a few values. Sound are as many as there are
+    /// sequences of two nodes, times the free links: 25 of each free node's.
+    #[test]
+    fn both_ways_agree() {
+        let shape = Shape::new(1, 2, 1);
+        let mut words = store_of(shape, &[vec![]], || 0);
+        let links = [0, 1, 2, 3, 65535];
+        let identifiers = [0, 42400, 42401];
+        let places: Vec<(usize, &[u16])> = (0..3)
+            .flat_map(|i| [(shape.cell(i), &identifiers[..]), (shape.cell(i) + 1, &links), (shape.cell(i) + 2, &links)])
+            .chain([(11, &links[..4])])
+            .collect();
+        let all = sequences(&[1, 2]);
+        let mut sound = 0;
+        let mut digits = vec![0; places.len()];
+        loop {
+            for (d, (a, values)) in digits.iter().zip(&places) {
+                words[*a] = values[*d];
+            }
+            let enumerated = sound_if(&words, shape, |k| list_by_enumeration(&words, shape, k, &all));
+            assert_eq!(lists_by_links(&words, shape), enumerated);
+            sound += usize::from(enumerated.is_some());
+            match (0..places.len()).find(|&i| digits[i] + 1 < places[i].1.len()) {
+                Some(i) => {
+                    digits[i] += 1;
+                    digits[..i].fill(0);
+                }
+                None => break,
+            }
+        }
+        assert_eq!(sound, 25 * 25 + 2 * 25 + 2);
+    }
+
+    #[test]
+    fn built_stores_are_sound() {
+        let mut random = Random::new(1);
+        let shape = Shape::new(3, 40, 2);
+        let mut cells: Vec<usize> = shape.node_cells().collect();
+        random.shuffle(&mut cells);
+        let lists = vec![cells[..20].to_vec(), vec![], cells[20..30].to_vec()];
+        let words = store_of(shape, &lists, || random.word());
+        assert_eq!(super::lists(&words, shape), Some(lists));
+    }
+}
