@@ -1,1 +1,4 @@
 pub mod Writes
+pub mod Edited
+pub mod Insert
+pub mod Delete

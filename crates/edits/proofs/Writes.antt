@@ -1,5 +1,5 @@
 -- What the words of the cells are after the stores of an insert or a delete, and which words stay.
-use Prim.Native.Nat.{ℕ, suc, zero, _+_, _-_, _≤_, _<_}
+use Prim.Native.Nat.{ℕ, suc, zero, _+_, _-_, _≤_, _<_, min}
 use mathlib.Core.Path.{_≡_, refl, ap, _∙_, sym, subst}
 use mathlib.Core.List.{List, [], _∷_, _++_, append-assoc}
 use native.Mathlib.Omega.{arith}
@@ -14,29 +14,24 @@ use Rattle.layout.specs.declared.Layout.{Layout}
 use Rattle.layout.specs.Words.{firstNode, cellCount, headerAt, cellAt, cellWords, nodeAt, nodeWords, sizeOf, Node, identAt, forwardAt, backAt, countAt, recordAt, identOf, linkWords}
 use Rattle.layout.proofs.Laws.{cell-header, cell-node, node-fits}
 use Rattle.layout.proofs.Apart.{words-apart, words-header, words-node, links-words, word-fits}
+use Rattle.lists.proofs.Same.{ident-word, count-word}
 use Rattle.requests.specs.declared.Site.{Site}
 use Rattle.edits.specs.Edits.{insertLinks, insertWrites, deleteWrites}
 use Rattle.edits.specs.Edited.{recordIn}
 
--- addresses as words of a cell
-pub ident-word : (l : Layout) (i : ℕ) → identAt l i ≡ cellAt l i + 0
-ident-word l i = sym (add-zero (cellAt l i))
-
-pub count-word : (l : Layout) (k : ℕ) → k < l .lists → countAt k ≡ cellAt l k + 3
-count-word l k h = ap (λ (a : ℕ). a + 3) (sym (cell-header l k h))
-
+-- a record's words as words of a cell
 pub record-word : (l : Layout) (c j : ℕ) → Node l c → recordAt l c + j ≡ cellAt l c + (3 + j)
 record-word l c j n = omega (arith, cell-node l c (n .low))
 
 -- the record of a cell whose words stay
 pub record-same
-    : (l : Layout) (w w′ : List ℕ) (c : ℕ) → Node l c → length w ≡ sizeOf l → length w′ ≡ length w
-    → ((f : ℕ) → f < cellWords l c → getD w′ (cellAt l c + f) 0 ≡ getD w (cellAt l c + f) 0)
+    : (l : Layout) (w w′ : List ℕ) (c : ℕ) → Node l c → length w′ ≡ length w
+    → ((j : ℕ) → 3 + j < cellWords l c → getD w′ (cellAt l c + (3 + j)) 0 ≡ getD w (cellAt l c + (3 + j)) 0)
     → recordIn l w′ c ≡ recordIn l w c
-record-same l w w′ c n e e′ h =
+record-same l w w′ c n e h =
     ext-getD 0 (recordIn l w′ c) (recordIn l w c)
     (length-take (l .width) (drop (recordAt l c) w′)
-    ∙ ap (λ (m : ℕ). Prim.Native.Nat.min (l .width) m) (length-drop (recordAt l c) w′ ∙ ap (λ (m : ℕ). m - recordAt l c) e′ ∙ sym (length-drop (recordAt l c) w))
+    ∙ ap (λ (m : ℕ). min (l .width) m) (length-drop (recordAt l c) w′ ∙ ap (λ (m : ℕ). m - recordAt l c) e ∙ sym (length-drop (recordAt l c) w))
     ∙ sym (length-take (l .width) (drop (recordAt l c) w)))
     at
   where
@@ -48,7 +43,7 @@ record-same l w w′ c n e e′ h =
     at : (j : ℕ) → j < length (recordIn l w′ c) → getD (recordIn l w′ c) j 0 ≡ getD (recordIn l w c) j 0
     at j g =
         let b : j < l .width = omega (arith, length-take (l .width) (drop (recordAt l c) w′)) in
-        word w′ j b ∙ h (3 + j) (omega (arith, words-node l c (n .low))) ∙ sym (word w j b)
+        word w′ j b ∙ h j (omega (arith, words-node l c (n .low))) ∙ sym (word w j b)
 
 -- two cells of a list and a node that is neither
 module _ (l : Layout) (w : List ℕ) (exact : length w ≡ sizeOf l) (k : ℕ) (t : Site) (hk : k < l .lists)

@@ -2,3 +2,4 @@ pub mod Agree
 pub mod Unique
 pub mod Decided
 pub mod Empty
+pub mod Same

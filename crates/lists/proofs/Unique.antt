@@ -48,17 +48,21 @@ module _ (l : Layout) (w : List ℕ) (k : ℕ) (h : k < l .lists) where
   pub list-unique : (s t : List ℕ) → IsList l w k s → IsList l w k t → s ≡ t
   list-unique s t i j = sym (list-sequence s i) ∙ list-sequence t j
 
+  -- nodes that the turn finds right are the list: they are different by themselves
+  pub ring-list : (s : List ℕ) → All (Node l) s → Holds (viewOf l w) k (countIn w k) s → IsList l w k s
+  ring-list s n r =
+      record {
+        nodes = n;
+        different = leads-different (viewOf l w .forward) (isNode l) k s k (nodes-all l s n) (header-out l k h) (r .turn .forwards);
+        agrees = holds-agrees l w k s r
+      }
+
   -- if the turn round what the forward links give is right, that is the list
   pub holds-list : holds (viewOf l w) k (countIn w k) (sequenceOf l w k) ≡ true → IsList l w k (sequenceOf l w k)
   holds-list e =
-      let r = holds-true (viewOf l w) k (countIn w k) (sequenceOf l w k) e in
-      let n = trail-inside (viewOf l w .forward) (isNode l) (l .nodes) (viewOf l w .forward k) in
-      record {
-        nodes = all-nodes l (sequenceOf l w k) n;
-        different =
-          leads-different (viewOf l w .forward) (isNode l) k (sequenceOf l w k) k n (header-out l k h) (r .turn .forwards);
-        agrees = holds-agrees l w k (sequenceOf l w k) r
-      }
+      ring-list (sequenceOf l w k)
+      (all-nodes l (sequenceOf l w k) (trail-inside (viewOf l w .forward) (isNode l) (l .nodes) (viewOf l w .forward k)))
+      (holds-true (viewOf l w) k (countIn w k) (sequenceOf l w k) e)
 
   pub list-holds : (s : List ℕ) → IsList l w k s → holds (viewOf l w) k (countIn w k) (sequenceOf l w k) ≡ true
   list-holds s i =

@@ -7,10 +7,11 @@ use lib.ListN.{length, getD}
 use Rattle.sequences.specs.Sequence.{_∈_, All, Different, Step, steps}
 use Rattle.stores.specs.Stores.{Write, write}
 use Rattle.layout.specs.declared.Layout.{Layout}
-use Rattle.layout.specs.Words.{Node, InRange, marked, layoutOf, sizeOf, identAt, forwardAt, backAt, countAt, identOf}
+use Rattle.layout.specs.Words.{cellAt, cellWords, Node, InRange, marked, layoutOf, sizeOf, identAt, forwardAt, backAt, countAt, identOf}
 
--- What a sequence s asks of list k, as the stores that would make it so: "header and members carry identifier 42,400 + k; from the header, forward leads
--- through the sequence and back to the header, and back leads the other way round; the count is the sequence's length."
+-- What a sequence s asks of list k, as the stores that would make it so: "header and members carry identifier 42,400 + k; from
+-- the header, forward leads through the sequence and back to the header, and back leads the other way round; the count is the
+-- sequence's length."
 unfoldable pub asked : Layout → ℕ → List ℕ → List Write
 asked l k s =
     map (λ c. write (identAt l c) (identOf k)) (k ∷ s)
@@ -21,6 +22,10 @@ asked l k s =
 -- the words hold what is asked
 abbrev pub Agrees : List ℕ → List Write → Type 0
 Agrees w = All (λ p. getD w (p .at) 0 ≡ p .value)
+
+-- "A list's words are all those of its header and of its members": all words of these cells are the same
+abbrev pub SameCells : Layout → List ℕ → List ℕ → List ℕ → Type 0
+SameCells l w w′ cells = (c f : ℕ) → c ∈ cells → f < cellWords l c → getD w′ (cellAt l c + f) 0 ≡ getD w (cellAt l c + f) 0
 
 -- "some sequence of different node cells exists such that .."
 pub record IsList (l : Layout) (w : List ℕ) (k : ℕ) (s : List ℕ) : Type 0 where

@@ -6,7 +6,7 @@ ghost use mathlib.Core.Path.{_≡_};
 ghost use lib.ListN.{length, getD};
 ghost use Rattle.layout.specs.Words.{InRange, Node, Laid, cellCount};
 ghost use Rattle.survey.specs.Survey.{columns, Columns};
-ghost use Rattle.requests.specs.Requests.{around, firstFree, memberAt, gapAt, siteIn, listOf, siteOf, lookOf, sequenceBy, Closed};
+ghost use Rattle.requests.specs.Requests.{nextCell, around, firstFree, memberAt, gapAt, siteIn, listOf, siteOf, lookOf, sequenceBy, Closed};
 
 // What a call asks for.
 pub enum Request {
@@ -44,6 +44,17 @@ pub enum Free {
     Full,
 }
 
+// The node after node c, which after the last is the first.
+fn next_cell(l: Layout, c: u16) -> u16
+    requires { ⌜ InRange l × Node l c ⌝ }
+    ensures { λ r. ⌜ r ≡ nextCell l c ⌝ }
+{
+    if c + 1 == l.cell_count() {
+        return l.first_node();
+    }
+    c + 1
+}
+
 // The first free node from the starting cell on, and on from the first node after the last.
 fn free_cell(idents: &[u16], l: Layout, start: u16) -> Free
     requires { ⌜ InRange l × (length (now idents) ≡ cellCount l) × Node l start ⌝ }
@@ -55,10 +66,7 @@ fn free_cell(idents: &[u16], l: Layout, start: u16) -> Free
         if idents[c as usize] == 0 {
             return Free::Cell(c);
         }
-        c += 1;
-        if c == l.cell_count() {
-            c = l.first_node();
-        }
+        c = next_cell(l, c);
         left -= 1;
     }
     Free::Full

@@ -1,7 +1,7 @@
 -- Laws of membership, of `All` and of `Different`.
 use Prim.Native.Nat.{ℕ, zero, suc, _+_, _<_, _≤_}
 use mathlib.Core.Path.{_≡_, refl, ap, _∙_, sym, subst}
-use mathlib.Core.List.{List, [], _∷_, _++_, List·Memᴰ, List·Memᴰ·head, List·Memᴰ·tail, List·Memᴰ·append-cases, Memᴰ·append-left, Memᴰ·append-right}
+use mathlib.Core.List.{List, [], _∷_, _++_, List·Memᴰ, List·Memᴰ·head, List·Memᴰ·tail, List·Memᴰ·append-cases, List·Memᴰ·eq-of-singleton, Memᴰ·append-left, Memᴰ·append-right}
 use mathlib.Core.Logic.{_⊎_, inl, inr, ⊎-elim}
 use native.Mathlib.Decide.{ℕ-discrete}
 use native.Mathlib.Omega.{arith}
@@ -63,3 +63,32 @@ different-append [] t ds dt h = dt
 different-append (x ∷ s) t ds dt h =
     (λ m. ⊎-elim (ds .0) (h x (List·Memᴰ·head refl)) (List·Memᴰ·append-cases s m),
     different-append s t (ds .1) dt (λ y m. h y (List·Memᴰ·tail m)))
+
+-- a cell in front of a sequence or behind it
+pub in-front : (k : ℕ) (s : List ℕ) {x : ℕ} → x ∈ (s ++ k ∷ []) → x ∈ (k ∷ s)
+in-front k s m = ⊎-elim List·Memᴰ·tail (λ q. List·Memᴰ·head (List·Memᴰ·eq-of-singleton q)) (List·Memᴰ·append-cases s m)
+
+pub in-behind : (k : ℕ) (s : List ℕ) {x : ℕ} → x ∈ (k ∷ s) → x ∈ (s ++ k ∷ [])
+in-behind k s (List·Memᴰ·head e) = Memᴰ·append-right s (List·Memᴰ·head e)
+in-behind k s (List·Memᴰ·tail m) = Memᴰ·append-left (k ∷ []) m
+
+-- different members at different positions
+pub different-at : (s : List ℕ) (i j : ℕ) → Different s → i < j → j < length s → getD s i 0 ≡ getD s j 0 → ⊥
+different-at [] i j d h k e = omega arith
+different-at (x ∷ s) i zero d h k e = omega arith
+different-at (x ∷ s) zero (suc j) d h k e = d .0 (subst (λ (y : ℕ). y ∈ s) (sym e) (at-in s j (omega arith)))
+different-at (x ∷ s) (suc i) (suc j) d h k e = different-at s i j (d .1) (omega arith) (omega arith) e
+
+-- without one member
+pub in-with : (r : List ℕ) (c : ℕ) (t : List ℕ) {x : ℕ} → x ∈ (r ++ t) → x ∈ (r ++ c ∷ t)
+in-with r c t m = ⊎-elim (λ q. Memᴰ·append-left (c ∷ t) q) (λ q. Memᴰ·append-right r (List·Memᴰ·tail q)) (List·Memᴰ·append-cases r m)
+
+pub different-without : (r : List ℕ) (c : ℕ) (t : List ℕ) → Different (r ++ c ∷ t) → Different (r ++ t)
+different-without [] c t d = d .1
+different-without (x ∷ r) c t d = ((λ m. d .0 (in-with r c t m)), different-without r c t (d .1))
+
+-- the member left out is not among the others
+pub out-without : (r : List ℕ) (c : ℕ) (t : List ℕ) → Different (r ++ c ∷ t) → c ∈ (r ++ t) → ⊥
+out-without [] c t d m = d .0 m
+out-without (x ∷ r) c t d (List·Memᴰ·head e) = d .0 (subst (λ (y : ℕ). y ∈ (r ++ c ∷ t)) e (Memᴰ·append-right r (List·Memᴰ·head refl)))
+out-without (x ∷ r) c t d (List·Memᴰ·tail m) = out-without r c t (d .1) m

@@ -40,7 +40,8 @@ pub part-first : (w : List ℕ) (a : ℕ) → getD (partFrom w a) 0 0 ≡ getD w
 part-first w a = part-at w a 0 ∙ ap (λ (n : ℕ). getD w n 0) (add-zero a)
 
 -- the part of a column with one entry for each cell
-pub column-part : (l : Layout) (n : ℕ) (xs : List ℕ) → InRange l → n ≡ cellCount l → 2008 ≡ length xs → n ≡ length (take n xs)
+pub column-part : (l : Layout) (n : ℕ) (xs : List ℕ) → InRange l → n ≡ cellCount l → 2008 ≡ length xs
+    → n ≡ length (take n xs)
 column-part l n xs r e h = sym (length-take-le n xs (omega arith))
 
 -- a cell beyond the last would stand behind the last word
@@ -55,7 +56,8 @@ abbrev pub Filled : (ℕ → ℕ) → List ℕ → ℕ → Type 0
 Filled f xs n = (c : ℕ) → c < n → getD xs c 0 ≡ f c
 
 -- one member more
-pub filled-more : (f : ℕ → ℕ) (xs : List ℕ) (n v : ℕ) → n < length xs → v ≡ f n → Filled f xs n → Filled f (set xs n v) (n + 1)
+pub filled-more : (f : ℕ → ℕ) (xs : List ℕ) (n v : ℕ) → n < length xs → v ≡ f n → Filled f xs n
+    → Filled f (set xs n v) (n + 1)
 filled-more f xs n v h e p c k = by (ℕ-discrete c n)
   where
     by : Dec (c ≡ n) → getD (set xs n v) c 0 ≡ f c
@@ -63,7 +65,8 @@ filled-more f xs n v h e p c k = by (ℕ-discrete c n)
     by (no q) = getD-set-other xs n c v 0 q ∙ p c (omega arith)
 
 -- where f is 0 behind the list's end, all is given by f
-filled-all : (f : ℕ → ℕ) (xs : List ℕ) (n : ℕ) → length xs ≡ n → ((c : ℕ) → n ≤ c → f c ≡ 0) → Filled f xs n → (c : ℕ) → getD xs c 0 ≡ f c
+filled-all : (f : ℕ → ℕ) (xs : List ℕ) (n : ℕ) → length xs ≡ n → ((c : ℕ) → n ≤ c → f c ≡ 0) → Filled f xs n
+    → (c : ℕ) → getD xs c 0 ≡ f c
 filled-all f xs n e z p c = by (decLt c n)
   where
     by : Dec (c < n) → getD xs c 0 ≡ f c
@@ -78,7 +81,7 @@ loaded-all l w i f b n laid e hi pi hf pf hb pb =
     record {
       idents = filled-all (viewOf l w .ident) i n hi (λ c h. List·getD-eq-default w 0 (behind c h)) pi;
       forwards = filled-all (viewOf l w .forward) f n hf (λ c h. List·getD-eq-default w 0 (omega (arith, behind c h))) pf;
-      backs = filled-all (viewOf l w .back) b n hb (λ c h. List·getD-eq-default w 0 (omega (arith, behind c h))) pb
+      backs = filled-all (viewOf l w .back) b n hb (λ c h. List·getD-eq-default w 0 (omega (arith, behind c h))) pb;
     }
   where
     behind : (c : ℕ) → n ≤ c → length w ≤ cellAt l c
@@ -114,67 +117,70 @@ module _ (l : Layout) (v : View) (k : ℕ) where
   unfolding ringIn
   ring-foreign h = rw (ne-eqb _ _ h)
 
-  module _ (n x y : ℕ) (t : Turning l v k n x y) where
-    -- what is left: at a node this node and the rest, else nothing
-    rest-on : isNode l y ≡ true → n < l .nodes → rest l v n y ≡ y ∷ rest l v (n + 1) (v .forward y)
-    rest-on e h =
-        let m : l .nodes - n ≡ suc (l .nodes - (n + 1)) = omega arith in
-        rw m (trail-on (v .forward) (isNode l) (l .nodes - (n + 1)) y e)
+module _ {l : Layout} {v : View} {k n x y : ℕ} (t : Turning l v k n x y) where
+  -- what is left: at a node this node and the rest, else nothing
+  rest-on : isNode l y ≡ true → n < l .nodes → rest l v n y ≡ y ∷ rest l v (n + 1) (v .forward y)
+  rest-on e h =
+      let m : l .nodes - n ≡ suc (l .nodes - (n + 1)) = omega arith in
+      rw m (trail-on (v .forward) (isNode l) (l .nodes - (n + 1)) y e)
 
-    rest-out : isNode l y ≡ false → rest l v n y ≡ []
-    rest-out e = trail-out (v .forward) (isNode l) (l .nodes - n) y e
+  rest-out : isNode l y ≡ false → rest l v n y ≡ []
+  rest-out e = trail-out (v .forward) (isNode l) (l .nodes - n) y e
 
-    rest-full : n ≡ l .nodes → rest l v n y ≡ []
-    rest-full e = let m : l .nodes - n ≡ 0 = omega arith in rw m (trail-none (v .forward) (isNode l) y)
+  rest-full : n ≡ l .nodes → rest l v n y ≡ []
+  rest-full e = let m : l .nodes - n ≡ 0 = omega arith in rw m (trail-none (v .forward) (isNode l) y)
 
-    -- the rest of the turn decides
-    ring-broken : turn v k x (rest l v n y) ≡ false → Broken ≡ ringIn l v k
-    unfolding ringIn
-    ring-broken e = rw (t .same, e, and-false)
+  -- the rest of the turn decides
+  ring-broken : turn v k x (rest l v n y) ≡ false → Broken ≡ ringIn l v k
+  unfolding ringIn
+  ring-broken e = rw (t .same, e, and-false)
 
-    -- the turn is broken: as many members as there are nodes are met and another node follows, ..
-    pub ring-long : k < l .lists → isNode l y ≡ true → n ≡ l .nodes → Broken ≡ ringIn l v k
-    unfolding turn
-    ring-long h e m =
-        let far : v .forward x ≡ k → ⊥ = λ q. absurd (omega (arith, is-node l y e, t .link, q)) in
-        ring-broken (rw (rest-full m, ne-eqb _ _ far))
+  -- the turn is broken: as many members as there are nodes are met and another node follows, ..
+  pub ring-long : k < l .lists → isNode l y ≡ true → n ≡ l .nodes → Broken ≡ ringIn l v k
+  unfolding turn
+  ring-long h e m =
+      let far : v .forward x ≡ k → ⊥ = λ q. absurd (omega (arith, is-node l y e, t .link, q)) in
+      ring-broken (rw (rest-full m, ne-eqb _ _ far))
 
-    -- .. a node is another list's, ..
-    pub ring-other : isNode l y ≡ true → n < l .nodes → (v .ident y ≡ identOf k → ⊥) → Broken ≡ ringIn l v k
-    unfolding turn
-    ring-other e h q = ring-broken (rw (rest-on e h, eq-eqb _ _ (t .link), ne-eqb _ _ q))
+  -- .. a node is another list's, ..
+  pub ring-other : isNode l y ≡ true → n < l .nodes → (v .ident y ≡ identOf k → ⊥) → Broken ≡ ringIn l v k
+  unfolding turn
+  ring-other e h q = ring-broken (rw (rest-on e h, eq-eqb _ _ (t .link), ne-eqb _ _ q))
 
-    -- .. a node's back link leads elsewhere, ..
-    pub ring-unback : isNode l y ≡ true → n < l .nodes → v .ident y ≡ identOf k → (v .back y ≡ x → ⊥) → Broken ≡ ringIn l v k
-    unfolding turn
-    ring-unback e h i q = ring-broken (rw (rest-on e h, eq-eqb _ _ (t .link), eq-eqb _ _ i, ne-eqb _ _ q))
+  -- .. a node's back link leads elsewhere, ..
+  pub ring-unback : isNode l y ≡ true → n < l .nodes → v .ident y ≡ identOf k → (v .back y ≡ x → ⊥)
+      → Broken ≡ ringIn l v k
+  unfolding turn
+  ring-unback e h i q = ring-broken (rw (rest-on e h, eq-eqb _ _ (t .link), eq-eqb _ _ i, ne-eqb _ _ q))
 
-    -- .. the last forward link leads elsewhere than to the header, or the header's back link elsewhere than to the last
-    pub ring-open : isNode l y ≡ false → (y ≡ k → ⊥) → Broken ≡ ringIn l v k
-    unfolding turn
-    ring-open e q = ring-broken (rw (rest-out e, t .link, ne-eqb _ _ q))
+  -- .. the last forward link leads elsewhere than to the header, or the header's back link elsewhere than to the last
+  pub ring-open : isNode l y ≡ false → (y ≡ k → ⊥) → Broken ≡ ringIn l v k
+  unfolding turn
+  ring-open e q = ring-broken (rw (rest-out e, t .link, ne-eqb _ _ q))
 
-    pub ring-loose : isNode l y ≡ false → (v .back k ≡ x → ⊥) → Broken ≡ ringIn l v k
-    unfolding turn
-    ring-loose e q = ring-broken (rw (rest-out e, ne-eqb _ _ q, and-false))
+  pub ring-loose : isNode l y ≡ false → (v .back k ≡ x → ⊥) → Broken ≡ ringIn l v k
+  unfolding turn
+  ring-loose e q = ring-broken (rw (rest-out e, ne-eqb _ _ q, and-false))
 
-    -- or it closes
-    pub ring-closed : v .ident k ≡ identOf k → isNode l y ≡ false → y ≡ k → v .back k ≡ x → Members n ≡ ringIn l v k
-    unfolding turn ringIn
-    ring-closed i e q b =
-        let m : length (sequenceIn l v k) ≡ n = t .count ∙ rw (rest-out e) (omega arith) in
-        rw (eq-eqb _ _ i, t .same, rest-out e, eq-eqb _ _ (t .link ∙ q), eq-eqb _ _ b, m)
+  -- or it closes
+  pub ring-closed : v .ident k ≡ identOf k → isNode l y ≡ false → y ≡ k → v .back k ≡ x
+      → Members n ≡ ringIn l v k
+  unfolding turn ringIn
+  ring-closed i e q b =
+      let m : length (sequenceIn l v k) ≡ n = t .count ∙ rw (rest-out e) (omega arith) in
+      rw (eq-eqb _ _ i, t .same, rest-out e, eq-eqb _ _ (t .link ∙ q), eq-eqb _ _ b, m)
 
-    -- or it goes on
-    pub turning-next : isNode l y ≡ true → n < l .nodes → v .ident y ≡ identOf k → v .back y ≡ x → Turning l v k (n + 1) y (v .forward y)
-    unfolding turn
-    turning-next e h i b =
-        record {
-          link = refl;
-          few = omega arith;
-          same = t .same ∙ rw (rest-on e h, eq-eqb _ _ (t .link), eq-eqb _ _ i, eq-eqb _ _ b);
-          count = t .count ∙ rw (rest-on e h) (omega arith)
-        }
+  -- or it goes on
+  pub turning-next : isNode l y ≡ true → n < l .nodes → v .ident y ≡ identOf k → v .back y ≡ x
+      → Turning l v k (n + 1) y (v .forward y)
+  unfolding turn
+  turning-next e h i b =
+      record {
+        link = refl;
+        few = omega arith;
+        same = t .same ∙ rw (rest-on e h, eq-eqb _ _ (t .link), eq-eqb _ _ i, eq-eqb _ _ b);
+        count = t .count ∙ rw (rest-on e h) (omega arith);
+      }
 
 -- of the cells from a on the first is used, or not
 used-in : (v : View) (a n : ℕ) → (v .ident a ≡ 0 → ⊥) → used v a (suc n) ≡ a ∷ used v (suc a) n
@@ -197,6 +203,7 @@ used-same v u a (suc n) e = by (ℕ-discrete (v .ident a) 0) (used-same v u (suc
   where
     i : v .ident a ≡ u .ident a
     i = ap (λ (f : ℕ → ℕ). f a) e
+
     by : Dec (v .ident a ≡ 0) → used v (suc a) n ≡ used u (suc a) n → used v a (suc n) ≡ used u a (suc n)
     by (yes q) s = used-out v a n q ∙ s ∙ sym (used-out u a n (sym i ∙ q))
     by (no q) s = used-in v a n q ∙ ap (λ (t : List ℕ). a ∷ t) s ∙ sym (used-in u a n (λ r. q (i ∙ r)))
@@ -256,7 +263,8 @@ module _ (l : Layout) (v : View) (k : ℕ) where
   ring-holds n count e q = let s = ring-said n e in rw (s .0, s .1, eq-eqb _ _ (q ∙ sym (s .2)))
 
   -- and does not where its count is another or its turn is broken
-  pub ring-miscount : (n count : ℕ) → Members n ≡ ringIn l v k → (count ≡ n → ⊥) → holds v k count (sequenceIn l v k) ≡ false
+  pub ring-miscount : (n count : ℕ) → Members n ≡ ringIn l v k → (count ≡ n → ⊥)
+      → holds v k count (sequenceIn l v k) ≡ false
   unfolding holds
   ring-miscount n count e q = let s = ring-said n e in rw (s .0, s .1, ne-eqb _ _ (λ r. q (r ∙ s .2)))
 
@@ -272,7 +280,8 @@ holds-count v k n s e =
     eqb-true _ _ (both (turn v k k s) (eqb n (length s)) (a .1) .1)
 
 -- counts that agree give one answer
-all-hold-same : (l : Layout) (v : View) (c d : ℕ → ℕ) (n : ℕ) → ((k : ℕ) → k < n → c k ≡ d k) → allHold l v c n ≡ allHold l v d n
+all-hold-same : (l : Layout) (v : View) (c d : ℕ → ℕ) (n : ℕ) → ((k : ℕ) → k < n → c k ≡ d k)
+    → allHold l v c n ≡ allHold l v d n
 unfolding allHold
 all-hold-same l v c d zero h = refl
 all-hold-same l v c d (suc n) h = rw (h n (omega arith), all-hold-same l v c d n (λ k q. h k (omega arith)))
@@ -282,7 +291,8 @@ pub members-none : (l : Layout) (v : View) → 0 ≡ length (members l v 0)
 unfolding members
 members-none l v = refl
 
-pub members-more : (l : Layout) (v : View) (k : ℕ) → length (members l v (k + 1)) ≡ length (members l v k) + length (sequenceIn l v k)
+pub members-more : (l : Layout) (v : View) (k : ℕ)
+    → length (members l v (k + 1)) ≡ length (members l v k) + length (sequenceIn l v k)
 unfolding members
 members-more l v k = rw add-one (length-append (members l v k) (sequenceIn l v k))
 
@@ -292,7 +302,8 @@ module _ (l : Layout) (v : View) (count : ℕ → ℕ) where
   unfolding allHold
   all-hold-none = refl
 
-  pub all-hold-more : (k : ℕ) → allHold l v count k ≡ true → holds v k (count k) (sequenceIn l v k) ≡ true → allHold l v count (k + 1) ≡ true
+  pub all-hold-more : (k : ℕ) → allHold l v count k ≡ true → holds v k (count k) (sequenceIn l v k) ≡ true
+      → allHold l v count (k + 1) ≡ true
   unfolding allHold
   all-hold-more k e h = rw (add-one, e, h)
 
@@ -329,15 +340,18 @@ sound-loaded l w i f b count h c e =
     e ∙ rw (loaded-view l w i f b h, all-hold-same l (viewOf l w) count (countIn w) (l .lists) c)
 
 -- and the sequence of a list is that of the words
-pub sequence-loaded : (l : Layout) (w i f b : List ℕ) (k : ℕ) → Loaded l w i f b → sequenceIn l (columns f f f) k ≡ sequenceOf l w k
+pub sequence-loaded : (l : Layout) (w i f b : List ℕ) (k : ℕ) → Loaded l w i f b
+    → sequenceIn l (columns f f f) k ≡ sequenceOf l w k
 sequence-loaded l w i f b k h = ap (λ (v : View). sequenceIn l v k) (loaded-view l w i f b h)
 
 -- the cell in front of a position of list k: its link is the cell at the position, and it is a cell of the store
 module _ (l : Layout) (v : View) (k : ℕ) where
-  pub before-next : (i : ℕ) → i < length (sequenceIn l v k) → v .forward (getD (k ∷ sequenceIn l v k) i 0) ≡ getD (sequenceIn l v k) i 0
+  pub before-next : (i : ℕ) → i < length (sequenceIn l v k)
+      → v .forward (getD (k ∷ sequenceIn l v k) i 0) ≡ getD (sequenceIn l v k) i 0
   before-next i h = sym (trail-link (v .forward) (isNode l) (l .nodes) k i h)
 
-  pub before-cell : (i : ℕ) → k < l .lists → i ≤ length (sequenceIn l v k) → getD (k ∷ sequenceIn l v k) i 0 < cellCount l
+  pub before-cell : (i : ℕ) → k < l .lists → i ≤ length (sequenceIn l v k)
+      → getD (k ∷ sequenceIn l v k) i 0 < cellCount l
   before-cell zero h p = omega arith
   before-cell (suc i) h p =
       let s = sequenceIn l v k in

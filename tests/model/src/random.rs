@@ -7,7 +7,7 @@ impl Random {
         Random(seed)
     }
 
-    pub fn next(&mut self) -> u64 {
+    pub fn bits(&mut self) -> u64 {
         self.0 = self.0.wrapping_add(0x9e37_79b9_7f4a_7c15);
         let mut z = self.0;
         z = (z ^ (z >> 30)).wrapping_mul(0xbf58_476d_1ce4_e5b9);
@@ -17,7 +17,7 @@ impl Random {
 
     /// A number below `n`.
     pub fn below(&mut self, n: usize) -> usize {
-        (self.next() % n as u64) as usize
+        (self.bits() % n as u64) as usize
     }
 
     /// A number from `low` to `high`, both included.
@@ -26,7 +26,7 @@ impl Random {
     }
 
     pub fn word(&mut self) -> u16 {
-        self.next() as u16
+        self.bits() as u16
     }
 
     pub fn pick<T: Copy>(&mut self, of: &[T]) -> T {

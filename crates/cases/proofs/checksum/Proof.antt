@@ -1,12 +1,9 @@
-use mathlib.Core.Path.{_≡_}
-use Prim.Native.Nat.{_+_, _*_, _-_, _≤_, _<_}
+-- `cases::checksum`: i runs up to the length; the sum stays below the modulus, so that the next product fits.
+use Prim.Native.Nat.{_-_, _≤_, _<_}
 use borrow.Author.Needs.{needs}
 use lib.ListN.{length}
 use Rattle.cases.proofs.checksum.Statement.{statement}
 use Rattle.cases.proofs.checksum.Tie as tie
-use Rattle.cases.proofs.checksum.Reads as reads
-use Rattle.cases.proofs.checksum.Lts as lts
-use Rattle.cases.proofs.wide.Reads as wide-reads
 
 abbrev Inv-loop : tie.InvT-loop
 Inv-loop words sum₀ i₀ sum i = (i ≤ length words) × (sum < 4294967291)

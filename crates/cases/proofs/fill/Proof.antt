@@ -1,12 +1,11 @@
+-- `cases::fill`: i runs up to the length, which the stores keep.
 use mathlib.Core.Path.{_≡_}
-use Prim.Native.Nat.{_+_, _*_, _-_, _≤_, _<_}
+use Prim.Native.Nat.{_-_, _≤_}
 use borrow.Author.Needs.{needs}
 use native.Mathlib.Omega.{arith}
 use lib.ListN.{length, length-set}
 use Rattle.cases.proofs.fill.Statement.{statement}
 use Rattle.cases.proofs.fill.Tie as tie
-use Rattle.cases.proofs.fill.Reads as reads
-use Rattle.cases.proofs.fill.Lts as lts
 
 abbrev Inv-loop : tie.InvT-loop
 Inv-loop words₀ n v i₀ words i = (i ≤ length words) × (length words ≡ length words₀)

@@ -1,13 +1,9 @@
-use mathlib.Core.Path.{_≡_}
-use Prim.Native.Nat.{_+_, _*_, _-_, _≤_, _<_}
+-- `cases::print_words`: i runs up to the length.
+use Prim.Native.Nat.{_-_, _≤_}
 use borrow.Author.Needs.{needs}
 use lib.ListN.{length}
 use Rattle.cases.proofs.print_words.Statement.{statement}
 use Rattle.cases.proofs.print_words.Tie as tie
-use Rattle.cases.proofs.print_words.Reads as reads
-use Rattle.cases.proofs.print_words.Lts as lts
-use Rattle.cases.proofs.print.Reads as print-reads
-use Rattle.cases.proofs.print_spaced.Reads as print-spaced-reads
 
 abbrev Inv-loop : tie.InvT-loop
 Inv-loop words i₀ t3 i = i ≤ length words

@@ -1,13 +1,10 @@
+-- `cases::put_all`: i runs up to m; `put` keeps the length.
 use mathlib.Core.Path.{_≡_}
-use Prim.Native.Nat.{_+_, _*_, _-_, _≤_, _<_}
+use Prim.Native.Nat.{_-_}
 use borrow.Author.Needs.{needs}
 use lib.ListN.{length}
 use Rattle.cases.proofs.put_all.Statement.{statement}
 use Rattle.cases.proofs.put_all.Tie as tie
-use Rattle.cases.proofs.put_all.Reads as reads
-use Rattle.cases.proofs.put_all.Lts as lts
-use Rattle.cases.proofs.put.Reads as put-reads
-use Rattle.cases.proofs.word.Reads as word-reads
 
 abbrev Inv-loop : tie.InvT-loop
 Inv-loop words₀ a entry m i₀ words i = length words ≡ length words₀

@@ -1,14 +1,10 @@
+-- `cases::run`: each entry ends behind its beginning and within the script; the store's length stays within the words.
 use mathlib.Core.Path.{_≡_}
-use Prim.Native.Nat.{_+_, _*_, _-_, _≤_, _<_}
+use Prim.Native.Nat.{_-_, _≤_}
 use borrow.Author.Needs.{needs}
 use lib.ListN.{length}
 use Rattle.cases.proofs.run.Statement.{statement}
 use Rattle.cases.proofs.run.Tie as tie
-use Rattle.cases.proofs.run.Reads as reads
-use Rattle.cases.proofs.run.Lts as lts
-use Rattle.cases.proofs.entry_end.Reads as entry-end-reads
-use Rattle.cases.proofs.print.Reads as print-reads
-use Rattle.cases.proofs.step.Reads as step-reads
 
 abbrev Inv-loop : tie.InvT-loop
 Inv-loop script words₀ n₀ at₀ t6 words n at = (n ≤ length words) × (at ≤ length script) × (length words ≡ length words₀)

@@ -1,16 +1,9 @@
+-- `cases::step`: the first n words are a part of n words.
 use mathlib.Core.Path.{sym}
 use lib.Seq.{length-take-le}
-use Prim.Native.Nat.{_+_, _*_, _-_, _≤_, _<_}
-use borrow.Author.Needs.{needs}
-use lib.ListN.{length}
 use borrow.Author.Needs.{needs}
 use Rattle.cases.proofs.step.Statement.{statement}
 use Rattle.cases.proofs.step.Tie as tie
-use Rattle.cases.proofs.step.Reads as reads
-use Rattle.cases.proofs.step.Lts as lts
-use Rattle.cases.proofs.fill.Reads as fill-reads
-use Rattle.cases.proofs.perform.Reads as perform-reads
-use Rattle.cases.proofs.word.Reads as word-reads
 
 word-requires : tie.Need-word-requires
 word-requires c κs = search needs

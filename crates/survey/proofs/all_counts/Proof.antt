@@ -3,7 +3,6 @@ use Prim.Native.Nat.{_-_, _≤_}
 use mathlib.Core.Path.{_≡_, refl, sym}
 use native.Mathlib.Omega.{arith}
 use lib.ListN.{length, length-set}
-use borrow.Author.Needs.{needs}
 use Rattle.layout.specs.Words.{Laid}
 use Rattle.lists.specs.Decide.{countIn}
 use Rattle.survey.proofs.Laws.{Filled, filled-more}
@@ -21,29 +20,32 @@ loop-holds : tie.Need-loop-holds Inv-loop μ-loop
 loop-holds c = (c .before .pre, omega arith, refl, λ j h. absurd (omega arith))
 
 count-requires : tie.Need-count-requires Inv-loop μ-loop
-count-requires c κs = search needs
+count-requires c κs = omega arith
 
 cast-r : tie.Need-cast-r Inv-loop μ-loop
-cast-r c = search needs
+cast-r c = omega arith
 
 mul-r : tie.Need-mul-r Inv-loop μ-loop
-mul-r c = search needs
+mul-r c = omega arith
 
 array-write-r : tie.Need-array-write-r Inv-loop μ-loop
-array-write-r c = search needs
+array-write-r c = omega arith
 
 add-k : tie.Need-add-k Inv-loop μ-loop
-add-k c = search needs
+add-k c = omega arith
 
 loop-less : tie.Need-loop-less Inv-loop μ-loop
-loop-less c = search needs
+loop-less c = omega arith
 
 loop-again : tie.Need-loop-again Inv-loop μ-loop
 loop-again c =
-    let t = c .before .before .before .loop in
-    (t .inv .0, omega arith, simp length-set (t .inv .2),
+    let t = c .before .before .before .loop in (
+      t .inv .0,
+      omega arith,
+      simp length-set (t .inv .2),
       filled-more (countIn (c .before .before .before .before .before .args .words .now)) (t .r) (t .k) (c .count .result)
-      (omega arith) (c .count .ensures) (t .inv .3))
+          (omega arith) (c .count .ensures) (t .inv .3),
+    )
 
 returns : tie.Need-returns Inv-loop μ-loop
 returns c =

@@ -30,7 +30,8 @@ cell c =
     let s = c .before .before in
     let f = s .args .forwards .now in
     let t = c .before .loop in
-    omega (arith, t .inv .1 (s .args .l) (s .pre .3), before-cell (s .args .l) (columns f f f) (s .args .k) (t .i) (s .pre .2) (omega arith))
+    let h = before-cell (s .args .l) (columns f f f) (s .args .k) (t .i) (s .pre .2) (omega arith) in
+    omega (arith, t .inv .1 (s .args .l) (s .pre .3))
 
 cast-c : tie.Need-cast-c Inv-loop μ-loop
 cast-c c = omega (arith, cell c)
@@ -51,9 +52,11 @@ loop-again : tie.Need-loop-again Inv-loop μ-loop
 loop-again c =
     let t = c .before .before .loop in
     let f = c .before .before .before .args .forwards .now in
-    let k = c .before .before .before .args .k in
-    (omega arith,
-      λ l h. ap (λ (x : ℕ). getD f x 0) (t .inv .1 l h) ∙ before-next l (columns f f f) k (t .i) (omega arith) ∙ rw add-one)
+    let k = c .before .before .before .args .k in (
+      omega arith,
+      λ l h. ap (λ (x : ℕ). getD f x 0) (t .inv .1 l h) ∙ before-next l (columns f f f) k (t .i) (omega arith)
+          ∙ rw add-one,
+    )
 
 returns : tie.Need-returns Inv-loop μ-loop
 returns c =

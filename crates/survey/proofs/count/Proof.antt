@@ -3,19 +3,18 @@ use Prim.Native.Nat.{ℕ, _+_}
 use mathlib.Core.Path.{ap}
 use native.Mathlib.Omega.{arith}
 use lib.ListN.{getD}
-use borrow.Author.Needs.{needs}
 use Rattle.layout.proofs.Laws.{header-fits}
 use Rattle.survey.proofs.count.Statement.{statement}
 use Rattle.survey.proofs.count.Tie as tie
 
 header-requires : tie.Need-header-requires
-header-requires c κs = search needs
+header-requires c κs = omega arith
 
 add-result : tie.Need-add-result
-add-result c = search needs
+add-result c = omega arith
 
 mul-result : tie.Need-mul-result
-mul-result c = search needs
+mul-result c = omega arith
 
 shared-slice-read-result : tie.Need-shared-slice-read-result
 shared-slice-read-result c =

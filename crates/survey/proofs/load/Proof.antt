@@ -3,7 +3,6 @@ use Prim.Native.Nat.{ℕ, _+_, _-_, _≤_}
 use mathlib.Core.Path.{_≡_, ap, _∙_, sym}
 use native.Mathlib.Omega.{arith}
 use lib.ListN.{length, getD, length-set}
-use borrow.Author.Needs.{needs}
 use Rattle.layout.specs.Words.{Laid, cellCount, cellAt}
 use Rattle.layout.proofs.Laws.{cell-fits}
 use Rattle.lists.specs.Decide.{viewOf}
@@ -22,23 +21,32 @@ abbrev μ-loop : tie.MeasureT-loop
 μ-loop words l idents₀ forwards₀ backs₀ n i₀ idents forwards backs i = n - i
 
 cell-count-requires : tie.Need-cell-count-requires Inv-loop μ-loop
-cell-count-requires c κs = search needs
+cell-count-requires c κs = omega arith
 
 loop-holds : tie.Need-loop-holds Inv-loop μ-loop
 loop-holds c =
-    let s = c .before .before .before .before .before in
-    (omega arith, s .pre .0, c .cell-count .ensures,
-      omega arith, omega arith, omega arith,
-      λ j h. absurd (omega arith), λ j h. absurd (omega arith), λ j h. absurd (omega arith))
+    let s = c .before .before .before .before .before in (
+      omega arith,
+      s .pre .0,
+      c .cell-count .ensures,
+      omega arith,
+      omega arith,
+      omega arith,
+      λ j h. absurd (omega arith),
+      λ j h. absurd (omega arith),
+      λ j h. absurd (omega arith),
+    )
 
 cell-requires : tie.Need-cell-requires Inv-loop μ-loop
-cell-requires c κs = search needs
+cell-requires c κs = omega arith
 
 -- the cell's words stand within the store
-fits : (c : tie.After-cell Inv-loop μ-loop) → c .cell .result + 3 ≤ length (c .before .before .before .before .before .before .before .before .args .words .now)
+fits : (c : tie.After-cell Inv-loop μ-loop) → let s = c .before .before .before .before .before .before .before .before in
+    c .cell .result + 3 ≤ length (s .args .words .now)
 fits c =
-    let v = c .before .before .loop .inv in
-    omega (arith, cell-fits (c .before .before .before .before .before .before .before .before .args .l) (c .before .before .loop .i) (v .1 .inRange) (omega arith))
+    let s = c .before .before .before .before .before .before .before .before in
+    let t = c .before .before .loop in
+    omega (arith, cell-fits (s .args .l) (t .i) (t .inv .1 .inRange) (omega arith))
 
 mul-links-of : tie.Need-mul-links-of Inv-loop μ-loop
 mul-links-of c = omega (arith, fits c)
@@ -50,7 +58,7 @@ part-links-of-start : tie.Need-part-links-of-start Inv-loop μ-loop
 part-links-of-start c = omega (arith, fits c)
 
 part-links-of-end : tie.Need-part-links-of-end Inv-loop μ-loop
-part-links-of-end c = search needs
+part-links-of-end c = omega arith
 
 links-of-requires : tie.Need-links-of-requires Inv-loop μ-loop
 links-of-requires c κs =
@@ -58,31 +66,31 @@ links-of-requires c κs =
     omega (arith, fits (c .before), part-length (s .args .words .now) (c .before .cell .result))
 
 cast-idents : tie.Need-cast-idents Inv-loop μ-loop
-cast-idents c = search needs
+cast-idents c = omega arith
 
 mul-idents : tie.Need-mul-idents Inv-loop μ-loop
-mul-idents c = search needs
+mul-idents c = omega arith
 
 slice-write-idents : tie.Need-slice-write-idents Inv-loop μ-loop
-slice-write-idents c = search needs
+slice-write-idents c = omega arith
 
 cast-forwards : tie.Need-cast-forwards Inv-loop μ-loop
-cast-forwards c = search needs
+cast-forwards c = omega arith
 
 mul-forwards : tie.Need-mul-forwards Inv-loop μ-loop
-mul-forwards c = search needs
+mul-forwards c = omega arith
 
 slice-write-forwards : tie.Need-slice-write-forwards Inv-loop μ-loop
-slice-write-forwards c = search needs
+slice-write-forwards c = omega arith
 
 cast-backs : tie.Need-cast-backs Inv-loop μ-loop
-cast-backs c = search needs
+cast-backs c = omega arith
 
 mul-backs : tie.Need-mul-backs Inv-loop μ-loop
-mul-backs c = search needs
+mul-backs c = omega arith
 
 slice-write-backs : tie.Need-slice-write-backs Inv-loop μ-loop
-slice-write-backs c = search needs
+slice-write-backs c = omega arith
 
 add-i : tie.Need-add-i Inv-loop μ-loop
 add-i c = omega arith
@@ -99,15 +107,20 @@ loop-again c =
     let a = c .before .before .cell .result in
     let r = c .links-of .result in
     let e = c .links-of .ensures in
-    let at : a ≡ cellAt (s .args .l) (t .i) = c .before .before .cell .ensures in
-    (omega arith, t .inv .1, t .inv .2,
-      simp length-set (t .inv .3), simp length-set (t .inv .4), simp length-set (t .inv .5),
+    let at : a ≡ cellAt (s .args .l) (t .i) = c .before .before .cell .ensures in (
+      omega arith,
+      t .inv .1,
+      t .inv .2,
+      simp length-set (t .inv .3),
+      simp length-set (t .inv .4),
+      simp length-set (t .inv .5),
       filled-more (v .ident) (t .idents) (t .i) (r .ident) (omega arith)
-      (e .0 ∙ part-first w a ∙ ap (λ (x : ℕ). getD w x 0) at) (t .inv .6),
+          (e .0 ∙ part-first w a ∙ ap (λ (x : ℕ). getD w x 0) at) (t .inv .6),
       filled-more (v .forward) (t .forwards) (t .i) (r .forward) (omega arith)
-      (e .1 ∙ part-at w a 1 ∙ ap (λ (x : ℕ). getD w (x + 1) 0) at) (t .inv .7),
+          (e .1 ∙ part-at w a 1 ∙ ap (λ (x : ℕ). getD w (x + 1) 0) at) (t .inv .7),
       filled-more (v .back) (t .backs) (t .i) (r .back) (omega arith)
-      (e .2 ∙ part-at w a 2 ∙ ap (λ (x : ℕ). getD w (x + 2) 0) at) (t .inv .8))
+          (e .2 ∙ part-at w a 2 ∙ ap (λ (x : ℕ). getD w (x + 2) 0) at) (t .inv .8),
+    )
 
 same-length : tie.Need-same-length Inv-loop μ-loop
 same-length c = omega arith

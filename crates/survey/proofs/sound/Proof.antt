@@ -4,13 +4,13 @@ use mathlib.Core.Path.{_≡_, refl, ap, _∙_, sym}
 use mathlib.Core.Bool.{true}
 use native.Mathlib.Omega.{arith}
 use lib.ListN.{length, getD}
-use borrow.Author.Needs.{needs}
 use Rattle.layout.specs.declared.Layout.{Layout}
 use Rattle.layout.specs.Words.{firstNode}
 use Rattle.lists.specs.Decide.{View, allHold, members}
 use Rattle.survey.specs.declared.Round.the-variants.{Members, Broken}
 use Rattle.survey.specs.Survey.{columns, Columns, ringIn}
-use Rattle.survey.proofs.Laws.{ring-holds, ring-length, ring-few, ring-miscount, ring-not, all-hold-none, all-hold-more, members-none, members-more, sound-by, sound-not, used-same}
+use Rattle.survey.proofs.Laws.{ring-holds, ring-length, ring-few, ring-miscount, ring-not, used-same}
+use Rattle.survey.proofs.Laws.{all-hold-none, all-hold-more, members-none, members-more, sound-by, sound-not}
 use Rattle.survey.proofs.sound.Statement.{statement}
 use Rattle.survey.proofs.sound.Tie as tie
 
@@ -46,20 +46,22 @@ counted c k = getD (c .before .before .before .before .args .t4) k 0
 abbrev found : tie.After-n Inv-loop μ-loop → ℕ
 found c = c .n .given .0 .0
 
-said : (c : tie.After-n Inv-loop μ-loop) → let h = c .before .before .before .before .before in Members (found c) ≡ ringIn (layout h) (view h) (h .loop .k)
+said : (c : tie.After-n Inv-loop μ-loop) → let h = c .before .before .before .before .before in
+    Members (found c) ≡ ringIn (layout h) (view h) (h .loop .k)
 said c = sym (c .n .given .1) ∙ c .before .before .ring .ensures
 
-broken : (c : tie.After-enum-told Inv-loop μ-loop) → let h = c .before .before .before .before .before in Broken ≡ ringIn (layout h) (view h) (h .loop .k)
+broken : (c : tie.After-enum-told Inv-loop μ-loop) → let h = c .before .before .before .before .before in
+    Broken ≡ ringIn (layout h) (view h) (h .loop .k)
 broken c = sym (c .enum-told .given .1) ∙ c .before .before .ring .ensures
 
 ring-requires : tie.Need-ring-requires Inv-loop μ-loop
-ring-requires c κs = search needs
+ring-requires c κs = omega arith
 
 enum-known-n : tie.Need-enum-known-n Inv-loop μ-loop
-enum-known-n c = search needs
+enum-known-n c = omega arith
 
 enum-told : tie.Need-enum-told Inv-loop μ-loop
-enum-told c = search needs
+enum-told c = omega arith
 
 returns : tie.Need-returns Inv-loop μ-loop
 returns c =
@@ -68,13 +70,13 @@ returns c =
     (ring-not (layout h) (view h) (h .loop .k) (counted h (h .loop .k)) (broken c))
 
 cast-if2 : tie.Need-cast-if2 Inv-loop μ-loop
-cast-if2 c = search needs
+cast-if2 c = omega arith
 
 mul-if2 : tie.Need-mul-if2 Inv-loop μ-loop
-mul-if2 c = search needs
+mul-if2 c = omega arith
 
 array-read-if2 : tie.Need-array-read-if2 Inv-loop μ-loop
-array-read-if2 c = search needs
+array-read-if2 c = omega arith
 
 returns-2 : tie.Need-returns-2 Inv-loop μ-loop
 returns-2 c =
@@ -89,24 +91,26 @@ add-total c =
     omega (arith, ring-few (layout h) (view h) (h .loop .k) (found (c .before .before)) (said (c .before .before)))
 
 add-k : tie.Need-add-k Inv-loop μ-loop
-add-k c = search needs
+add-k c = omega arith
 
 loop-less : tie.Need-loop-less Inv-loop μ-loop
-loop-less c = search needs
+loop-less c = omega arith
 
 loop-again : tie.Need-loop-again Inv-loop μ-loop
 loop-again c =
     let h = c .before .before .before .before .before .before .before in
     let a = c .before .before in
-    let k = h .loop .k in
-    (h .loop .inv .0, omega arith,
+    let k = h .loop .k in (
+      h .loop .inv .0,
+      omega arith,
       all-hold-more (layout h) (view h) (counted h) k (h .loop .inv .2)
-      (ring-holds (layout h) (view h) k (found a) (counted h k) (said a) (c .if2 .left)),
+          (ring-holds (layout h) (view h) k (found a) (counted h k) (said a) (c .if2 .left)),
       omega (arith, members-more (layout h) (view h) k, ring-length (layout h) (view h) k (found a) (said a)),
-      omega (arith, ring-few (layout h) (view h) k (found a) (said a)))
+      omega (arith, ring-few (layout h) (view h) k (found a) (said a)),
+    )
 
 used-nodes-requires : tie.Need-used-nodes-requires Inv-loop μ-loop
-used-nodes-requires c κs = search needs
+used-nodes-requires c κs = omega arith
 
 returns-3 : tie.Need-returns-3 Inv-loop μ-loop
 returns-3 c =

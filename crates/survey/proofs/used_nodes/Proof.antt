@@ -4,7 +4,6 @@ use mathlib.Core.Path.{_≡_}
 use mathlib.Core.Logic.{⊎-elim}
 use native.Mathlib.Omega.{arith}
 use lib.ListN.{length}
-use borrow.Author.Needs.{needs}
 use Rattle.layout.specs.Words.{firstNode}
 use Rattle.lists.specs.Decide.{used}
 use Rattle.survey.specs.Survey.{columns}
@@ -21,22 +20,22 @@ abbrev μ-loop : tie.MeasureT-loop
 μ-loop idents n₀ i₀ end n i = end - i
 
 first-node-requires : tie.Need-first-node-requires Inv-loop μ-loop
-first-node-requires c κs = search needs
+first-node-requires c κs = omega arith
 
 cell-count-requires : tie.Need-cell-count-requires Inv-loop μ-loop
-cell-count-requires c κs = search needs
+cell-count-requires c κs = omega arith
 
 loop-holds : tie.Need-loop-holds Inv-loop μ-loop
 loop-holds c = omega arith
 
 cast-if1 : tie.Need-cast-if1 Inv-loop μ-loop
-cast-if1 c = search needs
+cast-if1 c = omega arith
 
 mul-if1 : tie.Need-mul-if1 Inv-loop μ-loop
-mul-if1 c = search needs
+mul-if1 c = omega arith
 
 shared-slice-read-if1 : tie.Need-shared-slice-read-if1 Inv-loop μ-loop
-shared-slice-read-if1 c = search needs
+shared-slice-read-if1 c = omega arith
 
 add-n : tie.Need-add-n Inv-loop μ-loop
 add-n c =
@@ -46,10 +45,10 @@ add-n c =
     omega (arith, used-length (columns f f f) a (e - a))
 
 add-i : tie.Need-add-i Inv-loop μ-loop
-add-i c = search needs
+add-i c = omega arith
 
 loop-less : tie.Need-loop-less Inv-loop μ-loop
-loop-less c = search needs
+loop-less c = omega arith
 
 loop-again : tie.Need-loop-again Inv-loop μ-loop
 loop-again c =
@@ -57,12 +56,13 @@ loop-again c =
     let v = columns f f f in
     let t = c .before .before .before .loop in
     let e = c .before .before .before .before .cell-count .result in
-    let h : t .i < e = c .before .before .loop-test .taken in
-    (omega arith,
+    let h : t .i < e = c .before .before .loop-test .taken in (
+      omega arith,
       ⊎-elim
-      (λ w. omega (arith, used-one v (t .i) e h (w .0 .taken), w .1))
-      (λ w. omega (arith, used-skip v (t .i) e h (w .0 .left), w .1))
-      (c .if1 .came))
+          (λ w. omega (arith, used-one v (t .i) e h (w .0 .taken), w .1))
+          (λ w. omega (arith, used-skip v (t .i) e h (w .0 .left), w .1))
+          (c .if1 .came),
+    )
 
 returns : tie.Need-returns Inv-loop μ-loop
 returns c =
@@ -74,7 +74,8 @@ returns c =
     let z : e - t .i ≡ 0 = omega arith in
     let d : e - a ≡ s .l .nodes = omega arith in
     let none : length (used v (t .i) (e - t .i)) ≡ 0 = rw (z, used-none v (t .i)) in
-    let all : length (used v a (e - a)) ≡ length (used v (firstNode (s .l)) (s .l .nodes)) = rw (d, c .before .before .before .first-node .ensures) in
+    let all : length (used v a (e - a)) ≡ length (used v (firstNode (s .l)) (s .l .nodes)) =
+    rw (d, c .before .before .before .first-node .ensures) in
     omega (arith, none, all)
 
 pub used-nodes-spec : {M : Type 1} → statement M

@@ -146,13 +146,12 @@ fn heads(s: &mut Script) {
     let words = s.sound(shape, &[vec![4, 2], vec![3]]);
     s.load(&words);
     s.ask(0, 1);
-    for at in 0..8 {
-        let right = words[at];
+    for (at, &right) in words[..8].iter().enumerate() {
         for value in [0, 1, right.wrapping_sub(1), right + 1, right.swap_bytes(), right | 0x100, right | 0x8000, 65_535] {
             s.ask_with(&[(at, value)], 0, 1);
         }
         for other in 0..8 {
-            s.ask_with(&[(at, words[at] + 1), (other, 65_535)], 1, 0);
+            s.ask_with(&[(at, right + 1), (other, 65_535)], 1, 0);
         }
     }
 }
@@ -304,7 +303,9 @@ fn values_for(shape: Shape, header: bool, i: usize, right: u16) -> Vec<u16> {
 /// Each word of the headers, and the first four of each node, altered alone: a member's record and a free node's links leave
 /// the store sound.
 fn altered_words(s: &mut Script) {
-    for (lists, nodes, width, used) in [(1, 1, 1, 1), (1, 3, 1, 2), (2, 3, 2, 3), (2, 5, 1, 4), (3, 5, 2, 3), (4, 7, 1, 5), (8, 10, 3, 9)] {
+    for (lists, nodes, width, used) in
+        [(1, 1, 1, 1), (1, 3, 1, 2), (2, 3, 2, 3), (2, 5, 1, 4), (3, 5, 2, 3), (4, 7, 1, 5), (8, 10, 3, 9)]
+    {
         let shape = Shape::new(lists, nodes, width);
         let dealt = s.deal(shape, used);
         let words = s.sound(shape, &dealt);

@@ -1,0 +1,111 @@
+-- A list, and the soundness of a store, depend only on the words of the cells concerned.
+use Prim.Native.Nat.{ℕ, zero, suc, _+_, _<_, _≤_}
+use mathlib.Core.Path.{_≡_, refl, ap, _∙_, sym, subst, subst⁻¹}
+use mathlib.Core.List.{List, [], _∷_, _++_, List·Memᴰ·head, List·Memᴰ·tail, List·Memᴰ·append-cases}
+use mathlib.Core.Logic.{⊎-elim}
+use native.Mathlib.Omega.{arith}
+use native.Mathlib.Nat.{add-zero}
+use lib.ListN.{length, getD}
+use Rattle.sequences.specs.Sequence.{_∈_, All, Different}
+use Rattle.sequences.proofs.Members.{all-in, in-all, different-append, in-front, in-behind}
+use Rattle.sequences.proofs.Splice.{forward-same, backward-same}
+use Rattle.layout.specs.declared.Layout.{Layout}
+use Rattle.layout.specs.Words.{firstNode, cellCount, Node, cellAt, cellWords, identAt, countAt, identOf}
+use Rattle.layout.proofs.Laws.{cell-header}
+use Rattle.layout.proofs.Apart.{links-words, words-header}
+use Rattle.lists.specs.Lists.{IsList, SoundLists, SameCells}
+use Rattle.lists.specs.Decide.{viewOf, countIn}
+use Rattle.lists.proofs.Agree.{Turn, Holds, agrees-holds, holds-agrees}
+use Rattle.lists.proofs.Unique.{member-ident}
+
+-- addresses as words of a cell
+pub ident-word : (l : Layout) (i : ℕ) → identAt l i ≡ cellAt l i + 0
+ident-word l i = sym (add-zero (cellAt l i))
+
+pub count-word : (l : Layout) (k : ℕ) → k < l .lists → countAt k ≡ cellAt l k + 3
+count-word l k h = ap (λ (a : ℕ). a + 3) (sym (cell-header l k h))
+
+-- a list's header is none of its nodes
+pub header-apart : (l : Layout) (k : ℕ) (s : List ℕ) → k < l .lists → All (Node l) s → k ∈ s → ⊥
+header-apart l k s h n m = omega (arith, all-in (Node l) s n m .low)
+
+module _ (l : Layout) (w : List ℕ) (k : ℕ) (h : k < l .lists) (s : List ℕ) (i : IsList l w k s) where
+  -- header and members are different cells, in front or behind
+  pub ring-different : Different (k ∷ s)
+  ring-different = (header-apart l k s h (i .nodes), i .different)
+
+  pub ring-different-behind : Different (s ++ k ∷ [])
+  ring-different-behind =
+      different-append s (k ∷ []) (i .different) ((λ m. elim m [ ]), tt)
+      (λ x m m′. header-apart l k s h (i .nodes) (subst (λ (y : ℕ). y ∈ s) (one x m′) m))
+    where
+      one : (x : ℕ) → x ∈ (k ∷ []) → x ≡ k
+      one x (List·Memᴰ·head e) = e
+      one x (List·Memᴰ·tail m) = absurd (elim m [ ])
+
+  -- a cell of the list is a cell of the store
+  pub ring-cell : (x : ℕ) → x ∈ (k ∷ s) → x < cellCount l
+  ring-cell x (List·Memᴰ·head e) = omega arith
+  ring-cell x (List·Memᴰ·tail m) = all-in (Node l) s (i .nodes) m .high
+
+  -- words that are the same in all its cells hold the same list
+  pub list-same : (w′ : List ℕ) → SameCells l w w′ (k ∷ s) → IsList l w′ k s
+  list-same w′ q =
+      let a = agrees-holds l w k s (i .agrees) in
+      record {
+        nodes = i .nodes;
+        different = i .different;
+        agrees =
+          holds-agrees l w′ k s (record {
+            ident = ident k (List·Memᴰ·head refl) ∙ a .ident;
+            turn =
+              record {
+                idents =
+                  in-all (λ c. getD w′ (identAt l c) 0 ≡ identOf k) s
+                  (λ x m. ident x (List·Memᴰ·tail m) ∙ all-in (λ c. getD w (identAt l c) 0 ≡ identOf k) s (a .turn .idents) m);
+                forwards =
+                  forward-same (viewOf l w .forward) (viewOf l w′ .forward) k s k
+                  (λ y m. q y 1 m (links-words l y 1 (omega arith))) (a .turn .forwards);
+                backs =
+                  backward-same (viewOf l w .back) (viewOf l w′ .back) k s k
+                  (λ y m. q y 2 (in-front k s m) (links-words l y 2 (omega arith))) (a .turn .backs)
+              };
+            count =
+              ap (λ (n : ℕ). getD w′ n 0) (count-word l k h)
+              ∙ q k 3 (List·Memᴰ·head refl) (omega (arith, words-header l k h))
+              ∙ ap (λ (n : ℕ). getD w n 0) (sym (count-word l k h))
+              ∙ a .count
+          })
+      }
+    where
+      ident : (x : ℕ) → x ∈ (k ∷ s) → getD w′ (identAt l x) 0 ≡ getD w (identAt l x) 0
+      ident x m =
+          ap (λ (n : ℕ). getD w′ n 0) (ident-word l x)
+          ∙ q x 0 m (links-words l x 0 (omega arith))
+          ∙ ap (λ (n : ℕ). getD w n 0) (sym (ident-word l x))
+
+-- cells of two lists are different cells
+pub lists-apart
+    : (l : Layout) (w : List ℕ) (j k : ℕ) (s t : List ℕ) → j < l .lists → k < l .lists → (j ≡ k → ⊥) → IsList l w j s → IsList l w k t
+    → (x y : ℕ) → x ∈ (j ∷ s) → y ∈ (k ∷ t) → x ≡ y → ⊥
+lists-apart l w j k s t hj hk n i i′ x y (List·Memᴰ·head e) (List·Memᴰ·head e′) q = n (sym e ∙ q ∙ e′)
+lists-apart l w j k s t hj hk n i i′ x y (List·Memᴰ·head e) (List·Memᴰ·tail m) q =
+    omega (arith, all-in (Node l) t (i′ .nodes) m .low)
+lists-apart l w j k s t hj hk n i i′ x y (List·Memᴰ·tail m) (List·Memᴰ·head e) q =
+    omega (arith, all-in (Node l) s (i .nodes) m .low)
+lists-apart l w j k s t hj hk n i i′ x y (List·Memᴰ·tail m) (List·Memᴰ·tail m′) q =
+    let e : 42400 + j ≡ 42400 + k =
+          sym (member-ident l w j s x i m) ∙ ap (λ (c : ℕ). getD w (identAt l c) 0) q ∙ member-ident l w k t y i′ m′ in
+    n (omega arith)
+
+-- the same layout by another name
+pub relaid : (l l′ : Layout) → l ≡ l′ → (w : List ℕ) → SoundLists l w → SoundLists l′ w
+relaid l l′ e w x =
+    record {
+      sequence = x .sequence;
+      lists = λ k h. subst (λ (m : Layout). IsList m w k (x .sequence k)) e (x .lists k (subst⁻¹ (λ (m : Layout). k < m .lists) e h));
+      outside =
+        λ i n q.
+        subst (λ (m : Layout). getD w (identAt m i) 0 ≡ 0) e
+        (x .outside i (subst⁻¹ (λ (m : Layout). Node m i) e n) (λ k h. q k (subst (λ (m : Layout). k < m .lists) e h)))
+    }

@@ -1,0 +1,202 @@
+-- Laws of the search for a free node, of the sites of a list, and of the questions of a request.
+use Prim.Native.Nat.{ℕ, zero, suc, _+_, _-_, _≤_, _<_}
+use mathlib.Core.Path.{_≡_, refl, sym, ap, _∙_}
+use mathlib.Core.List.{List, [], _∷_, _++_}
+use mathlib.Core.Bool.{Bool, true, false}
+use native.Mathlib.Omega.{arith}
+use native.Mathlib.Numerals.{add-one}
+use native.Mathlib.Decide.{ℕ-discrete}
+use lib.ListN.{length, getD, List·getD-append}
+use borrow.Author.Tests.{lt-ltb, le-ltb, le-leb, lt-leb, eq-eqb, ne-eqb}
+use Rattle.sequences.proofs.Splice.{forward-at}
+use Rattle.layout.specs.declared.Layout.{Layout}
+use Rattle.layout.specs.declared.Opened.{Opened}
+use Rattle.layout.specs.declared.Opened.the-variants as O
+use Rattle.layout.specs.Words.{firstNode, cellCount, Node, isNode, InRange, Laid, opened}
+use Rattle.layout.proofs.Laws.{opened-open}
+use Rattle.lists.specs.Decide.{View, viewOf, countIn, sequenceIn, soundIn, soundOf}
+use Rattle.lists.proofs.Agree.{holds-true}
+use Rattle.survey.specs.Survey.{columns, Columns, Loaded}
+use Rattle.survey.proofs.Laws.{before-next, before-cell, sound-hold, sound-count, loaded-view, sound-loaded}
+use Rattle.requests.specs.declared.Free.{Free}
+use Rattle.requests.specs.declared.Free.the-variants.{Cell, Full}
+use Rattle.requests.specs.declared.Site.{Site}
+use Rattle.requests.specs.declared.Request.{Request}
+use Rattle.requests.specs.declared.Request.the-variants.{Check, Whole, Member, Gap}
+use Rattle.requests.specs.declared.Sited.{Sited}
+use Rattle.requests.specs.declared.Sited.the-variants.{At, Refused}
+use Rattle.requests.specs.declared.Looked.{Looked}
+use Rattle.requests.specs.declared.Looked.the-variants as K
+use Rattle.requests.specs.Requests.{nextCell, around, firstFree, memberAt, gapAt, siteIn, listOf, siteOf, lookOf, sequenceBy, Closed}
+
+-- the node after a node: the first after the last, else the next
+module _ (l : Layout) (c : ℕ) where
+  pub next-wraps : c + 1 ≡ cellCount l → nextCell l c ≡ firstNode l
+  unfolding nextCell
+  next-wraps e = rw (eq-eqb _ _ e)
+
+  pub next-follows : (c + 1 ≡ cellCount l → ⊥) → nextCell l c ≡ c + 1
+  unfolding nextCell
+  next-follows e = rw (ne-eqb _ _ e)
+
+  -- it is a node too
+  pub next-node : InRange l → Node l c → Node l (nextCell l c)
+  next-node r n = by (ℕ-discrete (c + 1) (cellCount l))
+    where
+      by : Dec (c + 1 ≡ cellCount l) → Node l (nextCell l c)
+      by (yes e) = let q = next-wraps e in record { low = omega arith; high = omega arith }
+      by (no e) = let q = next-follows e in record { low = omega arith; high = omega arith }
+
+-- of n cells from c on, the first free one: c itself, or the first of those after it, or none
+module _ (l : Layout) (ident : ℕ → ℕ) (c n : ℕ) where
+  pub free-here : 0 < n → ident c ≡ 0 → Cell c ≡ firstFree ident (around l c n)
+  unfolding around firstFree
+  free-here h e = let m : n ≡ suc (n - 1) = omega arith in rw (m, eq-eqb _ _ e)
+
+  pub free-later : 0 < n → (ident c ≡ 0 → ⊥) → firstFree ident (around l c n) ≡ firstFree ident (around l (nextCell l c) (n - 1))
+  unfolding around firstFree
+  free-later h e =
+      let m : n ≡ suc (n - 1) = omega arith in
+      ap (λ (x : ℕ). firstFree ident (around l c x)) m ∙ rw (ne-eqb _ _ e)
+
+  pub free-none : n ≡ 0 → Full ≡ firstFree ident (around l c n)
+  unfolding around firstFree
+  free-none e = rw e
+
+-- the sites of a list whose links lead round its n members
+module _ {l : Layout} {f : List ℕ} {k n : ℕ} (h : Closed l f k n) (p : ℕ) where
+  abbrev members : List ℕ
+  members = sequenceBy l f k
+
+  -- the cells before the position and at it are in the column
+  pub before-in : p ≤ n → getD (k ∷ members) p 0 < length f
+  before-in q = omega (arith, before-cell l (columns f f f) k p (h .list) (omega arith))
+
+  pub member-in : p < n → getD members p 0 < length f
+  member-in q = omega (arith, before-cell l (columns f f f) k (suc p) (h .list) (omega arith))
+
+  -- the first leads to the second, the second to the cell after it
+  pub before-link : p ≤ n → getD f (getD (k ∷ members) p 0) 0 ≡ getD (members ++ k ∷ []) p 0
+  before-link q = forward-at (λ c. getD f c 0) k members k p (h .forward) (omega arith)
+
+  pub member-before : p < n → getD f (getD (k ∷ members) p 0) 0 ≡ getD members p 0
+  member-before q = before-next l (columns f f f) k p (omega arith)
+
+  pub member-link : p < n → getD f (getD members p 0) 0 ≡ getD (members ++ k ∷ []) (p + 1) 0
+  member-link q = forward-at (λ c. getD f c 0) k members k (suc p) (h .forward) (omega arith) ∙ rw add-one
+
+  -- no member at the position, or the site of one
+  pub member-past : n ≤ p → Refused 7 ≡ memberAt k p members
+  unfolding memberAt
+  member-past q = rw (le-ltb p (length members) (omega arith))
+
+  pub member-found : p < n → {b : ℕ} → b ≡ getD (k ∷ members) p 0
+      → At (record { before = b; cell = getD f b 0; after = getD f (getD f b 0) 0; count = n }) ≡ memberAt k p members
+  unfolding memberAt
+  member-found q e = rw (lt-ltb p (length members) (omega arith), e, member-before q, member-link q, h .count)
+
+  -- no gap at the position, a starting cell that is no node, a record of another size, no free cell, or a site
+  module _ (ident : ℕ → ℕ) (c m : ℕ) where
+    pub gap-past : n < p → Refused 7 ≡ gapAt l ident k p c m members
+    unfolding gapAt
+    gap-past q = rw (lt-leb p (length members) (omega arith))
+
+    pub gap-outside : p ≤ n → isNode l c ≡ false → Refused 8 ≡ gapAt l ident k p c m members
+    unfolding gapAt
+    gap-outside q i = rw (le-leb p (length members) (omega arith), i)
+
+    pub gap-misfit : p ≤ n → isNode l c ≡ true → (m ≡ l .width → ⊥) → Refused 9 ≡ gapAt l ident k p c m members
+    unfolding gapAt
+    gap-misfit q i e = rw (le-leb p (length members) (omega arith), i, ne-eqb _ _ e)
+
+    pub gap-full : p ≤ n → isNode l c ≡ true → m ≡ l .width → Full ≡ firstFree ident (around l c (l .nodes))
+        → Refused 10 ≡ gapAt l ident k p c m members
+    unfolding gapAt
+    gap-full q i e g = rw (le-leb p (length members) (omega arith), i, eq-eqb _ _ e, ← g)
+
+    pub gap-found : p ≤ n → isNode l c ≡ true → m ≡ l .width → {x b : ℕ}
+        → Cell x ≡ firstFree ident (around l c (l .nodes)) → b ≡ getD (k ∷ members) p 0
+        → At (record { before = b; cell = x; after = getD f b 0; count = n }) ≡ gapAt l ident k p c m members
+    unfolding gapAt
+    gap-found q i e g z =
+        rw (le-leb p (length members) (omega arith), i, eq-eqb _ _ e, ← g, z, before-link q, h .count)
+
+-- where the columns are sound, the links of each list lead round
+pub sound-closed : (l : Layout) (i f b : List ℕ) (count : ℕ → ℕ) (k : ℕ) → Columns l i f b → soundIn l (columns i f b) count ≡ true
+    → k < l .lists → Closed l f k (count k)
+sound-closed l i f b count k c e h =
+    let v = columns i f b in
+    let r = holds-true v k (count k) (sequenceIn l v k) (sound-hold l v count e k h) in
+    record { inRange = c .inRange; column = c .forwards; list = h; count = r .count; forward = r .turn .forwards }
+
+module _ (l : Layout) (v : View) (count : ℕ → ℕ) where
+  -- question 5 of a request that names a list beyond the last; a check names none
+  pub site-unlisted : (q : Request) → InRange l → l .lists ≤ listOf q → Refused 5 ≡ siteIn l v count q
+  unfolding siteIn
+  site-unlisted Check r h = absurd (omega arith)
+  site-unlisted (Whole k) r h = rw (le-ltb k (l .lists) h)
+  site-unlisted (Member k p) r h = rw (le-ltb k (l .lists) h)
+  site-unlisted (Gap k p c m) r h = rw (le-ltb k (l .lists) h)
+
+  -- question 6
+  pub site-unsound : (q : Request) → listOf q < l .lists → soundIn l v count ≡ false → Refused 6 ≡ siteIn l v count q
+  unfolding siteIn
+  site-unsound Check h e = rw e
+  site-unsound (Whole k) h e = rw (lt-ltb k (l .lists) h, e)
+  site-unsound (Member k p) h e = rw (lt-ltb k (l .lists) h, e)
+  site-unsound (Gap k p c m) h e = rw (lt-ltb k (l .lists) h, e)
+
+  -- and what follows them
+  module _ (q : Request) (h : listOf q < l .lists) (e : soundIn l v count ≡ true) where
+    pub site-check : q ≡ Check → At (record { before = 0; cell = 0; after = 0; count = 0 }) ≡ siteIn l v count q
+    unfolding siteIn
+    site-check z = rw (z, e)
+
+    pub site-whole : {k : ℕ} → q ≡ Whole k → At (record { before = k; cell = k; after = k; count = count k }) ≡ siteIn l v count q
+    unfolding siteIn
+    site-whole {k} z =
+        let g : k < l .lists = rw z at h in
+        rw (z, lt-ltb k (l .lists) g, e, sound-count l v count e k g)
+
+    pub site-member : {k p : ℕ} → q ≡ Member k p → memberAt k p (sequenceIn l v k) ≡ siteIn l v count q
+    unfolding siteIn
+    site-member {k} z = let g : k < l .lists = rw z at h in rw (z, lt-ltb k (l .lists) g, e)
+
+    pub site-gap : {k p c m : ℕ} → q ≡ Gap k p c m → gapAt l (v .ident) k p c m (sequenceIn l v k) ≡ siteIn l v count q
+    unfolding siteIn
+    site-gap {k} z = let g : k < l .lists = rw z at h in rw (z, lt-ltb k (l .lists) g, e)
+
+  -- of the counts only soundness asks
+  site-same : (other : ℕ → ℕ) (q : Request) → soundIn l v count ≡ soundIn l v other → siteIn l v count q ≡ siteIn l v other q
+  unfolding siteIn
+  site-same other Check e = rw e
+  site-same other (Whole k) e = rw e
+  site-same other (Member k p) e = rw e
+  site-same other (Gap k p c m) e = rw e
+
+-- the site by the columns and the counts is that of the words
+pub site-loaded : (l : Layout) (w i f b : List ℕ) (count : ℕ → ℕ) (q : Request) → Loaded l w i f b
+    → ((k : ℕ) → k < l .lists → count k ≡ countIn w k) → siteIn l (columns i f b) count q ≡ siteOf l w q
+site-loaded l w i f b count q h c =
+    let e = loaded-view l w i f b h in
+    let s : soundIn l (columns i f b) count ≡ soundOf l w = sound-loaded l w i f b count h c refl in
+    ap (λ (v : View). siteIn l v count q) e
+    ∙ site-same l (viewOf l w) count (countIn w) q (sym (ap (λ (v : View). soundIn l v count) e) ∙ s)
+
+-- an opened store is laid out
+pub opened-laid : (w : List ℕ) (l : Layout) → opened w ≡ O.Open l → Laid l w
+opened-laid w l e = let o = opened-open w l e in record { inRange = o .2; exact = o .3 }
+
+-- the outcome of all questions
+module _ (w : List ℕ) (q : Request) where
+  pub look-shut : {n : ℕ} → opened w ≡ O.Refused n → K.Refused n ≡ lookOf w q
+  unfolding lookOf
+  look-shut e = rw e
+
+  pub look-refused : {l : Layout} {n : ℕ} → opened w ≡ O.Open l → siteOf l w q ≡ Refused n → K.Refused n ≡ lookOf w q
+  unfolding lookOf
+  look-refused e s = rw (e, s)
+
+  pub look-at : {l : Layout} {t : Site} → opened w ≡ O.Open l → siteOf l w q ≡ At t → K.At l t ≡ lookOf w q
+  unfolding lookOf
+  look-at e s = rw (e, s)
