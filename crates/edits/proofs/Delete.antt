@@ -22,7 +22,7 @@ use Rattle.lists.proofs.Unique.{ring-list}
 use Rattle.lists.proofs.Same.{ident-word, header-apart, ring-different, ring-different-behind, ring-cell, lists-apart}
 use Rattle.requests.specs.declared.Site.{Site}
 use Rattle.edits.specs.Edits.{deleteWrites}
-use Rattle.edits.specs.Edited.{deleteAt, recordIn}
+use Rattle.edits.specs.Edited.{deleteAt, replaced, recordIn}
 use Rattle.edits.proofs.Edited.{edited-lists}
 use Rattle.edits.proofs.Writes.{record-same, delete-spares, delete-after, delete-before, delete-count, delete-ident}
 
@@ -184,7 +184,7 @@ module _ (l : Layout) (w : List ℕ) (exact : length w ≡ sizeOf l) (s : SoundL
   delete-free = delete-ident l w exact k site hk ha hb hc ca cb
 
   -- the words are sound, with the new sequences
-  pub delete-lists : SoundLists l Gone
+  pub delete-lists : (x : SoundLists l Gone) × (x .sequence ≡ replaced (s .sequence) k (deleteAt p S))
   delete-lists =
       edited-lists l w s k hk Gone (deleteAt p S) delete-own delete-other
       (λ x n m o. keeps-ident x (λ e. o (subst (λ (y : ℕ). y ∈ S) (sym e) cell-in)))

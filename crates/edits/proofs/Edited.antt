@@ -29,9 +29,9 @@ pub edited-lists
     → ((j : ℕ) → j < l .lists → (j ≡ k → ⊥) → SameCells l w w′ (j ∷ s .sequence j))
     → ((x : ℕ) → Node l x → (x ∈ t → ⊥) → (x ∈ s .sequence k → ⊥) → getD w′ (identAt l x) 0 ≡ getD w (identAt l x) 0)
     → ((x : ℕ) → x ∈ s .sequence k → (x ∈ t) ⊎ (getD w′ (identAt l x) 0 ≡ 0))
-    → SoundLists l w′
+    → (x : SoundLists l w′) × (x .sequence ≡ replaced (s .sequence) k t)
 edited-lists l w s k hk w′ t own others kept old =
-    record { sequence = replaced (s .sequence) k t; lists = listed; outside = unlisted }
+    (record { sequence = replaced (s .sequence) k t; lists = listed; outside = unlisted }, refl)
   where
     listed : (j : ℕ) → j < l .lists → IsList l w′ j (replaced (s .sequence) k t j)
     listed j h = by (ℕ-discrete j k)

@@ -20,7 +20,7 @@ use Rattle.lists.proofs.Unique.{member-ident, ring-list}
 use Rattle.lists.proofs.Same.{ident-word, header-apart, ring-different, ring-different-behind, ring-cell, list-same, lists-apart}
 use Rattle.requests.specs.declared.Site.{Site}
 use Rattle.edits.specs.Edits.{insertWrites}
-use Rattle.edits.specs.Edited.{insertAt, recordIn}
+use Rattle.edits.specs.Edited.{insertAt, replaced, recordIn}
 use Rattle.edits.proofs.Edited.{edited-lists}
 use Rattle.edits.proofs.Writes.{record-same, insert-spares, insert-forward, insert-back, insert-ident, insert-count, insert-before, insert-after, insert-record}
 
@@ -169,7 +169,7 @@ module _ (l : Layout) (w : List ℕ) (exact : length w ≡ sizeOf l) (s : SoundL
       apart y q e = lists-apart l w j k (s .sequence j) S h hk n (s .lists j h) own x y m q e
 
   -- the words are sound, with the new sequences
-  pub insert-lists : SoundLists l Done
+  pub insert-lists : (x : SoundLists l Done) × (x .sequence ≡ replaced (s .sequence) k (insertAt p i S))
   insert-lists =
       edited-lists l w s k hk Done (insertAt p i S) insert-own insert-other
       (λ x n m _. keeps-ident x (λ e. m (subst (λ (c : ℕ). c ∈ insertAt p i S) (sym e) new-insert)))

@@ -5,7 +5,7 @@ use mathlib.Core.List.{List, _∷_, _++_}
 use mathlib.Core.Bool.{cond}
 use lib.Dec.{eqb}
 use lib.ListN.{getD, take, drop}
-use Rattle.sequences.specs.Sequence.{_∈_}
+use Rattle.sequences.specs.Sequence.{_∈_, All}
 use Rattle.layout.specs.declared.Layout.{Layout}
 use Rattle.layout.specs.Words.{recordAt, identAt, layoutOf}
 use Rattle.lists.specs.Lists.{Sound, SameCells}
@@ -20,6 +20,14 @@ deleteAt p s = take p s ++ drop (p + 1) s
 -- sequences of which that of list k is another
 unfoldable pub replaced : (ℕ → List ℕ) → ℕ → List ℕ → ℕ → List ℕ
 replaced sequence k s j = cond (eqb j k) s (sequence j)
+
+-- "the first free cell met": i has identifier 0, and those met before it have not
+pub record FirstFree (ident : ℕ → ℕ) (cells : List ℕ) (i : ℕ) : Type 0 where
+  pub passed : List ℕ
+  pub rest : List ℕ
+  pub order : cells ≡ passed ++ i ∷ rest
+  pub free : ident i ≡ 0
+  pub taken : All (λ c. ident c ≡ 0 → ⊥) passed
 
 -- the record in a cell
 abbrev pub recordIn : Layout → List ℕ → ℕ → List ℕ

@@ -89,3 +89,12 @@ word-fits l i f h k = by (ltb i (firstNode l)) refl
     by false q =
         let m = ltb-false i (firstNode l) q in
         omega (arith, words-node l i m, cell-node l i m, node-fits l i (record { low = m; high = h }))
+
+-- the cells stand behind words 0 to 7
+pub cell-behind : (l : Layout) (i : ℕ) → 8 ≤ cellAt l i
+unfolding nodeAt
+cell-behind l i = by (ltb i (firstNode l)) refl
+  where
+    by : (b : Bool) → ltb i (firstNode l) ≡ b → 8 ≤ cellAt l i
+    by true q = omega (arith, cell-header l i (ltb-true i (firstNode l) q))
+    by false q = omega (arith, cell-node l i (ltb-false i (firstNode l) q))

@@ -10,10 +10,10 @@ use Rattle.sequences.specs.Sequence.{_∈_, All, Different}
 use Rattle.sequences.proofs.Members.{all-in, in-all, different-append, in-front, in-behind}
 use Rattle.sequences.proofs.Splice.{forward-same, backward-same}
 use Rattle.layout.specs.declared.Layout.{Layout}
-use Rattle.layout.specs.Words.{firstNode, cellCount, Node, cellAt, cellWords, identAt, countAt, identOf}
+use Rattle.layout.specs.Words.{firstNode, cellCount, Node, InRange, marked, layoutOf, sizeOf, cellAt, cellWords, identAt, countAt, identOf}
 use Rattle.layout.proofs.Laws.{cell-header}
 use Rattle.layout.proofs.Apart.{links-words, words-header}
-use Rattle.lists.specs.Lists.{IsList, SoundLists, SameCells}
+use Rattle.lists.specs.Lists.{IsList, SoundLists, Sound, SameCells}
 use Rattle.lists.specs.Decide.{viewOf, countIn}
 use Rattle.lists.proofs.Agree.{Turn, Holds, agrees-holds, holds-agrees}
 use Rattle.lists.proofs.Unique.{member-ident}
@@ -98,14 +98,35 @@ lists-apart l w j k s t hj hk n i i′ x y (List·Memᴰ·tail m) (List·Memᴰ�
           sym (member-ident l w j s x i m) ∙ ap (λ (c : ℕ). getD w (identAt l c) 0) q ∙ member-ident l w k t y i′ m′ in
     n (omega arith)
 
--- the same layout by another name
-pub relaid : (l l′ : Layout) → l ≡ l′ → (w : List ℕ) → SoundLists l w → SoundLists l′ w
-relaid l l′ e w x =
-    record {
-      sequence = x .sequence;
-      lists = λ k h. subst (λ (m : Layout). IsList m w k (x .sequence k)) e (x .lists k (subst⁻¹ (λ (m : Layout). k < m .lists) e h));
-      outside =
-        λ i n q.
-        subst (λ (m : Layout). getD w (identAt m i) 0 ≡ 0) e
-        (x .outside i (subst⁻¹ (λ (m : Layout). Node m i) e n) (λ k h. q k (subst (λ (m : Layout). k < m .lists) e h)))
-    }
+-- words that have the same first eight have the same mark and layout
+pub same-marked : (w w′ : List ℕ) → ((a : ℕ) → a < 8 → getD w′ a 0 ≡ getD w a 0) → marked w′ ≡ marked w
+unfolding marked
+same-marked w w′ h =
+    rw (h 0 (omega arith), h 1 (omega arith), h 2 (omega arith), h 3 (omega arith), h 7 (omega arith))
+
+pub same-layout : (w w′ : List ℕ) → ((a : ℕ) → a < 8 → getD w′ a 0 ≡ getD w a 0) → layoutOf w′ ≡ layoutOf w
+same-layout w w′ h =
+    λ i. record { lists = h 4 (omega arith) i; nodes = h 5 (omega arith) i; width = h 6 (omega arith) i }
+
+-- sound words, other words with the same first eight and the same length, and sound lists there: these are sound too
+pub same-sound
+    : (w w′ : List ℕ) → Sound w → ((a : ℕ) → a < 8 → getD w′ a 0 ≡ getD w a 0) → length w′ ≡ length w
+    → (x : SoundLists (layoutOf w) w′) → (y : Sound w′) × (y .lists .sequence ≡ x .sequence)
+same-sound w w′ s h e x =
+    (record {
+      marked = same-marked w w′ h ∙ s .marked;
+      inRange = subst InRange back (s .inRange);
+      exact = e ∙ s .exact ∙ ap sizeOf back;
+      lists =
+        record {
+          sequence = x .sequence;
+          lists = λ k g. subst (λ (m : Layout). IsList m w′ k (x .sequence k)) back (x .lists k (subst⁻¹ (λ (m : Layout). k < m .lists) back g));
+          outside =
+            λ i n q.
+            subst (λ (m : Layout). getD w′ (identAt m i) 0 ≡ 0) back
+            (x .outside i (subst⁻¹ (λ (m : Layout). Node m i) back n) (λ k g. q k (subst (λ (m : Layout). k < m .lists) back g)))
+        }
+    }, refl)
+  where
+    back : layoutOf w ≡ layoutOf w′
+    back = sym (same-layout w w′ h)

@@ -1,16 +1,15 @@
 -- Laws of the search for a free node, of the sites of a list, and of the questions of a request.
-use Prim.Native.Nat.{ℕ, zero, suc, _+_, _-_, _≤_, _<_}
+use Prim.Native.Nat.{ℕ, suc, _+_, _-_, _≤_, _<_}
 use mathlib.Core.Path.{_≡_, refl, sym, ap, _∙_}
 use mathlib.Core.List.{List, [], _∷_, _++_}
-use mathlib.Core.Bool.{Bool, true, false}
+use mathlib.Core.Bool.{true, false}
 use native.Mathlib.Omega.{arith}
 use native.Mathlib.Numerals.{add-one}
 use native.Mathlib.Decide.{ℕ-discrete}
-use lib.ListN.{length, getD, List·getD-append}
+use lib.ListN.{length, getD}
 use borrow.Author.Tests.{lt-ltb, le-ltb, le-leb, lt-leb, eq-eqb, ne-eqb}
 use Rattle.sequences.proofs.Splice.{forward-at}
 use Rattle.layout.specs.declared.Layout.{Layout}
-use Rattle.layout.specs.declared.Opened.{Opened}
 use Rattle.layout.specs.declared.Opened.the-variants as O
 use Rattle.layout.specs.Words.{firstNode, cellCount, Node, isNode, InRange, Laid, opened}
 use Rattle.layout.proofs.Laws.{opened-open}
@@ -18,14 +17,11 @@ use Rattle.lists.specs.Decide.{View, viewOf, countIn, sequenceIn, soundIn, soun
 use Rattle.lists.proofs.Agree.{holds-true}
 use Rattle.survey.specs.Survey.{columns, Columns, Loaded}
 use Rattle.survey.proofs.Laws.{before-next, before-cell, sound-hold, sound-count, loaded-view, sound-loaded}
-use Rattle.requests.specs.declared.Free.{Free}
 use Rattle.requests.specs.declared.Free.the-variants.{Cell, Full}
 use Rattle.requests.specs.declared.Site.{Site}
 use Rattle.requests.specs.declared.Request.{Request}
 use Rattle.requests.specs.declared.Request.the-variants.{Check, Whole, Member, Gap}
-use Rattle.requests.specs.declared.Sited.{Sited}
 use Rattle.requests.specs.declared.Sited.the-variants.{At, Refused}
-use Rattle.requests.specs.declared.Looked.{Looked}
 use Rattle.requests.specs.declared.Looked.the-variants as K
 use Rattle.requests.specs.Requests.{nextCell, around, firstFree, memberAt, gapAt, siteIn, listOf, siteOf, lookOf, sequenceBy, Closed}
 
@@ -152,19 +148,17 @@ module _ (l : Layout) (v : View) (count : ℕ → ℕ) where
     unfolding siteIn
     site-check z = rw (z, e)
 
-    pub site-whole : {k : ℕ} → q ≡ Whole k → At (record { before = k; cell = k; after = k; count = count k }) ≡ siteIn l v count q
+    pub site-whole : {k n : ℕ} → q ≡ Whole k → n ≡ count (listOf q) → At (record { before = k; cell = k; after = k; count = n }) ≡ siteIn l v count q
     unfolding siteIn
-    site-whole {k} z =
-        let g : k < l .lists = rw z at h in
-        rw (z, lt-ltb k (l .lists) g, e, sound-count l v count e k g)
+    site-whole {k} z m = rw (m, z, lt-ltb k (l .lists) (rw z at h), e, sound-count l v count e k (rw z at h))
 
     pub site-member : {k p : ℕ} → q ≡ Member k p → memberAt k p (sequenceIn l v k) ≡ siteIn l v count q
     unfolding siteIn
-    site-member {k} z = let g : k < l .lists = rw z at h in rw (z, lt-ltb k (l .lists) g, e)
+    site-member {k} z = rw (z, lt-ltb k (l .lists) (rw z at h), e)
 
     pub site-gap : {k p c m : ℕ} → q ≡ Gap k p c m → gapAt l (v .ident) k p c m (sequenceIn l v k) ≡ siteIn l v count q
     unfolding siteIn
-    site-gap {k} z = let g : k < l .lists = rw z at h in rw (z, lt-ltb k (l .lists) g, e)
+    site-gap {k} z = rw (z, lt-ltb k (l .lists) (rw z at h), e)
 
   -- of the counts only soundness asks
   site-same : (other : ℕ → ℕ) (q : Request) → soundIn l v count ≡ soundIn l v other → siteIn l v count q ≡ siteIn l v other q

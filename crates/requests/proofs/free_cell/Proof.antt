@@ -1,6 +1,6 @@
 -- `requests::free_cell` meets its contract. The loop's invariant: the first free node is that of the `left` nodes from c on.
 use Prim.Native.Nat.{ℕ}
-use mathlib.Core.Path.{_≡_, refl, ap, _∙_, sym}
+use mathlib.Core.Path.{_≡_, refl, _∙_, sym}
 use native.Mathlib.Omega.{arith}
 use lib.ListN.{getD}
 use borrow.Author.Needs.{needs}
@@ -9,9 +9,6 @@ use Rattle.requests.specs.Requests.{around, firstFree}
 use Rattle.requests.proofs.Laws.{next-node, free-here, free-later, free-none}
 use Rattle.requests.proofs.free_cell.Statement.{statement}
 use Rattle.requests.proofs.free_cell.Tie as tie
-use Rattle.requests.proofs.free_cell.Reads as reads
-use Rattle.requests.proofs.free_cell.Lts as lts
-use Rattle.requests.proofs.next_cell.Reads as next-cell-reads
 
 abbrev Inv-loop : tie.InvT-loop
 Inv-loop idents l start c₀ left₀ c left =
@@ -52,9 +49,10 @@ loop-again : tie.Need-loop-again Inv-loop μ-loop
 loop-again c =
     let s = c .before .before .before .before .before .before in
     let t = c .before .before .before .before .loop in
-    rw (c .next-cell .ensures)
-    (next-node (s .args .l) (t .c) (s .pre .0) (t .inv .0),
-      t .inv .1 ∙ free-later (s .args .l) (λ i. getD (s .args .idents .now) i 0) (t .c) (t .left) (omega arith) (c .before .if1 .left))
+    rw (c .next-cell .ensures) (
+      next-node (s .args .l) (t .c) (s .pre .0) (t .inv .0),
+      t .inv .1 ∙ free-later (s .args .l) (λ i. getD (s .args .idents .now) i 0) (t .c) (t .left) (omega arith) (c .before .if1 .left),
+    )
 
 returns-2 : tie.Need-returns-2 Inv-loop μ-loop
 returns-2 c =

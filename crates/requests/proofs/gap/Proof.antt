@@ -1,67 +1,84 @@
+-- `requests::gap` meets its contract. Each return is one question of `gapAt`, with those before it answered yes.
+use Prim.Native.Nat.{ℕ}
+use mathlib.Core.Path.{_≡_, _∙_, sym}
+use mathlib.Core.Bool.{true}
+use native.Mathlib.Omega.{arith}
+use lib.ListN.{getD}
 use borrow.Author.Needs.{needs}
+use Rattle.layout.specs.Words.{isNode}
+use Rattle.layout.proofs.Laws.{answered-no, answered-yes, is-node}
+use Rattle.requests.proofs.Laws.{before-in, gap-past, gap-outside, gap-misfit, gap-full, gap-found}
 use Rattle.requests.proofs.gap.Statement.{statement}
 use Rattle.requests.proofs.gap.Tie as tie
-use Rattle.requests.proofs.gap.Reads as reads
-use Rattle.requests.proofs.gap.Lts as lts
-use Rattle.layout.proofs.Layout.is_node.Reads as is-node-reads
-use Rattle.requests.proofs.free_cell.Reads as free-cell-reads
-use Rattle.survey.proofs.cell_before.Reads as cell-before-reads
 
--- src/lib.rt:107:9
+-- the identifiers of the cells, and the starting cell's question answered yes
+abbrev ident : tie.Start → ℕ → ℕ
+ident s i = getD (s .args .idents .now) i 0
+
+start-node : (c : tie.Else2) → let s = c .before .before .before .before .before .args in isNode (s .l) (s .start) ≡ true
+start-node c = answered-yes (c .before .is-node .ensures) (c .if2 .left)
+
 returns : tie.Need-returns
-returns c = ?
+returns c =
+    let s = c .before .before .before in
+    gap-past (s .pre .0) (s .args .p) (ident s) (s .args .start) (s .args .size) (c .if1 .taken)
 
--- src/lib.rt:109:9
 is-node-requires : tie.Need-is-node-requires
 is-node-requires c κs = search needs
 
--- src/lib.rt:110:9
 returns-2 : tie.Need-returns-2
-returns-2 c = ?
+returns-2 c =
+    let s = c .before .before .before .before .before in
+    gap-outside (s .pre .0) (s .args .p) (ident s) (s .args .start) (s .args .size) (omega arith)
+    (answered-no (c .before .is-node .ensures) (c .if2 .taken))
 
--- src/lib.rt:112:16
 cast-if3 : tie.Need-cast-if3
 cast-if3 c = search needs
 
--- src/lib.rt:113:9
 returns-3 : tie.Need-returns-3
-returns-3 c = ?
+returns-3 c =
+    let s = c .before .before .before .before .before .before .before in
+    gap-misfit (s .pre .0) (s .args .p) (ident s) (s .args .start) (s .args .size) (omega arith) (start-node (c .before .before)) (c .if3 .taken)
 
--- src/lib.rt:115:11
 free-cell-requires : tie.Need-free-cell-requires
-free-cell-requires c κs = ?
+free-cell-requires c κs =
+    let s = c .before .before .before .before .before .before .before in
+    (s .pre .0 .inRange, s .pre .1, is-node (s .args .l) (s .args .start) (start-node (c .before .before)))
 
--- src/lib.rt:116:23
 enum-told : tie.Need-enum-told
 enum-told c = search needs
 
--- src/lib.rt:117:20
 enum-known-cell : tie.Need-enum-known-cell
 enum-known-cell c = search needs
 
--- src/lib.rt:118:17
 cell-before-requires : tie.Need-cell-before-requires
 cell-before-requires c κs = search needs
 
--- src/lib.rt:119:60
 cast-t16 : tie.Need-cast-t16
 cast-t16 c = search needs
 
--- src/lib.rt:119:51
 mul-t17 : tie.Need-mul-t17
 mul-t17 c = search needs
 
--- src/lib.rt:119:51
 shared-slice-read-t19 : tie.Need-shared-slice-read-t19
-shared-slice-read-t19 c = ?
+shared-slice-read-t19 c =
+    let s = c .before .before .before .before .before .before .before .before .before .before .before .before .before in
+    omega (arith, c .before .cell-before .ensures, before-in (s .pre .0) (s .args .p) (omega arith))
 
--- src/lib.rt:102:1
 returns-4 : tie.Need-returns-4
-returns-4 c = ?
+returns-4 c =
+    let a = c .before .before .before in
+    let s = a .before .before .before .before .before .before .before in
+    gap-full (s .pre .0) (s .args .p) (ident s) (s .args .start) (s .args .size) (omega arith) (start-node (a .before .before)) (a .if3 .left)
+    (sym (c .enum-told .given .1) ∙ c .before .before .free-cell .ensures)
 
--- src/lib.rt:102:1
 returns-5 : tie.Need-returns-5
-returns-5 c = ?
+returns-5 c =
+    let x = c .before .before .before in
+    let a = x .before .before .before in
+    let s = a .before .before .before .before .before .before .before in
+    gap-found (s .pre .0) (s .args .p) (ident s) (s .args .start) (s .args .size) (omega arith) (start-node (a .before .before)) (a .if3 .left)
+    (sym (x .cell .given .1) ∙ x .before .before .free-cell .ensures) (c .before .cell-before .ensures)
 
 pub gap-spec : {M : Type 1} → statement M
 gap-spec =

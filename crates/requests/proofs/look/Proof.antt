@@ -1,46 +1,54 @@
+-- `requests::look` meets its contract. A refusal is handed on, and an opened store's words are asked for the site.
+use mathlib.Core.Path.{_≡_, _∙_, sym}
 use borrow.Author.Needs.{needs}
+use Rattle.layout.specs.declared.Opened.the-variants.{Open}
+use Rattle.layout.specs.Words.{opened}
+use Rattle.requests.proofs.Laws.{opened-laid, look-shut, look-refused, look-at}
 use Rattle.requests.proofs.look.Statement.{statement}
 use Rattle.requests.proofs.look.Tie as tie
-use Rattle.requests.proofs.look.Reads as reads
-use Rattle.requests.proofs.look.Lts as lts
-use Rattle.layout.proofs.open.Reads as open-reads
-use Rattle.requests.proofs.site_of.Reads as site-of-reads
 
--- src/lib.rt:169:11
+-- the store is opened
+is-open : (c : tie.After-l) → opened (c .before .before .before .before .args .words .now) ≡ Open (c .l .given .0 .0)
+is-open c = sym (c .before .before .«open» .ensures) ∙ c .l .given .1
+
 open-requires : tie.Need-open-requires
 open-requires c κs = search needs
 
--- src/lib.rt:170:25
 enum-known-n : tie.Need-enum-known-n
 enum-known-n c = search needs
 
--- src/lib.rt:171:22
 enum-known-l : tie.Need-enum-known-l
 enum-known-l c = search needs
 
--- src/lib.rt:171:34
 site-of-requires : tie.Need-site-of-requires
-site-of-requires c κs = ?
+site-of-requires c κs =
+    opened-laid (c .before .before .before .before .before .args .words .now) (c .before .l .given .0 .0) (is-open (c .before))
 
--- src/lib.rt:172:28
 enum-known-n-2 : tie.Need-enum-known-n-2
 enum-known-n-2 c = search needs
 
--- src/lib.rt:173:23
 enum-known-t : tie.Need-enum-known-t
 enum-known-t c = search needs
 
--- src/lib.rt:166:1
 returns : tie.Need-returns
-returns c = ?
+returns c =
+    let n = c .before in
+    let s = n .before .before .before .before .args in
+    look-shut (s .words .now) (s .q) (sym (n .before .before .«open» .ensures) ∙ n .n .given .1)
 
--- src/lib.rt:166:1
 returns-2 : tie.Need-returns-2
-returns-2 c = ?
+returns-2 c =
+    let n = c .before in
+    let l = n .before .before .before .before in
+    let s = l .before .before .before .before .args in
+    look-refused (s .words .now) (s .q) (is-open l) (sym (n .before .before .site-of .ensures) ∙ n .n2 .given .1)
 
--- src/lib.rt:166:1
 returns-3 : tie.Need-returns-3
-returns-3 c = ?
+returns-3 c =
+    let t = c .before in
+    let l = t .before .before .before .before in
+    let s = l .before .before .before .before .args in
+    look-at (s .words .now) (s .q) (is-open l) (sym (t .before .before .site-of .ensures) ∙ t .t .given .1)
 
 pub look-spec : {M : Type 1} → statement M
 look-spec =

@@ -1,15 +1,11 @@
 -- `requests::member` meets its contract. The cell before the position leads to the member, and the member to the cell after it.
 use Prim.Native.Nat.{_<_}
-use mathlib.Core.Path.{_≡_, ap, _∙_}
 use native.Mathlib.Omega.{arith}
 use lib.ListN.{length, getD}
 use borrow.Author.Needs.{needs}
 use Rattle.requests.proofs.Laws.{before-in, member-before, member-in, member-past, member-found}
 use Rattle.requests.proofs.member.Statement.{statement}
 use Rattle.requests.proofs.member.Tie as tie
-use Rattle.requests.proofs.member.Reads as reads
-use Rattle.requests.proofs.member.Lts as lts
-use Rattle.survey.proofs.cell_before.Reads as cell-before-reads
 
 returns : tie.Need-returns
 returns c =

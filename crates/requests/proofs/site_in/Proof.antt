@@ -1,39 +1,38 @@
+-- `requests::site_in` meets its contract. The columns and the counts that are read are those of the words.
+use mathlib.Core.Path.{_∙_}
+use lib.ListN.{getD}
 use borrow.Author.Needs.{needs}
+use Rattle.requests.proofs.Laws.{site-loaded}
 use Rattle.requests.proofs.site_in.Statement.{statement}
 use Rattle.requests.proofs.site_in.Tie as tie
-use Rattle.requests.proofs.site_in.Reads as reads
-use Rattle.requests.proofs.site_in.Lts as lts
-use Rattle.requests.proofs.site_by.Reads as site-by-reads
-use Rattle.survey.proofs.all_counts.Reads as all-counts-reads
-use Rattle.survey.proofs.load.Reads as load-reads
 
--- src/lib.rt:150:5
 load-requires : tie.Need-load-requires
 load-requires c κs = search needs
 
--- src/lib.rt:151:38
 all-counts-requires : tie.Need-all-counts-requires
 all-counts-requires c κs = search needs
 
--- src/lib.rt:151:5
 site-by-requires : tie.Need-site-by-requires
 site-by-requires c κs = search needs
 
--- src/lib.rt:146:1
 same-length : tie.Need-same-length
 same-length c = search needs
 
--- src/lib.rt:146:1
 same-length-2 : tie.Need-same-length-2
 same-length-2 c = search needs
 
--- src/lib.rt:146:1
 same-length-3 : tie.Need-same-length-3
 same-length-3 c = search needs
 
--- src/lib.rt:146:1
 returns : tie.Need-returns
-returns c = ?
+returns c =
+    let n = c .before in
+    let t = n .before .before .before .before .before .before .before .before .before .before in
+    let s = t .before .before .before .before .before .before .before .before .args in
+    let x = t .load .last in
+    c .site-by .ensures
+    ∙ site-loaded (s .l) (s .words .now) (x .1 .1 .0) (x .1 .1 .1 .0) (x .1 .1 .1 .1 .0) (λ k. getD (n .all-counts .result) k 0) (s .q)
+    (t .load .ensures) (n .all-counts .ensures .1)
 
 pub site-in-spec : {M : Type 1} → statement M
 site-in-spec =

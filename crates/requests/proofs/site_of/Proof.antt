@@ -1,61 +1,68 @@
+-- `requests::site_of` meets its contract. The parts of the columns that are lent have one entry for each cell.
+use mathlib.Core.Path.{sym, _∙_}
 use borrow.Author.Needs.{needs}
+use Rattle.survey.proofs.Laws.{column-part}
 use Rattle.requests.proofs.site_of.Statement.{statement}
 use Rattle.requests.proofs.site_of.Tie as tie
-use Rattle.requests.proofs.site_of.Reads as reads
-use Rattle.requests.proofs.site_of.Lts as lts
-use Rattle.layout.proofs.Layout.cell_count.Reads as cell-count-reads
-use Rattle.requests.proofs.site_in.Reads as site-in-reads
-use Rattle.survey.proofs.column.Reads as column-reads
 
--- src/lib.rt:158:13
 cell-count-requires : tie.Need-cell-count-requires
 cell-count-requires c κs = search needs
 
--- src/lib.rt:158:13
 cast-n : tie.Need-cast-n
 cast-n c = search needs
 
--- src/lib.rt:159:22
 column-requires : tie.Need-column-requires
 column-requires c κs = search needs
 
--- src/lib.rt:160:24
 column-requires-2 : tie.Need-column-requires-2
 column-requires-2 c κs = search needs
 
--- src/lib.rt:161:21
 column-requires-3 : tie.Need-column-requires-3
 column-requires-3 c κs = search needs
 
--- src/lib.rt:162:26
 array-borrow-prefix-idents : tie.Need-array-borrow-prefix-idents
 array-borrow-prefix-idents c = search needs
 
--- src/lib.rt:162:26
 slice-aggregate-site-in : tie.Need-slice-aggregate-site-in
-slice-aggregate-site-in c = ?
+slice-aggregate-site-in c =
+    let n = c .before .before .before .before in
+    let s = n .before .before in
+    let x = c .before .before .before .column in
+    column-part (s .args .l) (n .cell-count .result) (x .result) (s .pre .inRange) (n .cell-count .ensures) (x .ensures)
 
--- src/lib.rt:162:44
 array-borrow-prefix-forwards : tie.Need-array-borrow-prefix-forwards
 array-borrow-prefix-forwards c = search needs
 
--- src/lib.rt:162:44
 slice-aggregate-site-in-2 : tie.Need-slice-aggregate-site-in-2
-slice-aggregate-site-in-2 c = ?
+slice-aggregate-site-in-2 c =
+    let n = c .before .before .before .before .before in
+    let s = n .before .before in
+    let x = c .before .before .before .column2 in
+    column-part (s .args .l) (n .cell-count .result) (x .result) (s .pre .inRange) (n .cell-count .ensures) (x .ensures)
 
--- src/lib.rt:162:64
 array-borrow-prefix-backs : tie.Need-array-borrow-prefix-backs
 array-borrow-prefix-backs c = search needs
 
--- src/lib.rt:162:64
 slice-aggregate-site-in-3 : tie.Need-slice-aggregate-site-in-3
-slice-aggregate-site-in-3 c = ?
+slice-aggregate-site-in-3 c =
+    let n = c .before .before .before .before .before .before in
+    let s = n .before .before in
+    let x = c .before .before .before .column3 in
+    column-part (s .args .l) (n .cell-count .result) (x .result) (s .pre .inRange) (n .cell-count .ensures) (x .ensures)
 
--- src/lib.rt:162:5
 site-in-requires : tie.Need-site-in-requires
-site-in-requires c κs = ?
+site-in-requires c κs =
+    let n = c .before .before .before .before .before .before .cell-count .ensures in
+    let s = c .before .before .before .before .before .before .before .before in (
+      s .pre,
+      record {
+        inRange = s .pre .inRange;
+        idents = sym (slice-aggregate-site-in (c .before .before)) ∙ n;
+        forwards = sym (slice-aggregate-site-in-2 (c .before)) ∙ n;
+        backs = sym (slice-aggregate-site-in-3 c) ∙ n;
+      },
+    )
 
--- src/lib.rt:154:1
 returns : tie.Need-returns
 returns c = search needs
 
