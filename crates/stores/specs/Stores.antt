@@ -7,6 +7,7 @@ use lib.Dec.{ltb}
 use lib.ListN.{length, getD, set, take}
 use Rattle.sequences.specs.Sequence.{All}
 use Rattle.stores.specs.declared.Answer.{Answer}
+use Rattle.stores.specs.declared.Rows.{Rows}
 use Rattle.stores.specs.declared.Answer.the-variants as A
 
 -- a word store: word `at` becomes `value`
@@ -75,3 +76,16 @@ inRow a (v ∷ vs) = write a v ∷ inRow (a + 1) vs
 pub record Planned (n : ℕ) (at values : List ℕ) : Type 0 where
   pub rows : length at ≡ length values
   pub inside : (i : ℕ) → i < length at → getD at i 0 < n
+
+-- a short list of stores, kept in two arrays of 19 words
+abbrev pub writesIn : Rows → List Write
+writesIn r = writesOf (take (r .len) (r .at)) (take (r .len) (r .values))
+
+-- the stores ps are in the rows, and go to words below n
+pub record Held (n : ℕ) (r : Rows) (ps : List Write) : Type 0 where
+  pub at : length (r .at) ≡ 19
+  pub values : length (r .values) ≡ 19
+  pub len : r .len ≡ length ps
+  pub few : length ps ≤ 19
+  pub same : writesIn r ≡ ps
+  pub inside : All (λ (p : Write). p .at < n) ps
