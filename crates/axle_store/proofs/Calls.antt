@@ -1,12 +1,11 @@
 -- Theorems about the calls' definitions: check says sound exactly of the sound stores; length and read speak of the sequences
--- that a sound store has; a formatted store is sound and empty.
+-- that a sound store has; a formatted store is sound and empty; insert and delete, done, leave what plain sequences would.
 use Prim.Native.Nat.{ℕ, _+_, _<_, _≤_}
 use mathlib.Core.Path.{_≡_, refl, ap, _∙_, sym, subst}
-use mathlib.Core.List.{List, []}
+use mathlib.Core.List.{List, [], _∷_, _++_}
 use mathlib.Core.Logic.{_↔_}
-use mathlib.Core.Bool.{Bool, true, false, cond}
-use lib.Dec.{ltb}
-use lib.ListN.{length, getD, take, drop}
+use mathlib.Core.Bool.{Bool, true, false}
+use lib.ListN.{length, getD}
 use borrow.Author.Tests.{lt-ltb}
 use native.Mathlib.Omega.{arith}
 use Rattle.layout.specs.declared.Layout.{Layout}
@@ -14,16 +13,26 @@ use Rattle.layout.specs.declared.Opened.{Opened}
 use Rattle.layout.specs.declared.Opened.the-variants as O
 use Rattle.layout.specs.Words.{InRange, layoutOf, sizeOf, opened, afterOpen, ask, recordAt, formatted}
 use Rattle.layout.proofs.Laws.{opened-open, open-opened}
-use Rattle.lists.specs.Lists.{Sound, IsList}
-use Rattle.lists.specs.Decide.{sequenceOf, soundOf}
+use Rattle.lists.specs.Lists.{Sound}
+use Rattle.lists.specs.Decide.{viewOf, countIn, soundIn, soundOf, sequenceOf}
 use Rattle.lists.proofs.Unique.{list-sequence}
 use Rattle.lists.proofs.Decided.{sound-lists, lists-sound}
 use Rattle.lists.proofs.Empty.{formatted-sound}
+use Rattle.requests.specs.declared.Site.{Site}
+use Rattle.requests.specs.declared.Sited.{Sited}
+use Rattle.requests.specs.declared.Sited.the-variants.{At, Refused}
+use Rattle.requests.specs.declared.Looked.{Looked}
+use Rattle.requests.specs.declared.Looked.the-variants as K
+use Rattle.requests.specs.declared.Request.the-variants.{Check, Whole, Member}
+use Rattle.requests.specs.Requests.{siteIn, siteOf, withSite, memberAt, lookOf, withLook}
+use Rattle.requests.proofs.Laws.{look-at}
+use Rattle.edits.specs.Edited.{recordIn}
+use Rattle.edits.proofs.Done.{looked}
 use Rattle.axle_store.specs.declared.Checked.{Checked}
 use Rattle.axle_store.specs.declared.Checked.the-variants as C
 use Rattle.axle_store.specs.declared.Counted.the-variants as L
-use Rattle.axle_store.specs.declared.Place.the-variants as P
-use Rattle.axle_store.specs.Calls.{checkAnswer, lengthAnswer, placeOf, readNumber, readWords}
+use Rattle.axle_store.specs.Calls.{checkAnswer, lengthAnswer, readWords}
+use Rattle.axle_store.proofs.Cases.{check-at, length-at, read-at}
 
 -- a sound store passes questions 1 to 4 and 6
 pub sound-opened : (w : List ℕ) → Sound w → opened w ≡ O.Open (layoutOf w)
@@ -34,21 +43,26 @@ sound-decided w s = lists-sound (layoutOf w) w (s .lists)
 
 -- check's definition decides soundness
 pub sound-check : (w : List ℕ) → Sound w → checkAnswer w ≡ C.Sound
-unfolding checkAnswer
-sound-check w s = rw (sound-opened w s, sound-decided w s)
+unfolding siteIn
+sound-check w s =
+    let e : siteOf (layoutOf w) w Check ≡ At (record { before = 0; cell = 0; after = 0; count = 0 }) = rw (sound-decided w s) in
+    sym (check-at w (sym (look-at w Check (sound-opened w s) e)))
 
 pub check-sound : (w : List ℕ) → checkAnswer w ≡ C.Sound → Sound w
-unfolding checkAnswer
-check-sound w = by (opened w) refl
+unfolding checkAnswer siteIn
+check-sound w = by (lookOf w Check) refl
   where
-    asked : (b : Bool) → ask b (C.Refused 6) C.Sound ≡ C.Sound → b ≡ true
-    asked true e = refl
-    asked false e = let z : _≡_ {A = ℕ} 0 1 = cc in absurd (omega arith)
-    by : (o : Opened) → opened w ≡ o → afterOpen o C.Refused (λ l. ask (soundOf l w) (C.Refused 6) C.Sound) ≡ C.Sound → Sound w
-    by (O.Refused n) p e = let z : _≡_ {A = ℕ} 0 1 = cc in absurd (omega arith)
-    by (O.Open l) p e =
-        let q = opened-open w l p in
-        let g : soundOf (layoutOf w) w ≡ true = subst (λ (m : Layout). soundOf m w ≡ true) (q .0) (asked (soundOf l w) e) in
+    yes-at : (l : Layout) (b : Bool) (t u : Site) → ask b (Refused 6) (At u) ≡ At t → b ≡ true
+    yes-at l true t u e = refl
+    yes-at l false t u e = let z : _≡_ {A = ℕ} 0 1 = cc in absurd (omega arith)
+    by : (x : Looked) → lookOf w Check ≡ x → withLook x C.Refused (λ l t. C.Sound) ≡ C.Sound → Sound w
+    by (K.Refused n) p e = let z : _≡_ {A = ℕ} 0 1 = cc in absurd (omega arith)
+    by (K.At l t) p e =
+        let a = looked w Check l t p in
+        let q = opened-open w l (a .0) in
+        let g : soundOf (layoutOf w) w ≡ true =
+              subst (λ (m : Layout). soundOf m w ≡ true) (q .0)
+              (yes-at l (soundOf l w) t (record { before = 0; cell = 0; after = 0; count = 0 }) (a .1)) in
         record {
           marked = q .1;
           inRange = subst InRange (q .0) (q .2);
@@ -68,16 +82,22 @@ module _ (w : List ℕ) (s : Sound w) (k : ℕ) (h : k < layoutOf w .lists) wher
   members-are = list-sequence (layoutOf w) w k h members (s .lists .lists k h)
 
   pub sound-length : lengthAnswer w k ≡ L.Length (length members)
-  unfolding lengthAnswer
-  sound-length = rw (sound-opened w s, lt-ltb _ _ h, sound-decided w s, members-are)
+  unfolding siteIn
+  sound-length =
+      let e : siteOf (layoutOf w) w (Whole k) ≡ At (record { before = k; cell = k; after = k; count = length (sequenceOf (layoutOf w) w k) }) =
+            rw (lt-ltb k (layoutOf w .lists) h, sound-decided w s) in
+      sym (length-at w k (sym (look-at w (Whole k) (sound-opened w s) e)))
+      ∙ ap (λ (x : List ℕ). L.Length (length x)) members-are
 
-  pub sound-place : (p : ℕ) → p < length members → placeOf w k p ≡ P.At (recordAt (layoutOf w) (getD members p 0)) (layoutOf w .width)
-  unfolding placeOf
-  sound-place p g = rw (sound-opened w s, lt-ltb _ _ h, sound-decided w s, members-are, lt-ltb p (length members) g)
-
-  pub sound-read : (p : ℕ) → p < length members
-      → readWords w k p ≡ take (layoutOf w .width) (drop (recordAt (layoutOf w) (getD members p 0)) w)
-  sound-read p g = rw (sound-place p g)
+  pub sound-read : (p : ℕ) → p < length members → readWords w k p ≡ recordIn (layoutOf w) w (getD members p 0)
+  unfolding siteIn memberAt
+  sound-read p g =
+      let q : p < length (sequenceOf (layoutOf w) w k) = subst (λ (x : List ℕ). p < length x) (sym members-are) g in
+      let x = sequenceOf (layoutOf w) w k in
+      let e : siteOf (layoutOf w) w (Member k p) ≡ At (record { before = getD (k ∷ x) p 0; cell = getD x p 0; after = getD (x ++ k ∷ []) (p + 1) 0; count = length x }) =
+            rw (lt-ltb k (layoutOf w .lists) h, sound-decided w s, lt-ltb p (length x) q) in
+      sym (read-at w k p (sym (look-at w (Member k p) (sound-opened w s) e)) .0)
+      ∙ ap (λ (x : List ℕ). recordIn (layoutOf w) w (getD x p 0)) members-are
 
 -- a formatted store is sound, and each list is empty
 pub formatted-check : (l : Layout) → InRange l → checkAnswer (formatted l) ≡ C.Sound

@@ -1,20 +1,22 @@
--- The calls' definitions, case by case: which question decided.
+-- The calls' definitions, case by case: which question decided, or what the look found.
 use Prim.Native.Nat.{ℕ, _+_, _<_, _≤_}
 use mathlib.Core.Path.{_≡_, refl, ap, _∙_, sym}
-use mathlib.Core.List.{List}
+use mathlib.Core.List.{List, []}
 use mathlib.Core.Bool.{true, false}
-use lib.Dec.{eqb, ltb}
-use lib.ListN.{length, getD}
-use borrow.Author.Tests.{eq-eqb, ne-eqb, lt-ltb, le-ltb}
+use lib.ListN.{length, take, drop}
+use borrow.Author.Tests.{eq-eqb, ne-eqb}
+use Rattle.stores.specs.Stores.{refuse, stores}
 use Rattle.layout.specs.declared.Layout.{Layout}
-use Rattle.layout.specs.declared.Opened.the-variants as O
-use Rattle.layout.specs.Words.{inRange, sizeOf, opened, formatted, recordAt}
-use Rattle.lists.specs.Decide.{sequenceOf, soundOf}
+use Rattle.layout.specs.Words.{inRange, sizeOf, formatted, recordAt}
+use Rattle.requests.specs.declared.Site.{Site}
+use Rattle.requests.specs.declared.Request.the-variants.{Check, Whole, Member, Gap}
+use Rattle.requests.specs.declared.Looked.the-variants as K
+use Rattle.requests.specs.Requests.{lookOf}
+use Rattle.edits.specs.Edits.{insertWrites, deleteWrites}
 use Rattle.axle_store.specs.declared.Formatted.the-variants as F
 use Rattle.axle_store.specs.declared.Checked.the-variants as C
 use Rattle.axle_store.specs.declared.Counted.the-variants as L
-use Rattle.axle_store.specs.declared.Place.the-variants as P
-use Rattle.axle_store.specs.Calls.{formatAnswer, formatWords, checkAnswer, lengthAnswer, placeOf}
+use Rattle.axle_store.specs.Calls.{formatAnswer, formatWords, checkAnswer, lengthAnswer, readNumber, readWords, readStart, insertPlan, deletePlan}
 
 -- format: the numbers are out of range, the length is not exact, done
 module _ (l : Layout) (w : List ℕ) where
@@ -30,58 +32,55 @@ module _ (l : Layout) (w : List ℕ) where
   unfolding formatAnswer
   format-done e h = rw (e, eq-eqb _ _ h) (refl, refl)
 
--- refused by questions 1 to 4
-module _ (w : List ℕ) (n : ℕ) (e : opened w ≡ O.Refused n) where
-  pub check-closed : C.Refused n ≡ checkAnswer w
+module _ (w : List ℕ) where
+  pub check-refused : {n : ℕ} → lookOf w Check ≡ K.Refused n → C.Refused n ≡ checkAnswer w
   unfolding checkAnswer
-  check-closed = rw e
+  check-refused e = rw e
 
-  pub length-closed : (k : ℕ) → L.Refused n ≡ lengthAnswer w k
-  unfolding lengthAnswer
-  length-closed k = rw e
-
-  pub place-closed : (k p : ℕ) → P.Refused n ≡ placeOf w k p
-  unfolding placeOf
-  place-closed k p = rw e
-
--- opened: the questions after those
-module _ (w : List ℕ) (l : Layout) (e : opened w ≡ O.Open l) where
-  pub check-unsound : soundOf l w ≡ false → C.Refused 6 ≡ checkAnswer w
+  pub check-at : {l : Layout} {t : Site} → lookOf w Check ≡ K.At l t → C.Sound ≡ checkAnswer w
   unfolding checkAnswer
-  check-unsound s = rw (e, s)
-
-  pub check-sound : soundOf l w ≡ true → C.Sound ≡ checkAnswer w
-  unfolding checkAnswer
-  check-sound s = rw (e, s)
+  check-at e = rw e
 
   module _ (k : ℕ) where
-    pub length-list : l .lists ≤ k → L.Refused 5 ≡ lengthAnswer w k
+    pub length-refused : {n : ℕ} → lookOf w (Whole k) ≡ K.Refused n → L.Refused n ≡ lengthAnswer w k
     unfolding lengthAnswer
-    length-list h = rw (e, le-ltb _ _ h)
+    length-refused e = rw e
 
-    pub length-unsound : k < l .lists → soundOf l w ≡ false → L.Refused 6 ≡ lengthAnswer w k
+    pub length-at : {l : Layout} {t : Site} → lookOf w (Whole k) ≡ K.At l t → L.Length (t .count) ≡ lengthAnswer w k
     unfolding lengthAnswer
-    length-unsound h s = rw (e, lt-ltb _ _ h, s)
-
-    pub length-sound : k < l .lists → soundOf l w ≡ true → L.Length (length (sequenceOf l w k)) ≡ lengthAnswer w k
-    unfolding lengthAnswer
-    length-sound h s = rw (e, lt-ltb _ _ h, s)
+    length-at e = rw e
 
     module _ (p : ℕ) where
-      pub place-list : l .lists ≤ k → P.Refused 5 ≡ placeOf w k p
-      unfolding placeOf
-      place-list h = rw (e, le-ltb _ _ h)
+      pub number-refused : {n : ℕ} → lookOf w (Member k p) ≡ K.Refused n → n ≡ readNumber w k p
+      unfolding readNumber
+      number-refused e = rw e
 
-      pub place-unsound : k < l .lists → soundOf l w ≡ false → P.Refused 6 ≡ placeOf w k p
-      unfolding placeOf
-      place-unsound h s = rw (e, lt-ltb _ _ h, s)
+      pub number-at : {l : Layout} {t : Site} → lookOf w (Member k p) ≡ K.At l t → 0 ≡ readNumber w k p
+      unfolding readNumber
+      number-at e = rw e
 
-      pub place-beyond : k < l .lists → soundOf l w ≡ true → length (sequenceOf l w k) ≤ p → P.Refused 7 ≡ placeOf w k p
-      unfolding placeOf
-      place-beyond h s q = rw (e, lt-ltb _ _ h, s, le-ltb _ _ q)
+      pub read-refused : {n : ℕ} → lookOf w (Member k p) ≡ K.Refused n → ([] ≡ readWords w k p) × (0 ≡ readStart w k p)
+      unfolding readWords readStart
+      read-refused e = rw e (refl, refl)
 
-      pub place-at
-          : k < l .lists → soundOf l w ≡ true → p < length (sequenceOf l w k)
-          → P.At (recordAt l (getD (sequenceOf l w k) p 0)) (l .width) ≡ placeOf w k p
-      unfolding placeOf
-      place-at h s q = rw (e, lt-ltb _ _ h, s, lt-ltb _ _ q)
+      pub read-at : {l : Layout} {t : Site} → lookOf w (Member k p) ≡ K.At l t
+          → (take (l .width) (drop (recordAt l (t .cell)) w) ≡ readWords w k p) × (recordAt l (t .cell) ≡ readStart w k p)
+      unfolding readWords readStart
+      read-at e = rw e (refl, refl)
+
+      pub delete-refused : {n : ℕ} → lookOf w (Member k p) ≡ K.Refused n → deletePlan w k p ≡ refuse n
+      unfolding deletePlan
+      delete-refused e = rw e
+
+      pub delete-at : {l : Layout} {t : Site} → lookOf w (Member k p) ≡ K.At l t → deletePlan w k p ≡ stores (deleteWrites l k t)
+      unfolding deletePlan
+      delete-at e = rw e
+
+      module _ (c : ℕ) (words : List ℕ) where
+        pub insert-refused : {n : ℕ} → lookOf w (Gap k p c (length words)) ≡ K.Refused n → insertPlan w k p c words ≡ refuse n
+        unfolding insertPlan
+        insert-refused e = rw e
+
+        pub insert-at : {l : Layout} {t : Site} → lookOf w (Gap k p c (length words)) ≡ K.At l t → insertPlan w k p c words ≡ stores (insertWrites l k t words)
+        unfolding insertPlan
+        insert-at e = rw e

@@ -1,20 +1,21 @@
 -- What each call answers, and what it leaves in the lent words: its questions in order, the first no decides.
 use Prim.Native.Nat.{ℕ}
-use mathlib.Core.List.{List}
-use lib.Dec.{eqb, ltb}
-use lib.ListN.{length, getD}
+use mathlib.Core.List.{List, []}
+use lib.Dec.{eqb}
+use lib.ListN.{length, take, drop}
+use Rattle.stores.specs.Stores.{Plan, refuse, stores}
 use Rattle.layout.specs.declared.Layout.{Layout}
-use Rattle.layout.specs.Words.{ask, inRange, sizeOf, opened, afterOpen, recordAt}
-use Rattle.lists.specs.Decide.{sequenceOf, soundOf}
-use Rattle.axle_store.specs.Answers.{formattedWords, placeNumber, placeWords, placeStart}
+use Rattle.layout.specs.Words.{ask, inRange, sizeOf, recordAt}
+use Rattle.requests.specs.declared.Request.the-variants.{Check, Whole, Member, Gap}
+use Rattle.requests.specs.Requests.{lookOf, withLook}
+use Rattle.edits.specs.Edits.{insertWrites, deleteWrites}
+use Rattle.axle_store.specs.Answers.{formattedWords}
 use Rattle.axle_store.specs.declared.Formatted.{Formatted}
 use Rattle.axle_store.specs.declared.Formatted.the-variants as F
 use Rattle.axle_store.specs.declared.Checked.{Checked}
 use Rattle.axle_store.specs.declared.Checked.the-variants as C
 use Rattle.axle_store.specs.declared.Counted.{Counted}
 use Rattle.axle_store.specs.declared.Counted.the-variants as L
-use Rattle.axle_store.specs.declared.Place.{Place}
-use Rattle.axle_store.specs.declared.Place.the-variants as P
 
 -- format: 3 of the numbers given to it, 4
 unfoldable pub formatAnswer : Layout → List ℕ → Formatted
@@ -29,34 +30,29 @@ formatWords l w = formattedWords l w (formatAnswer l w)
 
 -- check: 1 to 4, 6
 unfoldable pub checkAnswer : List ℕ → Checked
-checkAnswer w = afterOpen (opened w) C.Refused (λ l. ask (soundOf l w) (C.Refused 6) C.Sound)
+checkAnswer w = withLook (lookOf w Check) C.Refused (λ l t. C.Sound)
 
 -- length of list k: 1 to 4, 5, 6
 unfoldable pub lengthAnswer : List ℕ → ℕ → Counted
-lengthAnswer w k =
-    afterOpen (opened w) L.Refused
-    (λ l.
-    ask (ltb k (l .lists)) (L.Refused 5)
-    (ask (soundOf l w) (L.Refused 6)
-    (L.Length (length (sequenceOf l w k)))))
+lengthAnswer w k = withLook (lookOf w (Whole k)) L.Refused (λ l t. L.Length (t .count))
 
--- where the record of list k at position p stands, and how many words it has: 1 to 4, 5, 6, 7
-unfoldable pub placeOf : List ℕ → ℕ → ℕ → Place
-placeOf w k p =
-    afterOpen (opened w) P.Refused
-    (λ l.
-    ask (ltb k (l .lists)) (P.Refused 5)
-    (ask (soundOf l w) (P.Refused 6)
-    (ask (ltb p (length (sequenceOf l w k))) (P.Refused 7)
-    (P.At (recordAt l (getD (sequenceOf l w k) p 0)) (l .width)))))
+-- read of list k at position p: 1 to 4, 5, 6, 7. "Read's questions can also be put by a call that returns the number alone, 0
+-- for none."
+unfoldable pub readNumber : List ℕ → ℕ → ℕ → ℕ
+readNumber w k p = withLook (lookOf w (Member k p)) (λ n. n) (λ l t. 0)
 
--- "Read's questions can also be put by a call that returns the number alone, 0 for none."
-abbrev pub readNumber : List ℕ → ℕ → ℕ → ℕ
-readNumber w k p = placeNumber (placeOf w k p)
+-- "Read returns a part of the lent words, starting at the record and P words long", refused an empty one at their start
+unfoldable pub readWords : List ℕ → ℕ → ℕ → List ℕ
+readWords w k p = withLook (lookOf w (Member k p)) (λ n. []) (λ l t. take (l .width) (drop (recordAt l (t .cell)) w))
 
--- "Read returns a part of the lent words, starting at the record and P words long", refused an empty one
-abbrev pub readWords : List ℕ → ℕ → ℕ → List ℕ
-readWords w k p = placeWords w (placeOf w k p)
+unfoldable pub readStart : List ℕ → ℕ → ℕ → ℕ
+readStart w k p = withLook (lookOf w (Member k p)) (λ n. 0) (λ l t. recordAt l (t .cell))
 
-abbrev pub readStart : List ℕ → ℕ → ℕ → ℕ
-readStart w k p = placeStart (placeOf w k p)
+-- insert into list k at position p from cell c: 1 to 4, 5, 6, 7, 8, 9, 10
+unfoldable pub insertPlan : List ℕ → ℕ → ℕ → ℕ → List ℕ → Plan
+insertPlan w k p c words =
+    withLook (lookOf w (Gap k p c (length words))) refuse (λ l t. stores (insertWrites l k t words))
+
+-- delete from list k at position p: 1 to 4, 5, 6, 7
+unfoldable pub deletePlan : List ℕ → ℕ → ℕ → Plan
+deletePlan w k p = withLook (lookOf w (Member k p)) refuse (λ l t. stores (deleteWrites l k t))

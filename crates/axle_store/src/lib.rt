@@ -1,14 +1,16 @@
 // The axle store's calls on lent words. Each asks its questions in the order of docs/FORMAT.md; the first no decides, and a
 // refused call stores nothing. No call asks anything of its caller: the words may hold anything, at any length.
 use layout::Layout;
-use layout::Opened;
-use survey::Found;
+use requests::Looked;
+use requests::Request;
+use stores::Answer;
 ghost use mathlib.Core.Path.{_≡_};
 ghost use Prim.Native.Nat.{_+_, _*_};
 ghost use lib.ListN.{length};
+ghost use Rattle.stores.specs.Stores.{answerOf, wordsAfter};
 ghost use Rattle.layout.specs.Words.{InRange, sizeOf, formatted};
 ghost use Rattle.axle_store.specs.Answers.{checkedNumber, formattedNumber, countedNumber, countedLength};
-ghost use Rattle.axle_store.specs.Calls.{formatAnswer, formatWords, checkAnswer, lengthAnswer, placeOf, readNumber, readWords, readStart};
+ghost use Rattle.axle_store.specs.Calls.{formatAnswer, formatWords, checkAnswer, lengthAnswer, readNumber, readWords, readStart, insertPlan, deletePlan};
 
 // The answer of format.
 pub enum Formatted {
@@ -25,12 +27,6 @@ pub enum Checked {
 // The answer of length.
 pub enum Counted {
     Length(u16),
-    Refused(u16),
-}
-
-// Where a record stands: its first word, and how many words it has.
-pub enum Place {
-    At(usize, usize),
     Refused(u16),
 }
 
@@ -112,15 +108,9 @@ pub fn format(words: &mut [u16], lists: u16, nodes: u16, width: u16) -> Formatte
 pub fn check(words: &[u16]) -> Checked
     ensures { λ r. ⌜ r ≡ checkAnswer (now (words .entry)) ⌝ }
 {
-    match layout::open(words) {
-        Opened::Refused(n) => Checked::Refused(n),
-        Opened::Open(l) => {
-            if survey::sound_words(words, l) {
-                Checked::Sound
-            } else {
-                Checked::Refused(6)
-            }
-        }
+    match requests::look(words, Request::Check) {
+        Looked::Refused(n) => Checked::Refused(n),
+        Looked::At(_, _) => Checked::Sound,
     }
 }
 
@@ -128,36 +118,9 @@ pub fn check(words: &[u16]) -> Checked
 pub fn length(words: &[u16], list: u16) -> Counted
     ensures { λ r. ⌜ r ≡ lengthAnswer (now (words .entry)) list ⌝ }
 {
-    match layout::open(words) {
-        Opened::Refused(n) => Counted::Refused(n),
-        Opened::Open(l) => {
-            if l.lists <= list {
-                return Counted::Refused(5);
-            }
-            if !survey::sound_words(words, l) {
-                return Counted::Refused(6);
-            }
-            Counted::Length(survey::count(words, l, list))
-        }
-    }
-}
-
-// Where does the record of the list at the position stand?
-fn place(words: &[u16], list: u16, position: u16) -> Place
-    ensures { λ r. ⌜ r ≡ placeOf (now (words .entry)) list position ⌝ }
-{
-    match layout::open(words) {
-        Opened::Refused(n) => Place::Refused(n),
-        Opened::Open(l) => {
-            if l.lists <= list {
-                return Place::Refused(5);
-            }
-            match survey::find(words, l, list, position) {
-                Found::Unsound => Place::Refused(6),
-                Found::Beyond => Place::Refused(7),
-                Found::Cell(c) => Place::At(l.node(c) + Layout::LINK_WORDS, l.width as usize),
-            }
-        }
+    match requests::look(words, Request::Whole(list)) {
+        Looked::Refused(n) => Counted::Refused(n),
+        Looked::At(_, t) => Counted::Length(t.count),
     }
 }
 
@@ -165,9 +128,9 @@ fn place(words: &[u16], list: u16, position: u16) -> Place
 pub fn read_number(words: &[u16], list: u16, position: u16) -> u16
     ensures { λ r. ⌜ r ≡ readNumber (now (words .entry)) list position ⌝ }
 {
-    match place(words, list, position) {
-        Place::At(_, _) => 0,
-        Place::Refused(n) => n,
+    match requests::look(words, Request::Member(list, position)) {
+        Looked::Refused(n) => n,
+        Looked::At(_, _) => 0,
     }
 }
 
@@ -176,8 +139,41 @@ pub fn read(words: &[u16], list: u16, position: u16) -> &[u16]
     ensures contents { λ r. ⌜ now r ≡ readWords (now (words .entry)) list position ⌝ }
     ensures place { λ r. ⌜ (r .ptr .0 ≡ words .entry .ptr .0) × (r .ptr .1 ≡ readStart (now (words .entry)) list position * 2 + words .entry .ptr .1) ⌝ }
 {
-    match place(words, list, position) {
-        Place::At(a, n) => &words[a..a + n],
-        Place::Refused(_) => &words[0..0],
+    match requests::look(words, Request::Member(list, position)) {
+        Looked::Refused(_) => &words[0..0],
+        Looked::At(l, t) => {
+            let a = l.node(t.cell) + Layout::LINK_WORDS;
+            let e = a + l.width as usize;
+            &words[a..e]
+        }
+    }
+}
+
+// Inserts a record into the list at the position, in the first free cell from the starting cell on.
+pub fn insert(
+    words: &mut [u16],
+    list: u16,
+    position: u16,
+    start: u16,
+    rec: &[u16],
+    allowance: u16,
+) -> Answer
+    ensures answer { λ r. ⌜ r ≡ answerOf (insertPlan (now (words .entry)) list position start (now (rec .entry))) allowance ⌝ }
+    ensures words { λ _. ⌜ now (words .exit) ≡ wordsAfter (insertPlan (now (words .entry)) list position start (now (rec .entry))) allowance (now (words .entry)) ⌝ }
+{
+    match requests::look(words, Request::Gap(list, position, start, rec.len())) {
+        Looked::Refused(n) => Answer::Refused(n),
+        Looked::At(l, t) => stores::run_rows(words, edits::insert_rows(l, list, t, rec), allowance),
+    }
+}
+
+// Deletes the record of the list at the position.
+pub fn delete(words: &mut [u16], list: u16, position: u16, allowance: u16) -> Answer
+    ensures answer { λ r. ⌜ r ≡ answerOf (deletePlan (now (words .entry)) list position) allowance ⌝ }
+    ensures words { λ _. ⌜ now (words .exit) ≡ wordsAfter (deletePlan (now (words .entry)) list position) allowance (now (words .entry)) ⌝ }
+{
+    match requests::look(words, Request::Member(list, position)) {
+        Looked::Refused(n) => Answer::Refused(n),
+        Looked::At(l, t) => stores::run_rows(words, edits::delete_rows(l, list, t), allowance),
     }
 }

@@ -1,10 +1,9 @@
 -- The word stores of insert and delete, in order.
-use Prim.Native.Nat.{ℕ, _+_, _-_}
+use Prim.Native.Nat.{ℕ, _+_, _-_, _≤_, _<_}
 use mathlib.Core.List.{List, [], _∷_, _++_}
-use lib.ListN.{length}
 use Rattle.stores.specs.Stores.{Write, write, inRow}
 use Rattle.layout.specs.declared.Layout.{Layout}
-use Rattle.layout.specs.Words.{identAt, forwardAt, backAt, countAt, recordAt, identOf}
+use Rattle.layout.specs.Words.{InRange, Node, cellCount, identAt, forwardAt, backAt, countAt, recordAt, identOf}
 use Rattle.requests.specs.declared.Site.{Site}
 
 -- "the word stores are, in order: the P record words; its forward = b; its back = a; its identifier; the count plus one; a's
@@ -37,3 +36,12 @@ deleteWrites l k t =
 
 abbrev pub deleteCentral : ℕ
 deleteCentral = 2
+
+-- a site in a store of this layout
+pub record Placed (l : Layout) (k : ℕ) (t : Site) : Type 0 where
+  pub inRange : InRange l
+  pub list : k < l .lists
+  pub cell : Node l (t .cell)
+  pub before : t .before < cellCount l
+  pub after : t .after < cellCount l
+  pub count : t .count ≤ l .nodes

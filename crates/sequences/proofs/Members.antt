@@ -57,6 +57,11 @@ at-in [] i h = absurd (omega arith)
 at-in (x ∷ s) zero h = List·Memᴰ·head refl
 at-in (x ∷ s) (suc i) h = List·Memᴰ·tail (at-in s i (omega arith))
 
+pub all-nth {ℓ} : {A : Type ℓ} (P : A → Type 0) (s : List A) (i : ℕ) (d : A) → All P s → i < length s → P (getD s i d)
+all-nth P [] i d h k = absurd (omega arith)
+all-nth P (x ∷ s) zero d h k = h .0
+all-nth P (x ∷ s) (suc i) d h k = all-nth P s i d (h .1) (omega arith)
+
 -- two sequences of different members that share none, one behind the other
 pub different-append : (s t : List ℕ) → Different s → Different t → ((x : ℕ) → x ∈ s → x ∈ t → ⊥) → Different (s ++ t)
 different-append [] t ds dt h = dt

@@ -1,6 +1,6 @@
 -- Laws of runs of stores.
 use Prim.Native.Nat.{ℕ, suc, zero, _+_, _-_, _≤_, _<_}
-use mathlib.Core.Path.{_≡_, refl, ap, _∙_, sym, subst}
+use mathlib.Core.Path.{_≡_, refl, ap, ap₂, _∙_, sym, subst}
 use mathlib.Core.List.{List, [], _∷_, _++_}
 use mathlib.Core.Bool.{true, false, cond}
 use native.Mathlib.Omega.{arith}
@@ -8,10 +8,13 @@ use native.Mathlib.Numerals.{add-one}
 use native.Mathlib.Nat.{add-zero}
 use lib.Dec.{ltb}
 use lib.ListN.{length, getD, set, take, drop, length-set, length-append, take-append-drop}
-use lib.Seq.{take-suc, take-all, take-take, getD-set-same, getD-set-other}
+use lib.Seq.{take-suc, take-all, take-take, take-suc-set, length-take-le, getD-set-same, getD-set-other}
 use borrow.Author.Tests.{lt-ltb, le-ltb}
+use Rattle.sequences.specs.Sequence.{All}
+use Rattle.sequences.proofs.Members.{all-append, all-nth}
 use Rattle.stores.specs.declared.Answer.the-variants as A
-use Rattle.stores.specs.Stores.{Write, write, store, run, applied, Spares, stores, answerOf, writesOf, inRow}
+use Rattle.stores.specs.declared.Rows.{Rows}
+use Rattle.stores.specs.Stores.{Write, write, store, run, applied, Spares, stores, answerOf, writesOf, inRow, writesIn, Planned, Held}
 
 -- stores in a row one after the other
 pub run-append : (ps qs : List Write) (w : List ℕ) → run (ps ++ qs) w ≡ run qs (run ps w)
@@ -107,3 +110,48 @@ row-at b (v ∷ vs) w (suc j) h k =
     let e : b + suc j ≡ b + 1 + j = omega arith in
     ap (λ (n : ℕ). getD (run (inRow (b + 1) vs) (set w b v)) n 0) e
     ∙ row-at (b + 1) vs (set w b v) j (omega (arith, length-set w b v)) (omega arith)
+
+-- one store more at the end of two rows
+pub writes-snoc : (at vs : List ℕ) (a v : ℕ) → length at ≡ length vs → writesOf (at ++ a ∷ []) (vs ++ v ∷ []) ≡ writesOf at vs ++ write a v ∷ []
+unfolding writesOf
+writes-snoc [] [] a v e = refl
+writes-snoc [] (y ∷ vs) a v e = absurd (omega arith)
+writes-snoc (x ∷ at) [] a v e = absurd (omega arith)
+writes-snoc (x ∷ at) (y ∷ vs) a v e = ap (λ (t : List Write). write x y ∷ t) (writes-snoc at vs a v (omega arith))
+
+pub held-more
+    : (n : ℕ) (at vs : List ℕ) (len a v : ℕ) (ps : List Write) → len < 19 → Held n (record { at = at; values = vs; len = len }) ps → a < n
+    → Held n (record { at = set at len a; values = set vs len v; len = len + 1 }) (ps ++ write a v ∷ [])
+held-more n at vs len a v ps few h g =
+    record {
+      at = length-set at len a ∙ h .at;
+      values = length-set vs len v ∙ h .values;
+      len = omega (arith, h .len, length-append ps (write a v ∷ []));
+      few = omega (arith, h .len, length-append ps (write a v ∷ []));
+      same =
+        ap₂ writesOf (ap (λ (m : ℕ). take m (set at len a)) (add-one len) ∙ take-suc-set at len a (omega (arith, h .at)))
+          (ap (λ (m : ℕ). take m (set vs len v)) (add-one len) ∙ take-suc-set vs len v (omega (arith, h .values)))
+        ∙ writes-snoc (take len at) (take len vs) a v
+          (length-take-le len at (omega (arith, h .at)) ∙ sym (length-take-le len vs (omega (arith, h .values))))
+        ∙ ap (λ (t : List Write). t ++ write a v ∷ []) (h .same);
+      inside = all-append (λ (p : Write). p .at < n) ps (write a v ∷ []) (h .inside) (g, tt)
+    }
+
+-- rows of stores are a plan
+pub held-length : (n : ℕ) (r : Rows) (ps : List Write) → Held n r ps → (length (take (r .len) (r .at)) ≡ r .len) × (length (take (r .len) (r .values)) ≡ r .len)
+held-length n r ps h =
+    (length-take-le (r .len) (r .at) (omega (arith, h .at, h .len, h .few)), length-take-le (r .len) (r .values) (omega (arith, h .values, h .len, h .few)))
+
+pub held-planned : (n : ℕ) (r : Rows) (ps : List Write) → Held n r ps → Planned n (take (r .len) (r .at)) (take (r .len) (r .values))
+held-planned n r ps h =
+    let l = held-length n r ps h in
+    let e : length (take (r .len) (r .at)) ≡ length (take (r .len) (r .values)) = l .0 ∙ sym (l .1) in
+    record {
+      rows = e;
+      inside =
+        λ i k.
+        subst (λ (p : Write). p .at < n) (writes-at (take (r .len) (r .at)) (take (r .len) (r .values)) i e k)
+        (all-nth (λ (p : Write). p .at < n) (writesIn r) i (write 0 0)
+          (subst (All (λ (p : Write). p .at < n)) (sym (h .same)) (h .inside))
+          (omega (arith, length-writes (take (r .len) (r .at)) (take (r .len) (r .values)) e)))
+    }

@@ -5,7 +5,7 @@ ghost use mathlib.Core.Path.{_≡_};
 ghost use Prim.Native.Nat.{ℕ, _+_, _<_, _≤_};
 ghost use mathlib.Core.List.{List, [], _∷_, _++_};
 ghost use lib.ListN.{length, getD};
-ghost use Rattle.stores.specs.Stores.{Write, write, store, stores, applied, answerOf, answerNumber, answerStores, writesOf, Planned, Held};
+ghost use Rattle.stores.specs.Stores.{Write, write, store, stores, applied, answerOf, answerNumber, answerStores, writesOf, writesIn, Planned, Held};
 
 // The answer of a call that stores.
 pub enum Answer {
@@ -75,7 +75,7 @@ pub struct Rows {
 impl Rows {
     // No store yet.
     pub fn new() -> Rows
-        ensures { λ r. ⌜ (n : ℕ) → Held n r [] ⌝ }
+        ensures { λ r. ⌜ ((n : ℕ) → Held n r []) ⌝ }
     {
         Rows {
             at: [0; 19],
@@ -100,4 +100,16 @@ impl Rows {
             len: n + 1,
         }
     }
+}
+
+// Makes the stores of the rows, up to the allowance.
+pub fn run_rows(words: &mut [u16], rows: Rows, allowance: u16) -> Answer
+    requires { ⌜ Held (length (now words)) rows (writesIn rows) ⌝ }
+    ensures answer { λ r. ⌜ r ≡ answerOf (stores (writesIn rows)) allowance ⌝ }
+    ensures words { λ _. ⌜ now (words .exit) ≡ applied (writesIn rows) allowance (now (words .entry)) ⌝ }
+{
+    let n = rows.len;
+    let at = rows.at;
+    let values = rows.values;
+    run(words, &at[..n], &values[..n], allowance)
 }
