@@ -1,10 +1,14 @@
--- Words that are overwritten from the front.
+-- Words that are overwritten from the front, and rows of stores that carry out a plan.
 use Prim.Native.Nat.{ℕ, suc, _+_, _<_, _≤_}
-use mathlib.Core.Path.{_≡_, refl, ap, _∙_, sym}
+use mathlib.Core.Path.{_≡_, refl, ap, _∙_, sym, subst}
 use mathlib.Core.List.{List, [], _∷_, _++_, append-nil}
 use native.Mathlib.Omega.{arith}
 use native.Mathlib.Numerals.{add-one}
 use lib.ListN.{length, getD, set, take, drop, length-append, length-drop}
+use Rattle.stores.specs.declared.Answer.{Answer}
+use Rattle.stores.specs.declared.Answer.the-variants as A
+use Rattle.stores.specs.declared.Rows.{Rows}
+use Rattle.stores.specs.Stores.{Write, Plan, refuse, stores, applied, answerOf, wordsAfter, writesIn, Held}
 use lib.Seq.{take-suc, drop-cons, set-at, append-snoc, length-take-le, take-length, drop-length}
 
 -- the first i words are those of f, the others those of w
@@ -31,3 +35,17 @@ over-all f w i e k =
     ∙ ap (λ (n : ℕ). f ++ drop n w) k
     ∙ ap (λ (t : List ℕ). f ++ t) (drop-length w)
     ∙ append-nil f
+
+-- rows that hold the stores of a plan: what is asked to run them, and what the run gives
+pub held-self : {n m : ℕ} {r : Rows} {ps : List Write} → Held n r ps → n ≡ m → Held m r (writesIn r)
+held-self {r = r} h e = subst (λ (m : ℕ). Held m r (writesIn r)) e (subst (Held _ r) (sym (h .same)) h)
+
+pub plan-refused : {p : Plan} {n : ℕ} (m : ℕ) (w : List ℕ) → p ≡ refuse n → (A.Refused n ≡ answerOf p m) × (w ≡ wordsAfter p m w)
+plan-refused m w e = rw e (refl, refl)
+
+pub plan-run
+    : {p : Plan} {n : ℕ} {r : Rows} {ps : List Write} {x : Answer} {w′ : List ℕ} (m : ℕ) (w : List ℕ) → p ≡ stores ps → Held n r ps
+    → x ≡ answerOf (stores (writesIn r)) m → w′ ≡ applied (writesIn r) m w → (x ≡ answerOf p m) × (w′ ≡ wordsAfter p m w)
+plan-run m w e h a b =
+    let q = ap stores (h .same) ∙ sym e in
+    (a ∙ ap (λ (p : Plan). answerOf p m) q, b ∙ ap (λ (p : Plan). wordsAfter p m w) q)

@@ -57,11 +57,11 @@ module _ {n : ℕ} {ps qs : List Write} {i : ℕ} {r : Rows} (f : Filled n ps qs
         small = f .small;
         inside = f .inside;
         held =
-          subst (Held n r′)
-          (append-assoc ps (take i qs) (write a v ∷ [])
-          ∙ ap₂ (λ (x y : ℕ). ps ++ (take i qs ++ write x y ∷ [])) ea ev
-          ∙ ap (λ (t : List Write). ps ++ t) (sym (take-suc qs i (write 0 0) h) ∙ ap (λ (m : ℕ). take m qs) (sym (add-one i))))
-          (g n (ps ++ take i qs) (f .held) (omega arith))
+            subst (Held n r′)
+            (append-assoc ps (take i qs) (write a v ∷ [])
+            ∙ ap₂ (λ (x y : ℕ). ps ++ (take i qs ++ write x y ∷ [])) ea ev
+            ∙ ap (λ (t : List Write). ps ++ t) (sym (take-suc qs i (write 0 0) h) ∙ ap (λ (m : ℕ). take m qs) (sym (add-one i))))
+            (g n (ps ++ take i qs) (f .held) (omega arith));
       }
 
   -- at the end all of them are
@@ -82,16 +82,23 @@ row-at a zero (v ∷ vs) h = (omega arith, refl)
 row-at a (suc i) (v ∷ vs) h = let t = row-at (a + 1) i vs (omega arith) in (omega arith, t .1)
 
 -- before the first push of a record
-pub record-fill : (n a : ℕ) (vs : List ℕ) (r : Rows) → a + length vs ≤ n → n ≤ 65536 → length vs ≤ 13 → Held n r [] → Filled n [] (inRow a vs) 0 r
+pub record-fill
+    : (n a : ℕ) (vs : List ℕ) (r : Rows) → a + length vs ≤ n → n ≤ 65536 → length vs ≤ 13 → Held n r []
+    → Filled n [] (inRow a vs) 0 r
 record-fill n a vs r h g m e = record { few = omega (arith, length-row a vs); small = g; inside = row-inside n a vs h; held = e }
 
 module _ {l : Layout} {k : ℕ} {t : Site} (p : Placed l k t) where
   -- the words of the site stand within the store
-  site-fits : (cellAt l (t .cell) + 3 ≤ sizeOf l) × (cellAt l (t .before) + 3 ≤ sizeOf l) × (cellAt l (t .after) + 3 ≤ sizeOf l) × (countAt k < sizeOf l)
+  site-fits
+      : (cellAt l (t .cell) + 3 ≤ sizeOf l) × (cellAt l (t .before) + 3 ≤ sizeOf l)
+      × (cellAt l (t .after) + 3 ≤ sizeOf l) × (countAt k < sizeOf l)
   site-fits =
-      let r = p .inRange in
-      (cell-fits l (t .cell) r (p .cell .high), cell-fits l (t .before) r (p .before), cell-fits l (t .after) r (p .after),
-      omega (arith, header-fits l k (p .list)))
+      let r = p .inRange in (
+        cell-fits l (t .cell) r (p .cell .high),
+        cell-fits l (t .before) r (p .before),
+        cell-fits l (t .after) r (p .after),
+        omega (arith, header-fits l k (p .list)),
+      )
 
   -- and so do those of its record
   pub record-fits : (recordAt l (t .cell) + l .width ≤ sizeOf l) × (sizeOf l ≤ 65536)
@@ -105,7 +112,7 @@ module _ {l : Layout} {k : ℕ} {t : Site} (p : Placed l k t) where
         few = omega (arith, h .len);
         small = size-small l (p .inRange);
         inside = omega (arith, site-fits);
-        held = subst (Held (sizeOf l) r) (sym (append-nil (writesIn r))) h
+        held = subst (Held (sizeOf l) r) (sym (append-nil (writesIn r))) h;
       }
 
   -- before the first push of a delete

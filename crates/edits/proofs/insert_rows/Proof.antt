@@ -16,10 +16,11 @@ record-rows-requires c κs = search needs
 link-rows-requires : tie.Need-link-rows-requires
 link-rows-requires c κs =
     let s = c .before .before in
-    let h = c .record-rows .ensures in
-    (s .pre .0,
-    subst (Held (sizeOf (s .args .l)) (c .record-rows .result)) (sym (h .same)) h,
-    omega (arith, h .len, length-row (recordAt (s .args .l) (s .args .t .cell)) (s .args .words .now)))
+    let h = c .record-rows .ensures in (
+      s .pre .0,
+      subst (Held (sizeOf (s .args .l)) (c .record-rows .result)) (sym (h .same)) h,
+      omega (arith, h .len, length-row (recordAt (s .args .l) (s .args .t .cell)) (s .args .words .now)),
+    )
 
 returns : tie.Need-returns
 unfolding insertWrites

@@ -71,9 +71,10 @@ loop-again c =
     let l = c .before .before .before in
     let a = l .before .before .node .result + 3 in
     let words = l .before .before .before .before .args .words .now in
-    let t = row-at a (l .loop .i) words (omega arith) in
-    (omega arith,
-    λ n h g. pushed (l .loop .inv .1 n h g) _ _ _ (omega (arith, length-row a words)) (t .0) (t .1) (c .push .ensures))
+    let t = row-at a (l .loop .i) words (omega arith) in (
+      omega arith,
+      λ n h g. pushed (l .loop .inv .1 n h g) _ _ _ (omega (arith, length-row a words)) (t .0) (t .1) (c .push .ensures),
+    )
 
 returns : tie.Need-returns Inv-loop μ-loop
 returns c =
