@@ -1,46 +1,149 @@
 -- The marked store: L = 1, N = 3, P = 1 (24 words, nodes 1 to 3 at words 12, 16, 20), as a table of calls and outcomes.
-use Prim.Native.Nat.{ℕ}
-use mathlib.Core.List.{List, [], _∷_}
+use Prim.Native.Nat.{ℕ, _+_}
+use mathlib.Core.List.{List, [], _∷_, _++_}
 use lib.ListN.{replicate}
+use Rattle.stores.specs.declared.Answer.{Answer}
+use Rattle.stores.specs.declared.Answer.the-variants as A
+use Rattle.stores.specs.Stores.{Write, write, Plan, answerOf, wordsAfter, madeBy}
 use Rattle.layout.specs.declared.Layout.{Layout}
 use Rattle.axle_store.specs.Answers.{formattedNumber, checkedNumber, countedNumber, countedLength}
-use Rattle.axle_store.specs.Calls.{formatAnswer, formatWords, checkAnswer, lengthAnswer, readNumber, readWords}
+use Rattle.axle_store.specs.Calls.{formatAnswer, formatWords, checkAnswer, lengthAnswer, readNumber, readWords, insertPlan, deletePlan}
 
 abbrev pub small : Layout
 small = record { lists = 1; nodes = 3; width = 1 }
 
--- a call
+-- a call with its arguments; an allowance last
 pub data Call : Type 0 where
   format : Layout → Call
   check : Call
   length : ℕ → Call
   read : ℕ → ℕ → Call
+  insert : ℕ → ℕ → ℕ → List ℕ → ℕ → Call
+  delete : ℕ → ℕ → ℕ → Call
 
--- its number, the values that it gives, and the words that it leaves
+-- how a call ends: a refusal's number or 0, done or stopped after so many stores
+pub data End : Type 0 where
+  number : ℕ → End
+  done : ℕ → End
+  stopped : ℕ → End
+
+abbrev pub endOf : Answer → End
+endOf (A.Refused n) = number n
+endOf (A.Done n) = done n
+endOf (A.Stopped n) = stopped n
+
+-- its end, the values that it gives, the stores that it makes, and the words that it leaves
 pub record Outcome : Type 0 where
-  pub number : ℕ
+  pub ended : End
   pub values : List ℕ
+  pub stores : List Write
   pub words : List ℕ
 
+abbrev pub planned : Plan → ℕ → List ℕ → Outcome
+planned p m w = record { ended = endOf (answerOf p m); values = []; stores = madeBy p m; words = wordsAfter p m w }
+
 abbrev pub outcome : Call → List ℕ → Outcome
-outcome (format l) w = record { number = formattedNumber (formatAnswer l w); values = []; words = formatWords l w }
-outcome check w = record { number = checkedNumber (checkAnswer w); values = []; words = w }
-outcome (length k) w = record { number = countedNumber (lengthAnswer w k); values = countedLength (lengthAnswer w k) ∷ []; words = w }
-outcome (read k p) w = record { number = readNumber w k p; values = readWords w k p; words = w }
+outcome (format l) w = record { ended = number (formattedNumber (formatAnswer l w)); values = []; stores = []; words = formatWords l w }
+outcome check w = record { ended = number (checkedNumber (checkAnswer w)); values = []; stores = []; words = w }
+outcome (length k) w =
+    record { ended = number (countedNumber (lengthAnswer w k)); values = countedLength (lengthAnswer w k) ∷ []; stores = []; words = w }
+outcome (read k p) w = record { ended = number (readNumber w k p); values = readWords w k p; stores = []; words = w }
+outcome (insert k p c words m) w = planned (insertPlan w k p c words) m w
+outcome (delete k p m) w = planned (deletePlan w k p) m w
 
 pub record Row : Type 0 where
   pub words : List ℕ
   pub call : Call
   pub outcome : Outcome
 
--- C1. "Formatted: 82 66 83 1 1 3 1 0 42400 0 0 0, then twelve zeros."
+-- words 0 to 7, then the header, then nodes 1 to 3
+abbrev pub store : List ℕ → List ℕ → List ℕ → List ℕ → List ℕ
+store header node1 node2 node3 = 82 ∷ 66 ∷ 83 ∷ 1 ∷ 1 ∷ 3 ∷ 1 ∷ 0 ∷ (header ++ (node1 ++ (node2 ++ node3)))
+
+abbrev pub cell : ℕ → ℕ → ℕ → ℕ → List ℕ
+cell a b c d = a ∷ b ∷ c ∷ d ∷ []
+
+-- the words of C1, C2 and C3, and of C6 when done and when cut after one store
 abbrev pub c1 : List ℕ
 c1 = 82 ∷ 66 ∷ 83 ∷ 1 ∷ 1 ∷ 3 ∷ 1 ∷ 0 ∷ 42400 ∷ 0 ∷ 0 ∷ 0 ∷ replicate 12 0
 
-abbrev pub rows : List Row
-rows =
-    record { words = replicate 24 7; call = format small; outcome = record { number = 0; values = []; words = c1 } }
-    ∷ record { words = c1; call = check; outcome = record { number = 0; values = []; words = c1 } }
-    ∷ record { words = c1; call = length 0; outcome = record { number = 0; values = 0 ∷ []; words = c1 } }
-    ∷ record { words = c1; call = read 0 0; outcome = record { number = 7; values = []; words = c1 } }
+abbrev pub c2 : List ℕ
+c2 = store (cell 42400 2 2 1) (cell 0 0 0 0) (cell 42400 0 0 700) (cell 0 0 0 0)
+
+abbrev pub c3 : List ℕ
+c3 = store (cell 42400 2 3 2) (cell 0 0 0 0) (cell 42400 3 0 700) (cell 42400 0 2 512)
+
+abbrev pub c6 : List ℕ
+c6 = store (cell 42400 3 3 1) (cell 0 0 0 0) (cell 0 3 0 700) (cell 42400 0 0 512)
+
+abbrev pub c6cut : List ℕ
+c6cut = store (cell 42400 2 3 2) (cell 0 0 0 0) (cell 42400 3 0 700) (cell 42400 0 0 512)
+
+-- C1. "Formatted: 82 66 83 1 1 3 1 0 42400 0 0 0, then twelve zeros."
+abbrev pub rows1 : List Row
+rows1 =
+    record { words = replicate 24 7; call = format small; outcome = record { ended = number 0; values = []; stores = []; words = c1 } }
+    ∷ record { words = c1; call = check; outcome = record { ended = number 0; values = []; stores = []; words = c1 } }
+    ∷ record { words = c1; call = length 0; outcome = record { ended = number 0; values = 0 ∷ []; stores = []; words = c1 } }
+    ∷ record { words = c1; call = read 0 0; outcome = record { ended = number 7; values = []; stores = []; words = c1 } }
     ∷ []
+
+-- C2. "C1, insert record 700 at position 0 from cell 2: seven stores, word 19 = 700, 17 = 0, 18 = 0, 16 = 42400, 11 = 1, 9 = 2,
+-- 10 = 2."
+abbrev pub row2 : Row
+row2 =
+    record {
+      words = c1;
+      call = insert 0 0 2 (700 ∷ []) 65535;
+      outcome =
+        record {
+          ended = done 7;
+          values = [];
+          stores = write 19 700 ∷ write 17 0 ∷ write 18 0 ∷ write 16 42400 ∷ write 11 1 ∷ write 9 2 ∷ write 10 2 ∷ [];
+          words = c2
+        }
+    }
+
+-- C3. "C2, insert 512 at position 1 from cell 2: cell 3 is used; 23 = 512, 21 = 0, 22 = 2, 20 = 42400, 11 = 2, 17 = 3, 10 = 3."
+abbrev pub rows3 : List Row
+rows3 =
+    record {
+      words = c2;
+      call = insert 0 1 2 (512 ∷ []) 7;
+      outcome =
+        record {
+          ended = done 7;
+          values = [];
+          stores = write 23 512 ∷ write 21 0 ∷ write 22 2 ∷ write 20 42400 ∷ write 11 2 ∷ write 17 3 ∷ write 10 3 ∷ [];
+          words = c3
+        }
+    }
+    ∷ record { words = c3; call = check; outcome = record { ended = number 0; values = []; stores = []; words = c3 } }
+    ∷ record { words = c3; call = read 0 1; outcome = record { ended = number 0; values = 512 ∷ []; stores = []; words = c3 } }
+    ∷ []
+
+-- C6. "From C3, delete position 0: 22 = 0, 9 = 3, 11 = 1, 16 = 0. Cut after 1: .."
+abbrev pub rows6 : List Row
+rows6 =
+    record {
+      words = c3;
+      call = delete 0 0 4;
+      outcome =
+        record { ended = done 4; values = []; stores = write 22 0 ∷ write 9 3 ∷ write 11 1 ∷ write 16 0 ∷ []; words = c6 }
+    }
+    ∷ record { words = c3; call = delete 0 0 1; outcome = record { ended = stopped 1; values = []; stores = write 22 0 ∷ []; words = c6cut } }
+    ∷ []
+
+-- C8. "From C3, position 3 for insert: 7. Position 2: accepted as a position."
+abbrev pub rows8 : List Row
+rows8 =
+    record { words = c3; call = insert 0 3 1 (9 ∷ []) 7; outcome = record { ended = number 7; values = []; stores = []; words = c3 } }
+    ∷ record {
+      words = c3;
+      call = insert 0 2 1 (9 ∷ []) 0;
+      outcome = record { ended = stopped 0; values = []; stores = []; words = c3 }
+    }
+    ∷ []
+
+abbrev pub rows : List Row
+rows = rows1 ++ (row2 ∷ rows3 ++ (rows6 ++ rows8))

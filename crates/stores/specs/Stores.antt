@@ -61,6 +61,11 @@ answerStores (A.Done n) = n
 answerStores (A.Stopped n) = n
 answerStores (A.Refused n) = 0
 
+-- the plan's stores that an allowance lets through
+abbrev pub madeBy : Plan → ℕ → List Write
+madeBy (refuse n) m = []
+madeBy (stores ps) m = take m ps
+
 -- the stores whose addresses and values stand in two rows
 unfoldable pub writesOf : List ℕ → List ℕ → List Write
 writesOf [] vs = []
