@@ -15,11 +15,11 @@ use Rattle.lists.specs.Lists.{asked, Agrees}
 use Rattle.lists.specs.Decide.{View, viewOf, countIn, turn, holds}
 
 -- what holds of every image
-map-all {ℓ ℓ′} : {A : Type ℓ} {B : Type ℓ′} (P : B → Type 0) (f : A → B) (s : List A) → All (λ x. P (f x)) s → All P (map f s)
+pub map-all {ℓ ℓ′} : {A : Type ℓ} {B : Type ℓ′} (P : B → Type 0) (f : A → B) (s : List A) → All (λ x. P (f x)) s → All P (map f s)
 map-all P f [] h = tt
 map-all P f (x ∷ s) h = (h .0, map-all P f s (h .1))
 
-all-map {ℓ ℓ′} : {A : Type ℓ} {B : Type ℓ′} (P : B → Type 0) (f : A → B) (s : List A) → All P (map f s) → All (λ x. P (f x)) s
+pub all-map {ℓ ℓ′} : {A : Type ℓ} {B : Type ℓ′} (P : B → Type 0) (f : A → B) (s : List A) → All P (map f s) → All (λ x. P (f x)) s
 all-map P f [] h = tt
 all-map P f (x ∷ s) h = (h .0, all-map P f s (h .1))
 

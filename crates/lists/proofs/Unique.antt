@@ -34,7 +34,7 @@ nodes-few l s h d =
 pub all-nodes : (l : Layout) (s : List ℕ) → All (λ x. isNode l x ≡ true) s → All (Node l) s
 all-nodes l s h = in-all (Node l) s (λ x m. is-node l x (all-in (λ y. isNode l y ≡ true) s h m))
 
-nodes-all : (l : Layout) (s : List ℕ) → All (Node l) s → All (λ x. isNode l x ≡ true) s
+pub nodes-all : (l : Layout) (s : List ℕ) → All (Node l) s → All (λ x. isNode l x ≡ true) s
 nodes-all l s h = in-all (λ y. isNode l y ≡ true) s (λ x m. node-is l x (all-in (Node l) s h m))
 
 module _ (l : Layout) (w : List ℕ) (k : ℕ) (h : k < l .lists) where

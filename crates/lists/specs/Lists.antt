@@ -9,15 +9,24 @@ use Rattle.stores.specs.Stores.{Write, write}
 use Rattle.layout.specs.declared.Layout.{Layout}
 use Rattle.layout.specs.Words.{cellAt, cellWords, Node, InRange, marked, layoutOf, sizeOf, identAt, forwardAt, backAt, countAt, identOf}
 
--- What a sequence s asks of list k, as the stores that would make it so: "header and members carry identifier 42,400 + k; from
--- the header, forward leads through the sequence and back to the header, and back leads the other way round; the count is the
--- sequence's length."
+-- What a sequence s asks of list k, as the stores that would make it so. "header and members carry identifier 42,400 + k;
+abbrev pub identsAsked : Layout → ℕ → List ℕ → List Write
+identsAsked l k s = map (λ c. write (identAt l c) (identOf k)) (k ∷ s)
+
+-- from the header, forward leads through the sequence and back to the header,
+abbrev pub forwardsAsked : Layout → ℕ → List ℕ → List Write
+forwardsAsked l k s = map (λ p. write (forwardAt l (p .source)) (p .target)) (steps k s k)
+
+-- and back leads the other way round;
+abbrev pub backsAsked : Layout → ℕ → List ℕ → List Write
+backsAsked l k s = map (λ p. write (backAt l (p .target)) (p .source)) (steps k s k)
+
+-- the count is the sequence's length."
+abbrev pub countAsked : ℕ → List ℕ → List Write
+countAsked k s = write (countAt k) (length s) ∷ []
+
 unfoldable pub asked : Layout → ℕ → List ℕ → List Write
-asked l k s =
-    map (λ c. write (identAt l c) (identOf k)) (k ∷ s)
-    ++ (map (λ p. write (forwardAt l (p .source)) (p .target)) (steps k s k)
-    ++ (map (λ p. write (backAt l (p .target)) (p .source)) (steps k s k)
-    ++ (write (countAt k) (length s) ∷ [])))
+asked l k s = identsAsked l k s ++ (forwardsAsked l k s ++ (backsAsked l k s ++ countAsked k s))
 
 -- the words hold what is asked
 abbrev pub Agrees : List ℕ → List Write → Type 0

@@ -2,3 +2,4 @@ pub mod Members
 pub mod Pigeonhole
 pub mod Trail
 pub mod Splice
+pub mod Reversed
