@@ -29,6 +29,9 @@ in-reverse (y ∷ s) {x} m =
     ⊎-elim (λ q. List·Memᴰ·tail (in-reverse s q)) (λ q. List·Memᴰ·head (List·Memᴰ·eq-of-singleton q))
     (List·Memᴰ·append-cases (reverse s) (subst (λ (t : List ℕ). x ∈ t) (reverse-cons y s) m))
 
+pub reverse-in : (s : List ℕ) {x : ℕ} → x ∈ s → x ∈ reverse s
+reverse-in s {x} m = in-reverse (reverse s) (subst (λ (t : List ℕ). x ∈ t) (sym (reverse-reverse s)) m)
+
 pub all-reverse : (P : ℕ → Type 0) (s : List ℕ) → All P s → All P (reverse s)
 all-reverse P s h = in-all P (reverse s) (λ x m. all-in P s h (in-reverse s m))
 

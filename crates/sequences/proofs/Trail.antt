@@ -2,7 +2,7 @@
 use Prim.Native.Nat.{ℕ, zero, suc, _+_, _<_, _≤_}
 use mathlib.Core.Path.{_≡_, refl, ap, _∙_, sym, subst}
 use mathlib.Core.List.{List, [], _∷_, _++_, List·Memᴰ, List·Memᴰ·head, List·Memᴰ·tail}
-use mathlib.Core.Bool.{Bool, true, false}
+use mathlib.Core.Bool.{Bool, true, false, true≢false}
 use native.Mathlib.Omega.{arith}
 use lib.ListN.{length, getD}
 use Rattle.sequences.specs.Sequence.{_∈_, All, Different, Step, steps, Forward, trail}
@@ -52,7 +52,7 @@ module _ (link : ℕ → ℕ) (inside : ℕ → Bool) where
       ap (trail link inside (suc n)) (p .0) ∙ trail-on n y (h .0) ∙ ap (λ (t : List ℕ). y ∷ t) (leads-trail n y s z (h .1) o (p .1) (omega arith))
 
   -- from a member on, links lead through the shorter rest
-  leads-from
+  pub leads-from
       : (x : ℕ) (s : List ℕ) (z y : ℕ) → All (λ y. inside y ≡ true) s → Forward link x s z → y ∈ s
       → (r : List ℕ) × All (λ y. inside y ≡ true) r × Forward link y r z × (length r < length s)
   unfolding steps
@@ -90,3 +90,14 @@ module _ (link : ℕ → ℕ) (inside : ℕ → Bool) where
       by true e zero below = rw (trail-on n (link x) e) (λ h. refl)
       by true e (suc i) below = rw (trail-on n (link x) e) (λ h. below i (omega arith))
       by false e i below = rw (trail-out (suc n) (link x) e) (λ h. absurd (omega arith))
+
+  -- two paths from one cell, through cells inside on to cells outside, end at the same cell
+  pub leads-end
+      : (x : ℕ) (s : List ℕ) (y : ℕ) (t : List ℕ) (z : ℕ) → All (λ c. inside c ≡ true) s → inside y ≡ false → Forward link x s y
+      → All (λ c. inside c ≡ true) t → inside z ≡ false → Forward link x t z → y ≡ z
+  unfolding steps
+  leads-end x [] y [] z h o p h′ o′ p′ = sym (p .0) ∙ p′ .0
+  leads-end x [] y (c ∷ t) z h o p h′ o′ p′ = absurd (true≢false (sym (h′ .0) ∙ ap inside (sym (p′ .0) ∙ p .0) ∙ o))
+  leads-end x (c ∷ s) y [] z h o p h′ o′ p′ = absurd (true≢false (sym (h .0) ∙ ap inside (sym (p .0) ∙ p′ .0) ∙ o′))
+  leads-end x (c ∷ s) y (d ∷ t) z h o p h′ o′ p′ =
+      leads-end c s y t z (h .1) o (p .1) (h′ .1) o′ (subst (λ (a : ℕ). Forward link a t z) (sym (p′ .0) ∙ p .0) (p′ .1))
