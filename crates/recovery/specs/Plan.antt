@@ -1,0 +1,68 @@
+-- What recovery stores.
+use Prim.Native.Nat.{ℕ, zero, suc, _+_, _<_}
+use mathlib.Core.Path.{_≡_}
+use mathlib.Core.List.{List, [], _∷_, _++_}
+use mathlib.Core.Bool.{Bool, true, false, _||_, cond}
+use lib.Dec.{eqb}
+use lib.ListN.{length, getD}
+use Rattle.stores.specs.Stores.{Write, write, Plan, refuse, stores}
+use Rattle.layout.specs.declared.Layout.{Layout}
+use Rattle.layout.specs.Words.{firstNode, identAt, opened, afterOpen, ask}
+use Rattle.lists.specs.Lists.{asked}
+use Rattle.recovery.specs.Fits.{wrong, Fit, none, only, several, fitOf, Fits}
+
+-- the members of the sequences below n
+unfoldable pub joined : (ℕ → List ℕ) → ℕ → List ℕ
+joined s zero = []
+joined s (suc n) = joined s n ++ s n
+
+unfoldable pub isIn : ℕ → List ℕ → Bool
+isIn x [] = false
+isIn x (y ∷ s) = eqb x y || isIn x s
+
+-- "then writes 0 to every nonzero identifier of a node in no fitting sequence, lowest cell first": of the n cells from a on
+unfoldable pub clears : Layout → List ℕ → List ℕ → ℕ → ℕ → List Write
+clears l w members a zero = []
+clears l w members a (suc n) =
+    cond (eqb (getD w (identAt l a) 0) 0 || isIn a members) (clears l w members (suc a) n)
+    (write (identAt l a) 0 ∷ clears l w members (suc a) n)
+
+-- "recovery stores the differing words, list 0 first": of the n lists from k on, with these sequences, and then the clears
+unfoldable pub storesFrom : Layout → List ℕ → (ℕ → List ℕ) → ℕ → ℕ → List Write
+storesFrom l w s k zero = clears l w (joined s (l .lists)) (firstNode l) (l .nodes)
+storesFrom l w s k (suc n) = wrong w (asked l k (s k)) ++ storesFrom l w s (suc k) n
+
+abbrev pub recoverStores : Layout → List ℕ → (ℕ → List ℕ) → List Write
+recoverStores l w s = storesFrom l w s 0 (l .lists)
+
+-- "If for every list exactly one sequence fits": that sequence
+abbrev pub onlyOf : Fit → List ℕ
+onlyOf none = []
+onlyOf (only s) = s
+onlyOf several = []
+
+abbrev pub fittingOf : Layout → List ℕ → ℕ → List ℕ
+fittingOf l w k = onlyOf (fitOf l w k)
+
+-- questions 11 and 12, list by list: the number of the first no of the n lists from k on, 0 for none
+abbrev pub fitNumber : Fit → ℕ → ℕ
+fitNumber none rest = 11
+fitNumber several rest = 12
+fitNumber (only s) rest = rest
+
+unfoldable pub refusalFrom : Layout → List ℕ → ℕ → ℕ → ℕ
+refusalFrom l w k zero = 0
+refusalFrom l w k (suc n) = fitNumber (fitOf l w k) (refusalFrom l w (suc k) n)
+
+-- recover: 1 to 4, then for each list 11 and 12
+unfoldable pub recoverPlan : List ℕ → Plan
+recoverPlan w =
+    afterOpen (opened w) refuse
+    (λ l.
+    ask (eqb (refusalFrom l w 0 (l .lists)) 0) (refuse (refusalFrom l w 0 (l .lists)))
+    (stores (recoverStores l w (fittingOf l w))))
+
+-- every list has exactly one sequence that fits
+pub record Accepted (l : Layout) (w : List ℕ) (s : ℕ → List ℕ) : Type 0 where
+  pub fits : (k : ℕ) → k < l .lists → Fits l w k (s k)
+  pub unique : (k : ℕ) → k < l .lists → (r : List ℕ) → Fits l w k r → r ≡ s k
