@@ -42,37 +42,13 @@ fn joined(low: u8, high: u8) -> u16 {
     low as u16 + 256 * (high as u16)
 }
 
-// Printing.
-
-fn print(text: &[u8]) {
-    io::write_all(STDOUT_FILENO, text);
-}
-
-fn print_number(x: u16) {
-    io::print_decimal(STDOUT_FILENO, x as u64);
-}
-
-fn print_spaced(x: u16) {
-    print(b" ");
-    print_number(x);
-}
-
-// The words, a space in front of each, and the line's end.
-fn print_words(words: &[u16]) {
-    let mut i: usize = 0;
-    while i < words.len() {
-        print_spaced(words[i]);
-        i += 1;
-    }
-    print(b"\n");
-}
-
 fn wide(x: u16) -> u64
     ensures { λ r. ⌜ r ≤ 65535 ⌝ }
 {
     x as u64
 }
 
+// A number that depends on every word and its place.
 fn checksum(words: &[u16]) -> u64 {
     let mut sum: u64 = 0;
     let mut i: usize = 0;
@@ -86,17 +62,16 @@ fn checksum(words: &[u16]) -> u64 {
 // The words of a small store, the checksum of a larger one.
 fn print_store(words: &[u16]) {
     if words.len() <= 64 {
-        print(b"words =");
-        print_words(words);
+        printing::text(b"words =");
+        printing::words(words);
         return;
     }
-    print(b"checksum = ");
+    printing::text(b"checksum = ");
     io::print_decimal(STDOUT_FILENO, checksum(words));
-    print(b"\n");
+    printing::text(b"\n");
 }
 
-// Operations 1 to 3.
-
+// Operation 1: the first n words, or all if there are fewer, become v. The answer is how many.
 fn fill(words: &mut [u16], n: usize, v: u16) -> usize
     ensures { λ r. ⌜ r ≤ length (now (words .entry)) ⌝ }
 {
@@ -111,12 +86,14 @@ fn fill(words: &mut [u16], n: usize, v: u16) -> usize
     i
 }
 
+// Operation 2.
 fn put(words: &mut [u16], a: usize, v: u16) {
     if a < words.len() {
         words[a] = v;
     }
 }
 
+// Operation 3.
 fn put_all(words: &mut [u16], a: u16, entry: &[u8]) {
     let m = word(entry, 2);
     let mut i: u16 = 0;
@@ -126,46 +103,46 @@ fn put_all(words: &mut [u16], a: u16, entry: &[u8]) {
     }
 }
 
-// Operations 4 to 7.
-
+// Operation 4.
 fn format(words: &mut [u16], lists: u16, nodes: u16, width: u16) {
-    print(b"format");
-    print_spaced(lists);
-    print_spaced(nodes);
-    print_spaced(width);
-    print(b" =");
-    print_spaced(axle_store::format(words, lists, nodes, width).number());
-    print(b"\n");
+    printing::text(b"format");
+    printing::spaced(lists);
+    printing::spaced(nodes);
+    printing::spaced(width);
+    printing::text(b" =");
+    printing::spaced(axle_store::format(words, lists, nodes, width).number());
+    printing::text(b"\n");
     print_store(words);
 }
 
+// Operation 5.
 fn check(words: &[u16]) {
-    print(b"check =");
-    print_spaced(axle_store::check(words).number());
-    print(b"\n");
+    printing::text(b"check =");
+    printing::spaced(axle_store::check(words).number());
+    printing::text(b"\n");
 }
 
+// Operation 6.
 fn length_of(words: &[u16], list: u16) {
-    print(b"length");
-    print_spaced(list);
-    print(b" =");
+    printing::text(b"length");
+    printing::spaced(list);
+    printing::text(b" =");
     let answer = axle_store::length(words, list);
-    print_spaced(answer.number());
-    print_spaced(answer.length());
-    print(b"\n");
+    printing::spaced(answer.number());
+    printing::spaced(answer.length());
+    printing::text(b"\n");
 }
 
+// Operation 7.
 fn read(words: &[u16], list: u16, position: u16) {
-    print(b"read");
-    print_spaced(list);
-    print_spaced(position);
-    print(b" =");
-    print_spaced(axle_store::read_number(words, list, position));
-    print(b":");
-    print_words(axle_store::read(words, list, position));
+    printing::text(b"read");
+    printing::spaced(list);
+    printing::spaced(position);
+    printing::text(b" =");
+    printing::spaced(axle_store::read_number(words, list, position));
+    printing::text(b":");
+    printing::words(axle_store::read(words, list, position));
 }
-
-// Entries.
 
 // The number of words of the entry that the script begins with, 0 for an unknown operation.
 fn entry_words(script: &[u8]) -> usize {
@@ -217,13 +194,14 @@ fn step(entry: &[u8], words: &mut [u16], n: usize) -> usize
     n
 }
 
+// The entries, one after the other, on a store that has no words at first.
 fn run(script: &[u8], words: &mut [u16]) {
     let mut n: usize = 0;
     let mut at: usize = 0;
     while at < script.len() {
         let end = entry_end(script, at);
         if end <= at {
-            print(b"bad script\n");
+            printing::text(b"bad script\n");
             return;
         }
         n = step(&script[at..end], words, n);
@@ -236,5 +214,5 @@ fn main() {
     let n = io::read_full(STDIN_FILENO, &mut buffer);
     let mut words = store_buffer();
     run(&buffer[..n], &mut words);
-    print(b"end\n");
+    printing::text(b"end\n");
 }

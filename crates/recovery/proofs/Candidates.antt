@@ -21,6 +21,28 @@ use Rattle.lists.proofs.Agree.{all-map, map-all}
 use Rattle.lists.proofs.Unique.{header-out, nodes-few, all-nodes, nodes-all}
 use Rattle.recovery.specs.Fits.{wrong, Fits, backwardOf, fewWrong, same, Fit, none, only, several, fitting, fitOf}
 
+-- equality of sequences, decided
+pub same-yes : (s t : List ℕ) → same s t ≡ true → s ≡ t
+unfolding same
+same-yes [] [] e = refl
+same-yes [] (y ∷ t) e = absurd (false≢true e)
+same-yes (x ∷ s) [] e = absurd (false≢true e)
+same-yes (x ∷ s) (y ∷ t) e =
+    let b = and-eq-true-iff (eqb x y) (same s t) .0 e in
+    ap (λ (c : ℕ). c ∷ s) (eqb-true x y (b .0)) ∙ ap (λ (u : List ℕ). y ∷ u) (same-yes s t (b .1))
+
+pub same-refl : (s : List ℕ) → same s s ≡ true
+unfolding same
+same-refl [] = refl
+same-refl (x ∷ s) = and-eq-true-iff (eqb x x) (same s s) .1 (eq-eqb x x refl, same-refl s)
+
+pub sequence-dec : (s t : List ℕ) → Dec (s ≡ t)
+sequence-dec s t = by (same s t) refl
+  where
+    by : (b : Bool) → same s t ≡ b → Dec (s ≡ t)
+    by true e = yes (same-yes s t e)
+    by false e = no (λ q. true≢false (sym (same-refl s) ∙ ap (same s) q ∙ e))
+
 -- a word that is right, or wrong
 pub wrong-right : (w : List ℕ) (p : Write) (ps : List Write) → getD w (p .at) 0 ≡ p .value → wrong w (p ∷ ps) ≡ wrong w ps
 unfolding wrong
@@ -195,20 +217,6 @@ module _ (l : Layout) (w : List ℕ) (k : ℕ) (h : k < l .lists) where
   fits-no : (s : List ℕ) → fewWrong l w k s ≡ false → Fits l w k s → ⊥
   unfolding fewWrong
   fits-no s e f = omega (arith, leb-false (length (wrong w (asked l k s))) 1 e, f .few)
-
-  same-yes : (s t : List ℕ) → same s t ≡ true → s ≡ t
-  unfolding same
-  same-yes [] [] e = refl
-  same-yes [] (y ∷ t) e = absurd (false≢true e)
-  same-yes (x ∷ s) [] e = absurd (false≢true e)
-  same-yes (x ∷ s) (y ∷ t) e =
-      let b = and-eq-true-iff (eqb x y) (same s t) .0 e in
-      ap (λ (c : ℕ). c ∷ s) (eqb-true x y (b .0)) ∙ ap (λ (u : List ℕ). y ∷ u) (same-yes s t (b .1))
-
-  same-refl : (s : List ℕ) → same s s ≡ true
-  unfolding same
-  same-refl [] = refl
-  same-refl (x ∷ s) = and-eq-true-iff (eqb x x) (same s s) .1 (eq-eqb x x refl, same-refl s)
 
   -- what the decision says, as the document puts it
   abbrev pub Decided : Fit → Type 0

@@ -1,3 +1,4 @@
 pub mod Candidates
 pub mod Disjoint
 pub mod Slots
+pub mod Step
