@@ -2,3 +2,4 @@ pub mod Candidates
 pub mod Disjoint
 pub mod Slots
 pub mod Step
+pub mod Suffix
