@@ -1,0 +1,1 @@
+-- Laws of erased columns and of clears.

@@ -1,0 +1,150 @@
+// Recovery by correction. Only two sequences can fit a list: what the forward links lead through, and what the back links do. Each
+// is walked once and its wrong words are summed up as none, one or many; no sequence is kept. If exactly one fits each list, its
+// wrong word is stored, list 0 first, and then 0 to each identifier of a node in no list.
+use layout::Layout;
+use stores::Answer;
+ghost use mathlib.Core.Path.{_≡_};
+ghost use Prim.Native.Nat.{ℕ, _+_, _-_, _<_, _≤_};
+ghost use lib.ListN.{length, getD};
+ghost use Rattle.stores.specs.Stores.{applied};
+ghost use Rattle.layout.specs.Words.{InRange, cellCount, firstNode, sizeOf};
+ghost use Rattle.survey.specs.Survey.{columns, Columns};
+ghost use Rattle.mending.specs.Mending.{plus, fault, walkFaults, choose, fitIn, walked, erased, clearsIn, clearAnswer};
+
+// The wrong words of a sequence: word f of cell c is to hold v.
+pub enum Faults {
+    None,
+    One(u16, u16, u16),
+    Many,
+}
+
+// Which sequence fits a list: what the forward links or what the back links lead through, with its faults.
+pub enum Fitted {
+    Nothing,
+    Several,
+    Forward(Faults),
+    Backward(Faults),
+}
+
+impl Faults {
+    // One word more is compared: it holds found and is to hold v.
+    fn and(self, found: u16, c: u16, f: u16, v: u16) -> Faults
+        ensures { λ r. ⌜ r ≡ plus self (fault found c f v) ⌝ }
+    {
+        if found == v {
+            return self;
+        }
+        match self {
+            Faults::None => Faults::One(c, f, v),
+            Faults::One(_, _, _) => Faults::Many,
+            Faults::Many => Faults::Many,
+        }
+    }
+}
+
+// The faults of what the links onward lead through from the header of list k. The link onward is word a of a cell, back word b.
+fn walk(idents: &[u16], onward: &[u16], back: &[u16], n: u16, l: Layout, k: u16, a: u16, b: u16) -> Faults
+    requires { ⌜ Columns l (now idents) (now onward) (now back) × (k < l .lists) ⌝ }
+    ensures { λ r. ⌜ r ≡ walkFaults l (columns (now (idents .entry)) (now (onward .entry)) (now (back .entry))) a b k n ⌝ }
+{
+    let id = Layout::ident(k);
+    let mut faults = Faults::None.and(idents[k as usize], k, 0, id);
+    let mut x = k;
+    let mut y = onward[k as usize];
+    let mut left = l.nodes;
+    while 0 < left {
+        if !l.is_node(y) {
+            break;
+        }
+        faults = faults.and(idents[y as usize], y, 0, id);
+        faults = faults.and(back[y as usize], y, b, x);
+        x = y;
+        y = onward[y as usize];
+        left -= 1;
+    }
+    faults = faults.and(y, x, a, k);
+    faults = faults.and(back[k as usize], k, b, x);
+    faults.and(n, k, 3, l.nodes - left)
+}
+
+// Of the two candidates, which fit.
+fn choice(f: Faults, g: Faults) -> Fitted
+    ensures { λ r. ⌜ r ≡ choose f g ⌝ }
+{
+    match f {
+        Faults::None => Fitted::Forward(f),
+        Faults::One(_, w, _) => {
+            if w != 2 {
+                return Fitted::Forward(f);
+            }
+            match g {
+                Faults::None => Fitted::Forward(f),
+                Faults::One(_, u, _) => {
+                    if u == 1 {
+                        Fitted::Several
+                    } else {
+                        Fitted::Forward(f)
+                    }
+                }
+                Faults::Many => Fitted::Forward(f),
+            }
+        }
+        Faults::Many => match g {
+            Faults::None => Fitted::Backward(g),
+            Faults::One(_, _, _) => Fitted::Backward(g),
+            Faults::Many => Fitted::Nothing,
+        },
+    }
+}
+
+// Which sequence fits list k, whose count is n.
+fn fit(idents: &[u16], forwards: &[u16], backs: &[u16], n: u16, l: Layout, k: u16) -> Fitted
+    requires { ⌜ Columns l (now idents) (now forwards) (now backs) × (k < l .lists) ⌝ }
+    ensures { λ r. ⌜ r ≡ fitIn l (columns (now (idents .entry)) (now (forwards .entry)) (now (backs .entry))) k n ⌝ }
+{
+    choice(
+        walk(idents, forwards, backs, n, l, k, 1, 2),
+        walk(idents, backs, forwards, n, l, k, 2, 1),
+    )
+}
+
+// A column with 0 at every cell that the links lead through from the header of list k.
+fn erase(idents: &mut [u16], links: &[u16], l: Layout, k: u16)
+    requires { ⌜ InRange l × (length (now idents) ≡ cellCount l) × (length (now links) ≡ cellCount l) × (k < l .lists) ⌝ }
+    ensures { λ _. ⌜ now (idents .exit) ≡ erased (walked l (columns (now (links .entry)) (now (links .entry)) (now (links .entry))) k) (now (idents .entry)) ⌝ }
+{
+    let mut y = links[k as usize];
+    let mut left = l.nodes;
+    while 0 < left {
+        if !l.is_node(y) {
+            return;
+        }
+        idents[y as usize] = 0;
+        y = links[y as usize];
+        left -= 1;
+    }
+}
+
+// Writes 0 to the identifier of each node whose entry is not 0, lowest cell first, up to the allowance; made stores were made
+// before.
+pub fn clear(words: &mut [u16], l: Layout, idents: &[u16], made: u16, allowance: u16) -> Answer
+    requires { ⌜ InRange l × (length (now words) ≡ sizeOf l) × (length (now idents) ≡ cellCount l) × (made ≤ allowance) × (made ≤ 8) ⌝ }
+    ensures answer { λ r. ⌜ r ≡ clearAnswer made (length (clearsIn l (now (idents .entry)) (firstNode l) (l .nodes))) allowance ⌝ }
+    ensures words { λ _. ⌜ now (words .exit) ≡ applied (clearsIn l (now (idents .entry)) (firstNode l) (l .nodes)) (allowance - made) (now (words .entry)) ⌝ }
+{
+    let mut n = made;
+    let mut i = l.first_node();
+    let end = l.cell_count();
+    while i < end {
+        if idents[i as usize] != 0 {
+            if n == allowance {
+                return Answer::Stopped(n);
+            }
+            let a = l.cell(i);
+            words[a] = 0;
+            n += 1;
+        }
+        i += 1;
+    }
+    Answer::Done(n)
+}
