@@ -1,1 +1,69 @@
 -- Laws of erased columns and of clears.
+use Prim.Native.Nat.{ℕ, zero, suc, _+_, _-_, _≤_, _<_}
+use mathlib.Core.Path.{_≡_, ap, _∙_}
+use mathlib.Core.List.{List, [], _∷_}
+use mathlib.Core.Bool.{true, false}
+use native.Mathlib.Omega.{arith}
+use native.Mathlib.Numerals.{add-one}
+use lib.ListN.{length, getD, set}
+use borrow.Author.Tests.{lt-ltb, le-ltb, eq-eqb, ne-eqb}
+use Rattle.sequences.specs.Sequence.{trail}
+use Rattle.sequences.proofs.Trail.{trail-on, trail-out, trail-none}
+use Rattle.stores.specs.declared.Answer.the-variants as A
+use Rattle.stores.specs.Stores.{Write, write, store, run, applied}
+use Rattle.layout.specs.declared.Layout.{Layout}
+use Rattle.layout.specs.Words.{isNode, identAt}
+use Rattle.mending.specs.Mending.{erased, clearsIn, clearAnswer}
+
+-- a column with 0 at the cells that the links lead through from y on, n at most
+abbrev pub erasedFromCell : Layout → List ℕ → ℕ → ℕ → List ℕ → List ℕ
+erasedFromCell l links n y idents = erased (trail (λ c. getD links c 0) (isNode l) n y) idents
+
+module _ (l : Layout) (links : List ℕ) (n y : ℕ) (idents : List ℕ) where
+  -- one cell more
+  pub erased-on : 0 < n → isNode l y ≡ true → erasedFromCell l links n y idents ≡ erasedFromCell l links (n - 1) (getD links y 0) (set idents y 0)
+  unfolding erased
+  erased-on h e =
+      let s : n ≡ suc (n - 1) = omega arith in
+      ap (λ (m : ℕ). erasedFromCell l links m y idents) s ∙ rw (trail-on (λ c. getD links c 0) (isNode l) (n - 1) y e)
+
+  -- no cell more: y is no node, or all are passed
+  pub erased-out : isNode l y ≡ false → erasedFromCell l links n y idents ≡ idents
+  unfolding erased
+  erased-out e = rw (trail-out (λ c. getD links c 0) (isNode l) n y e)
+
+  pub erased-none : n ≡ 0 → erasedFromCell l links n y idents ≡ idents
+  unfolding erased
+  erased-none e = rw (e, trail-none (λ c. getD links c 0) (isNode l) y)
+
+-- the clears of the cells from a up to e, one by one
+module _ (l : Layout) (idents : List ℕ) (a e : ℕ) where
+  pub clears-one : a < e → (getD idents a 0 ≡ 0 → ⊥)
+      → clearsIn l idents a (e - a) ≡ write (identAt l a) 0 ∷ clearsIn l idents (a + 1) (e - (a + 1))
+  unfolding clearsIn
+  clears-one h q =
+      let s : e - a ≡ suc (e - (a + 1)) = omega arith in
+      rw (s, clearsIn, ne-eqb (getD idents a 0) 0 q, add-one a)
+
+  pub clears-skip : a < e → getD idents a 0 ≡ 0 → clearsIn l idents a (e - a) ≡ clearsIn l idents (a + 1) (e - (a + 1))
+  unfolding clearsIn
+  clears-skip h q =
+      let s : e - a ≡ suc (e - (a + 1)) = omega arith in
+      rw (s, clearsIn, eq-eqb (getD idents a 0) 0 q, add-one a)
+
+  pub clears-none : e ≤ a → clearsIn l idents a (e - a) ≡ []
+  unfolding clearsIn
+  clears-none h = let s : e - a ≡ 0 = omega arith in rw s
+
+-- the first store under what is left of an allowance
+pub applied-first : (p : Write) (ps : List Write) (m n : ℕ) (w : List ℕ) → n < m
+    → applied (p ∷ ps) (m - n) w ≡ applied ps (m - (n + 1)) (store w p)
+unfolding run
+applied-first p ps m n w h = let s : m - n ≡ suc (m - (n + 1)) = omega arith in rw s
+
+-- the answer of clears that do not fit into the allowance, and of those that do
+pub clear-stopped : (m n allowance : ℕ) → allowance < m + n → A.Stopped allowance ≡ clearAnswer m n allowance
+clear-stopped m n allowance h = rw (lt-ltb allowance (m + n) h)
+
+pub clear-done : (m n allowance : ℕ) → m + n ≤ allowance → A.Done (m + n) ≡ clearAnswer m n allowance
+clear-done m n allowance h = rw (le-ltb allowance (m + n) h)

@@ -1,1 +1,82 @@
 -- Laws of the faults of a walk.
+use Prim.Native.Nat.{ℕ, suc, _+_, _-_, _≤_, _<_}
+use mathlib.Core.Path.{_≡_, refl, sym, ap, _∙_}
+use mathlib.Core.List.{List, [], _∷_}
+use mathlib.Core.Bool.{true, false}
+use native.Mathlib.Omega.{arith}
+use lib.ListN.{length}
+use borrow.Author.Tests.{eq-eqb, ne-eqb}
+use Rattle.sequences.specs.Sequence.{trail}
+use Rattle.sequences.proofs.Trail.{trail-on, trail-out, trail-none}
+use Rattle.layout.specs.declared.Layout.{Layout}
+use Rattle.layout.specs.Words.{isNode, identOf}
+use Rattle.lists.specs.Decide.{View}
+use Rattle.mending.specs.declared.Faults.{Faults}
+use Rattle.mending.specs.declared.Faults.the-variants as F
+use Rattle.mending.specs.Mending.{plus, fault, turnFaults, faultsOf, walked, walkFaults}
+
+-- no faults more
+pub plus-none : (f : Faults) → plus f F.None ≡ f
+plus-none F.None = refl
+plus-none (F.One c w v) = refl
+plus-none F.Many = refl
+
+-- it does not matter which faults are summed up first
+pub plus-assoc : (f g h : Faults) → plus (plus f g) h ≡ plus f (plus g h)
+plus-assoc F.None g h = refl
+plus-assoc (F.One c w v) F.None h = refl
+plus-assoc (F.One c w v) (F.One d u t) F.None = refl
+plus-assoc (F.One c w v) (F.One d u t) (F.One e s r) = refl
+plus-assoc (F.One c w v) (F.One d u t) F.Many = refl
+plus-assoc (F.One c w v) F.Many h = refl
+plus-assoc F.Many g h = refl
+
+-- a word that holds what it is to hold is no fault, any other is one
+pub no-fault : (x c f v : ℕ) → x ≡ v → fault x c f v ≡ F.None
+no-fault x c f v e = rw (eq-eqb _ _ e)
+
+pub one-fault : (x c f v : ℕ) → (x ≡ v → ⊥) → fault x c f v ≡ F.One c f v
+one-fault x c f v h = rw (ne-eqb _ _ h)
+
+-- the cells that a walk has yet to meet when it comes to y with `left` steps left
+abbrev rest : Layout → View → ℕ → ℕ → List ℕ
+rest l v left y = trail (v .forward) (isNode l) left y
+
+-- where a walk of list k stands: it has summed up f, x is the last cell that it met, and it comes to y
+pub record Walking (l : Layout) (v : View) (a b k : ℕ) (f : Faults) (x y left : ℕ) : Type 0 where
+  pub link : v .forward x ≡ y
+  pub few : left ≤ l .nodes
+  pub same
+      : plus f (turnFaults v a b k x (rest l v left y))
+      ≡ plus (fault (v .ident k) k 0 (identOf k)) (turnFaults v a b k k (walked l v k))
+  pub count : length (walked l v k) ≡ l .nodes - left + length (rest l v left y)
+
+-- at the header its identifier is compared
+pub walking-first : (l : Layout) (v : View) (a b k i : ℕ) (f : Faults) → i ≡ identOf k → f ≡ fault (v .ident k) k 0 i
+    → Walking l v a b k f k (v .forward k) (l .nodes)
+walking-first l v a b k i f q e = record { link = refl; few = omega arith; same = rw (e, q); count = omega arith }
+
+module _ {l : Layout} {v : View} {a b k : ℕ} {f : Faults} {x y left : ℕ} (w : Walking l v a b k f x y left) where
+  -- at a node it goes on
+  rest-on : isNode l y ≡ true → 0 < left → rest l v left y ≡ y ∷ rest l v (left - 1) (v .forward y)
+  rest-on e h =
+      let m : left ≡ suc (left - 1) = omega arith in
+      rw m (trail-on (v .forward) (isNode l) (left - 1) y e)
+
+  pub walking-next : (i : ℕ) (g h : Faults) → isNode l y ≡ true → 0 < left → i ≡ identOf k
+      → g ≡ plus f (fault (v .ident y) y 0 i) → h ≡ plus g (fault (v .back y) y b x)
+      → Walking l v a b k h y (v .forward y) (left - 1)
+  unfolding turnFaults
+  walking-next i g h e p q r s =
+      record {
+        link = refl;
+        few = omega arith;
+        same = ?;
+        count = w .count ∙ rw (rest-on e p) (omega arith);
+      }
+
+  -- where no more cells are met it ends
+  pub walking-done : (n : ℕ) (g h : Faults) → rest l v left y ≡ [] → g ≡ plus f (fault y x a k)
+      → h ≡ plus g (fault (v .back k) k b x) → plus h (fault n k 3 (l .nodes - left)) ≡ walkFaults l v a b k n
+  unfolding turnFaults faultsOf walkFaults
+  walking-done n g h e r s = ?

@@ -3,3 +3,4 @@ pub mod Disjoint
 pub mod Slots
 pub mod Step
 pub mod Suffix
+pub mod Whole

@@ -33,6 +33,15 @@ in-isIn x (y ∷ s) (List·Memᴰ·tail m) = rw (in-isIn x s m) (or-true (eqb x 
 pub isIn-in : (x : ℕ) (s : List ℕ) → isIn x s ≡ false → x ∈ s → ⊥
 isIn-in x s e m = true≢false (sym (in-isIn x s m) ∙ e)
 
+pub isIn-true : (x : ℕ) (s : List ℕ) → isIn x s ≡ true → x ∈ s
+unfolding isIn
+isIn-true x [] e = absurd (true≢false (sym e))
+isIn-true x (y ∷ s) e = by (λ q. isIn-true x s q) (eqb x y) refl e
+  where
+    by : (isIn x s ≡ true → x ∈ s) → (b : Bool) → eqb x y ≡ b → (b || isIn x s) ≡ true → x ∈ (y ∷ s)
+    by below true q z = List·Memᴰ·head (eqb-true x y q)
+    by below false q z = List·Memᴰ·tail (below z)
+
 -- a member of the sequences is in one of them
 pub one-joined : (s : ℕ → List ℕ) (n k x : ℕ) → k < n → x ∈ s k → x ∈ joined s n
 unfolding joined
@@ -56,11 +65,11 @@ ident-apart l a b n e =
 
 -- the clears, cell by cell
 module _ (l : Layout) (members : List ℕ) where
-  clear-skip : (w : List ℕ) (a n : ℕ) → (eqb (getD w (identAt l a) 0) 0 || isIn a members) ≡ true → clears l w members a (suc n) ≡ clears l w members (suc a) n
+  pub clear-skip : (w : List ℕ) (a n : ℕ) → (eqb (getD w (identAt l a) 0) 0 || isIn a members) ≡ true → clears l w members a (suc n) ≡ clears l w members (suc a) n
   unfolding clears
   clear-skip w a n e = rw (clears, e)
 
-  clear-here : (w : List ℕ) (a n : ℕ) → (eqb (getD w (identAt l a) 0) 0 || isIn a members) ≡ false
+  pub clear-here : (w : List ℕ) (a n : ℕ) → (eqb (getD w (identAt l a) 0) 0 || isIn a members) ≡ false
       → clears l w members a (suc n) ≡ write (identAt l a) 0 ∷ clears l w members (suc a) n
   unfolding clears
   clear-here w a n e = rw (clears, e)
