@@ -10,7 +10,8 @@ use borrow.Author.Tests.{lt-ltb, le-ltb, eq-eqb, ne-eqb}
 use Rattle.sequences.specs.Sequence.{trail}
 use Rattle.sequences.proofs.Trail.{trail-on, trail-out, trail-none}
 use Rattle.stores.specs.declared.Answer.the-variants as A
-use Rattle.stores.specs.Stores.{Write, write, store, run, applied}
+use Rattle.stores.specs.Stores.{write, run, applied}
+use Rattle.stores.proofs.Laws.{applied-none, applied-all}
 use Rattle.layout.specs.declared.Layout.{Layout}
 use Rattle.layout.specs.Words.{isNode, identAt}
 use Rattle.mending.specs.Mending.{erased, clearsIn, clearAnswer}
@@ -55,11 +56,26 @@ module _ (l : Layout) (idents : List ℕ) (a e : ℕ) where
   unfolding clearsIn
   clears-none h = let s : e - a ≡ 0 = omega arith in rw s
 
--- the first store under what is left of an allowance
-pub applied-first : (p : Write) (ps : List Write) (m n : ℕ) (w : List ℕ) → n < m
-    → applied (p ∷ ps) (m - n) w ≡ applied ps (m - (n + 1)) (store w p)
-unfolding run
-applied-first p ps m n w h = let s : m - n ≡ suc (m - (n + 1)) = omega arith in rw s
+-- the words after those clears, under what is left of an allowance of m when n stores are made
+module _ (l : Layout) (idents : List ℕ) (a e m n : ℕ) (w : List ℕ) where
+  -- one clear more
+  pub cleared-one : a < e → n < m → (getD idents a 0 ≡ 0 → ⊥)
+      → applied (clearsIn l idents a (e - a)) (m - n) w
+      ≡ applied (clearsIn l idents (a + 1) (e - (a + 1))) (m - (n + 1)) (set w (identAt l a) 0)
+  unfolding run
+  cleared-one h k q =
+      let s : m - n ≡ suc (m - (n + 1)) = omega arith in
+      rw (clears-one l idents a e h q, s)
+
+  -- no clear more: the allowance is spent, or all are made
+  pub cleared-spent : n ≡ m → applied (clearsIn l idents a (e - a)) (m - n) w ≡ w
+  cleared-spent h =
+      let s : m - n ≡ 0 = omega arith in
+      rw (s, applied-none (clearsIn l idents a (e - a)) w)
+
+  pub cleared-none : e ≤ a → applied (clearsIn l idents a (e - a)) (m - n) w ≡ w
+  unfolding run
+  cleared-none h = rw (clears-none l idents a e h) (applied-all [] (m - n) w (omega arith))
 
 -- the answer of clears that do not fit into the allowance, and of those that do
 pub clear-stopped : (m n allowance : ℕ) → allowance < m + n → A.Stopped allowance ≡ clearAnswer m n allowance

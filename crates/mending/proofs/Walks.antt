@@ -61,7 +61,7 @@ module _ {l : Layout} {v : View} {a b k : ℕ} {f : Faults} {x y left : ℕ} (w 
   rest-on : isNode l y ≡ true → 0 < left → rest l v left y ≡ y ∷ rest l v (left - 1) (v .forward y)
   rest-on e h =
       let m : left ≡ suc (left - 1) = omega arith in
-      rw m (trail-on (v .forward) (isNode l) (left - 1) y e)
+      ap (λ (n : ℕ). rest l v n y) m ∙ trail-on (v .forward) (isNode l) (left - 1) y e
 
   pub walking-next : (i : ℕ) (g h : Faults) → isNode l y ≡ true → 0 < left → i ≡ identOf k
       → g ≡ plus f (fault (v .ident y) y 0 i) → h ≡ plus g (fault (v .back y) y b x)
@@ -71,7 +71,9 @@ module _ {l : Layout} {v : View} {a b k : ℕ} {f : Faults} {x y left : ℕ} (w 
       record {
         link = refl;
         few = omega arith;
-        same = ?;
+        same =
+            rw (s, r, q, plus-assoc, plus-assoc)
+            (ap (λ (t : Faults). plus f t) (sym (rw (rest-on e p, no-fault _ _ _ _ (w .link)))) ∙ w .same);
         count = w .count ∙ rw (rest-on e p) (omega arith);
       }
 
@@ -79,4 +81,6 @@ module _ {l : Layout} {v : View} {a b k : ℕ} {f : Faults} {x y left : ℕ} (w 
   pub walking-done : (n : ℕ) (g h : Faults) → rest l v left y ≡ [] → g ≡ plus f (fault y x a k)
       → h ≡ plus g (fault (v .back k) k b x) → plus h (fault n k 3 (l .nodes - left)) ≡ walkFaults l v a b k n
   unfolding turnFaults faultsOf walkFaults
-  walking-done n g h e r s = ?
+  walking-done n g h e r s =
+      let m : l .nodes - left ≡ length (walked l v k) = omega (arith, w .count, ap length e) in
+      rw (s, r, m, ← plus-assoc, ← w .same, e, w .link, plus-assoc f)

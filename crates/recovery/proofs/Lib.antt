@@ -4,3 +4,4 @@ pub mod Slots
 pub mod Step
 pub mod Suffix
 pub mod Whole
+pub mod Count

@@ -66,3 +66,9 @@ recoverPlan w =
 pub record Accepted (l : Layout) (w : List ℕ) (s : ℕ → List ℕ) : Type 0 where
   pub fits : (k : ℕ) → k < l .lists → Fits l w k (s k)
   pub unique : (k : ℕ) → k < l .lists → (r : List ℕ) → Fits l w k r → r ≡ s k
+
+-- "the count of places where the found and the final store hold different words"
+unfoldable pub differing : List ℕ → List ℕ → ℕ
+differing [] x = 0
+differing (a ∷ w) [] = 0
+differing (a ∷ w) (b ∷ x) = cond (eqb a b) 0 1 + differing w x

@@ -1,3 +1,15 @@
+-- `mending::clear` meets its contract. The loop's invariant: the clears that are left make the words, and the number, all that is asked.
+use Prim.Native.Nat.{_+_, _-_, _≤_, _<_}
+use mathlib.Core.Path.{_≡_, refl, ap, _∙_, sym}
+use mathlib.Core.Logic.{⊎-elim}
+use native.Mathlib.Omega.{arith}
+use lib.ListN.{length, length-set}
+use Rattle.stores.specs.declared.Answer.the-variants as A
+use Rattle.stores.specs.Stores.{applied}
+use Rattle.layout.specs.Words.{firstNode}
+use Rattle.layout.proofs.Laws.{cell-fits}
+use Rattle.mending.specs.Mending.{clearsIn}
+use Rattle.mending.proofs.Erasing.{clears-one, clears-skip, clears-none, cleared-one, cleared-spent, cleared-none, clear-stopped, clear-done}
 use Rattle.mending.proofs.clear.Statement.{statement}
 use Rattle.mending.proofs.clear.Tie as tie
 use Rattle.mending.proofs.clear.Reads as reads
@@ -7,78 +19,134 @@ use Rattle.layout.proofs.Layout.cell_count.Reads as cell-count-reads
 use Rattle.layout.proofs.Layout.first_node.Reads as first-node-reads
 
 abbrev Inv-loop : tie.InvT-loop
-Inv-loop words₀ l idents made allowance n₀ i₀ end words n i = ?
+Inv-loop words₀ l idents made allowance n₀ i₀ end words n i =
+    (i ≤ end) × (n ≤ allowance) × (n ≤ i + 8) × (length words ≡ length words₀)
+    × (n + length (clearsIn l idents i (end - i)) ≡ made + length (clearsIn l idents (firstNode l) (l .nodes)))
+    × (applied (clearsIn l idents i (end - i)) (allowance - n) words
+      ≡ applied (clearsIn l idents (firstNode l) (l .nodes)) (allowance - made) words₀)
 
 abbrev μ-loop : tie.MeasureT-loop
-μ-loop words₀ l idents made allowance n₀ i₀ end words n i = ?
+μ-loop words₀ l idents made allowance n₀ i₀ end words n i = end - i
 
 -- src/lib.rt:136:9
 first-node-requires : tie.Need-first-node-requires Inv-loop μ-loop
-first-node-requires c κs = ?
+first-node-requires c κs = omega arith
 
 -- src/lib.rt:137:9
 cell-count-requires : tie.Need-cell-count-requires Inv-loop μ-loop
-cell-count-requires c κs = ?
+cell-count-requires c κs = omega arith
 
 -- src/lib.rt:138:5
 loop-holds : tie.Need-loop-holds Inv-loop μ-loop
-loop-holds c = ?
+loop-holds c =
+    let s = c .before .before .before .before .args in
+    let a = c .before .first-node .result in
+    let e = c .cell-count .result in
+    let d : e - a ≡ s .l .nodes = omega arith in
+    let all : clearsIn (s .l) (s .idents .now) a (e - a) ≡ clearsIn (s .l) (s .idents .now) (firstNode (s .l)) (s .l .nodes) =
+    rw (d, c .before .first-node .ensures) in (
+      omega arith,
+      omega arith,
+      omega arith,
+      refl,
+      rw all,
+      rw all,
+    )
 
 -- src/lib.rt:139:19
 cast-if1 : tie.Need-cast-if1 Inv-loop μ-loop
-cast-if1 c = ?
+cast-if1 c = omega arith
 
 -- src/lib.rt:139:12
 mul-if1 : tie.Need-mul-if1 Inv-loop μ-loop
-mul-if1 c = ?
+mul-if1 c = omega arith
 
 -- src/lib.rt:139:12
 shared-slice-read-if1 : tie.Need-shared-slice-read-if1 Inv-loop μ-loop
-shared-slice-read-if1 c = ?
+shared-slice-read-if1 c = omega arith
 
 -- src/lib.rt:141:17
 same-length : tie.Need-same-length Inv-loop μ-loop
-same-length c = ?
+same-length c = c .before .before .before .before .loop .inv .3
 
 -- src/lib.rt:141:17
 returns : tie.Need-returns Inv-loop μ-loop
-returns c = ?
+returns c =
+    let s = c .before .before .before .before .before .before .before .before .before .args in
+    let t = c .before .before .before .before .loop in
+    let e = c .before .before .before .before .before .cell-count .result in (
+      ap A.Stopped (c .if2 .taken)
+      ∙ clear-stopped (s .made) (length (clearsIn (s .l) (s .idents .now) (firstNode (s .l)) (s .l .nodes))) (s .allowance)
+          (omega (arith, ap length (clears-one (s .l) (s .idents .now) (t .i) e (omega arith) (c .before .if1 .taken)))),
+      sym (cleared-spent (s .l) (s .idents .now) (t .i) e (s .allowance) (t .n) (t .words) (c .if2 .taken)) ∙ t .inv .5,
+    )
 
 -- src/lib.rt:143:17
 cell-requires : tie.Need-cell-requires Inv-loop μ-loop
-cell-requires c κs = ?
+cell-requires c κs = omega arith
+
+-- the cell's words stand within the store
+fits : (c : tie.After-cell Inv-loop μ-loop) → c .cell .result + 3 ≤ length (c .before .before .before .before .before .loop .words)
+fits c =
+    let s = c .before .before .before .before .before .before .before .before .before .before in
+    let t = c .before .before .before .before .before .loop in
+    omega (arith, cell-fits (s .args .l) (t .i) (s .pre .0) (omega arith))
 
 -- src/lib.rt:144:13
 mul-words : tie.Need-mul-words Inv-loop μ-loop
-mul-words c = ?
+mul-words c = omega (arith, fits c)
 
 -- src/lib.rt:144:13
 slice-write-words : tie.Need-slice-write-words Inv-loop μ-loop
-slice-write-words c = ?
+slice-write-words c = omega (arith, fits c)
 
 -- src/lib.rt:145:13
 add-n : tie.Need-add-n Inv-loop μ-loop
-add-n c = ?
+add-n c = omega arith
 
 -- src/lib.rt:147:9
 add-i : tie.Need-add-i Inv-loop μ-loop
-add-i c = ?
+add-i c = omega arith
 
 -- src/lib.rt:138:5
 loop-less : tie.Need-loop-less Inv-loop μ-loop
-loop-less c = ?
+loop-less c = omega arith
 
 -- src/lib.rt:138:5
 loop-again : tie.Need-loop-again Inv-loop μ-loop
-loop-again c = ?
+loop-again c =
+    let s = c .before .before .before .before .before .before .before .before .args in
+    let t = c .before .before .before .loop in
+    let e = c .before .before .before .before .cell-count .result in
+    let h : t .i < e = c .before .before .loop-test .taken in
+    ⊎-elim
+        (λ w. rw (w .3, w .4, w .2 .ensures) (
+          omega arith,
+          omega arith,
+          omega arith,
+          simp length-set (t .inv .3),
+          omega (arith, ap length (clears-one (s .l) (s .idents .now) (t .i) e h (w .0 .taken))),
+          sym (cleared-one (s .l) (s .idents .now) (t .i) e (s .allowance) (t .n) (t .words) h (omega arith) (w .0 .taken)) ∙ t .inv .5,
+        ))
+        (λ w. rw (w .1, w .2, ← clears-skip (s .l) (s .idents .now) (t .i) e h (w .0 .left))
+          (omega arith, omega arith, omega arith, t .inv .3, t .inv .4, t .inv .5))
+        (c .if1 .came)
 
 -- src/lib.rt:130:1
 same-length-2 : tie.Need-same-length-2 Inv-loop μ-loop
-same-length-2 c = ?
+same-length-2 c = c .before .loop .inv .3
 
 -- src/lib.rt:130:1
 returns-2 : tie.Need-returns-2 Inv-loop μ-loop
-returns-2 c = ?
+returns-2 c =
+    let s = c .before .before .before .before .before .before .args in
+    let t = c .before .loop in
+    let e = c .before .before .cell-count .result in
+    let all = length (clearsIn (s .l) (s .idents .now) (firstNode (s .l)) (s .l .nodes)) in
+    let d : t .n ≡ s .made + all = omega (arith, ap length (clears-none (s .l) (s .idents .now) (t .i) e (omega arith))) in (
+      ap A.Done d ∙ clear-done (s .made) all (s .allowance) (omega arith),
+      sym (cleared-none (s .l) (s .idents .now) (t .i) e (s .allowance) (t .n) (t .words) (omega arith)) ∙ t .inv .5,
+    )
 
 pub clear-spec : {M : Type 1} → statement M
 clear-spec =

@@ -1,8 +1,10 @@
 -- `mending::erase` meets its contract. The loop's invariant: what is still to be erased makes the column all that is asked.
-use Prim.Native.Nat.{_≤_}
+use Prim.Native.Nat.{_<_}
 use mathlib.Core.Path.{_≡_, refl, _∙_, sym}
 use native.Mathlib.Omega.{arith}
-use lib.ListN.{length, length-set, getD}
+use mathlib.Core.Bool.{true}
+use lib.ListN.{length, length-set}
+use Rattle.layout.specs.Words.{isNode, cellCount}
 use Rattle.layout.proofs.Laws.{is-node, answered-no, answered-yes}
 use Rattle.mending.proofs.Erasing.{erasedFromCell, erased-on, erased-out, erased-none}
 use Rattle.mending.proofs.erase.Statement.{statement}
@@ -36,35 +38,46 @@ is-node-requires c κs = omega arith
 
 -- src/lib.rt:120:13
 same-length : tie.Need-same-length Inv-loop μ-loop
-same-length c = ?
+same-length c = c .before .before .before .loop .inv .1
 
 -- src/lib.rt:120:13
 returns : tie.Need-returns Inv-loop μ-loop
-returns c = ?
+returns c =
+    let s = c .before .before .before .before .before .before .before .args in
+    let t = c .before .before .before .loop in
+    sym (erased-out (s .l) (s .links .now) (t .left) (t .y) (t .idents) (answered-no (c .before .is-node .ensures) (c .if1 .taken))) ∙ t .inv .0
+
+-- the cell is a node
+node : (c : tie.Else1 Inv-loop μ-loop) → isNode (c .before .before .before .before .before .before .before .args .l) (c .before .before .before .loop .y) ≡ true
+node c = answered-yes (c .before .is-node .ensures) (c .if1 .left)
+
+-- so it has an entry in both columns
+cell : (c : tie.Else1 Inv-loop μ-loop) → c .before .before .before .loop .y < cellCount (c .before .before .before .before .before .before .before .args .l)
+cell c = is-node (c .before .before .before .before .before .before .before .args .l) (c .before .before .before .loop .y) (node c) .high
 
 -- src/lib.rt:122:16
 cast-idents : tie.Need-cast-idents Inv-loop μ-loop
-cast-idents c = ?
+cast-idents c = omega (arith, cell c)
 
 -- src/lib.rt:122:9
 mul-idents : tie.Need-mul-idents Inv-loop μ-loop
-mul-idents c = ?
+mul-idents c = omega (arith, cell c)
 
 -- src/lib.rt:122:9
 slice-write-idents : tie.Need-slice-write-idents Inv-loop μ-loop
-slice-write-idents c = ?
+slice-write-idents c = omega (arith, cell c)
 
 -- src/lib.rt:123:19
 cast-y : tie.Need-cast-y Inv-loop μ-loop
-cast-y c = ?
+cast-y c = omega (arith, cell c)
 
 -- src/lib.rt:123:13
 mul-y-2 : tie.Need-mul-y-2 Inv-loop μ-loop
-mul-y-2 c = ?
+mul-y-2 c = omega (arith, cell c)
 
 -- src/lib.rt:123:13
 shared-slice-read-y-2 : tie.Need-shared-slice-read-y-2 Inv-loop μ-loop
-shared-slice-read-y-2 c = ?
+shared-slice-read-y-2 c = omega (arith, cell (c .before))
 
 -- src/lib.rt:124:9
 sub-left : tie.Need-sub-left Inv-loop μ-loop
@@ -76,15 +89,23 @@ loop-less c = omega arith
 
 -- src/lib.rt:118:5
 loop-again : tie.Need-loop-again Inv-loop μ-loop
-loop-again c = ?
+loop-again c =
+    let s = c .before .before .before .before .before .before .before .before .args in
+    let t = c .before .before .before .before .loop in (
+      sym (erased-on (s .l) (s .links .now) (t .left) (t .y) (t .idents) (omega arith) (node (c .before))) ∙ t .inv .0,
+      simp length-set (t .inv .1),
+    )
 
 -- src/lib.rt:112:1
 same-length-2 : tie.Need-same-length-2 Inv-loop μ-loop
-same-length-2 c = ?
+same-length-2 c = c .before .loop .inv .1
 
 -- src/lib.rt:112:1
 returns-2 : tie.Need-returns-2 Inv-loop μ-loop
-returns-2 c = ?
+returns-2 c =
+    let s = c .before .before .before .before .before .args in
+    let t = c .before .loop in
+    sym (erased-none (s .l) (s .links .now) (t .left) (t .y) (t .idents) (omega arith)) ∙ t .inv .0
 
 pub erase-spec : {M : Type 1} → statement M
 erase-spec =
