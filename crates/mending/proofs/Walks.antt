@@ -39,7 +39,7 @@ pub one-fault : (x c f v : ℕ) → (x ≡ v → ⊥) → fault x c f v ≡ F.On
 one-fault x c f v h = rw (ne-eqb _ _ h)
 
 -- the cells that a walk has yet to meet when it comes to y with `left` steps left
-abbrev rest : Layout → View → ℕ → ℕ → List ℕ
+abbrev pub rest : Layout → View → ℕ → ℕ → List ℕ
 rest l v left y = trail (v .forward) (isNode l) left y
 
 -- where a walk of list k stands: it has summed up f, x is the last cell that it met, and it comes to y
@@ -52,22 +52,23 @@ pub record Walking (l : Layout) (v : View) (a b k : ℕ) (f : Faults) (x y left 
   pub count : length (walked l v k) ≡ l .nodes - left + length (rest l v left y)
 
 -- at the header its identifier is compared
-pub walking-first : (l : Layout) (v : View) (a b k i : ℕ) (f : Faults) → i ≡ identOf k → f ≡ fault (v .ident k) k 0 i
-    → Walking l v a b k f k (v .forward k) (l .nodes)
-walking-first l v a b k i f q e = record { link = refl; few = omega arith; same = rw (e, q); count = omega arith }
+pub walking-first : (l : Layout) (v : View) (a b k : ℕ) {i : ℕ} {f : Faults} → i ≡ identOf k
+    → f ≡ fault (v .ident k) k 0 i → Walking l v a b k f k (v .forward k) (l .nodes)
+walking-first l v a b k q e = record { link = refl; few = omega arith; same = rw (e, q); count = omega arith }
 
 module _ {l : Layout} {v : View} {a b k : ℕ} {f : Faults} {x y left : ℕ} (w : Walking l v a b k f x y left) where
-  -- at a node it goes on
+  -- where a node follows and a step is left
   rest-on : isNode l y ≡ true → 0 < left → rest l v left y ≡ y ∷ rest l v (left - 1) (v .forward y)
   rest-on e h =
       let m : left ≡ suc (left - 1) = omega arith in
       ap (λ (n : ℕ). rest l v n y) m ∙ trail-on (v .forward) (isNode l) (left - 1) y e
 
-  pub walking-next : (i : ℕ) (g h : Faults) → isNode l y ≡ true → 0 < left → i ≡ identOf k
+  -- its identifier and its link back are compared
+  pub walking-next : {i : ℕ} {g h : Faults} → isNode l y ≡ true → 0 < left → i ≡ identOf k
       → g ≡ plus f (fault (v .ident y) y 0 i) → h ≡ plus g (fault (v .back y) y b x)
       → Walking l v a b k h y (v .forward y) (left - 1)
   unfolding turnFaults
-  walking-next i g h e p q r s =
+  walking-next e p q r s =
       record {
         link = refl;
         few = omega arith;
@@ -77,10 +78,17 @@ module _ {l : Layout} {v : View} {a b k : ℕ} {f : Faults} {x y left : ℕ} (w 
         count = w .count ∙ rw (rest-on e p) (omega arith);
       }
 
-  -- where no more cells are met it ends
-  pub walking-done : (n : ℕ) (g h : Faults) → rest l v left y ≡ [] → g ≡ plus f (fault y x a k)
-      → h ≡ plus g (fault (v .back k) k b x) → plus h (fault n k 3 (l .nodes - left)) ≡ walkFaults l v a b k n
+  -- where no node follows, or no step is left, nothing is left
+  pub rest-out : isNode l y ≡ false → rest l v left y ≡ []
+  rest-out e = trail-out (v .forward) (isNode l) left y e
+
+  pub rest-none : left ≤ 0 → rest l v left y ≡ []
+  rest-none h = let m : left ≡ 0 = omega arith in rw m (trail-none (v .forward) (isNode l) y)
+
+  -- the link onward, the header's link back and the count are compared
+  pub walking-done : (n : ℕ) {g h r : Faults} → rest l v left y ≡ [] → g ≡ plus f (fault y x a k)
+      → h ≡ plus g (fault (v .back k) k b x) → r ≡ plus h (fault n k 3 (l .nodes - left)) → r ≡ walkFaults l v a b k n
   unfolding turnFaults faultsOf walkFaults
-  walking-done n g h e r s =
+  walking-done n e p q s =
       let m : l .nodes - left ≡ length (walked l v k) = omega (arith, w .count, ap length e) in
-      rw (s, r, m, ← plus-assoc, ← w .same, e, w .link, plus-assoc f)
+      rw (s, q, p, m, ← plus-assoc, ← w .same, e, w .link, plus-assoc f)

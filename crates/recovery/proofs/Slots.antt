@@ -27,14 +27,14 @@ map-in f (x ∷ xs) (List·Memᴰ·head e) = (x, List·Memᴰ·head refl, e)
 map-in f (x ∷ xs) (List·Memᴰ·tail m) = let r = map-in f xs m in (r .0, List·Memᴰ·tail (r .1), r .2)
 
 -- where a step starts and ends
-step-source : (x : ℕ) (s : List ℕ) (z : ℕ) {t : Step} → List·Memᴰ t (steps x s z) → t .source ∈ (x ∷ s)
+pub step-source : (x : ℕ) (s : List ℕ) (z : ℕ) {t : Step} → List·Memᴰ t (steps x s z) → t .source ∈ (x ∷ s)
 unfolding steps
 step-source x [] z (List·Memᴰ·head e) = List·Memᴰ·head (ap (λ (t : Step). t .source) e)
 step-source x [] z (List·Memᴰ·tail m) = absurd (elim m [ ])
 step-source x (y ∷ s) z (List·Memᴰ·head e) = List·Memᴰ·head (ap (λ (t : Step). t .source) e)
 step-source x (y ∷ s) z (List·Memᴰ·tail m) = List·Memᴰ·tail (step-source y s z m)
 
-step-target : (x : ℕ) (s : List ℕ) (z : ℕ) {t : Step} → List·Memᴰ t (steps x s z) → t .target ∈ (s ++ z ∷ [])
+pub step-target : (x : ℕ) (s : List ℕ) (z : ℕ) {t : Step} → List·Memᴰ t (steps x s z) → t .target ∈ (s ++ z ∷ [])
 unfolding steps
 step-target x [] z (List·Memᴰ·head e) = List·Memᴰ·head (ap (λ (t : Step). t .target) e)
 step-target x [] z (List·Memᴰ·tail m) = absurd (elim m [ ])
@@ -42,7 +42,7 @@ step-target x (y ∷ s) z (List·Memᴰ·head e) = List·Memᴰ·head (ap (λ (t
 step-target x (y ∷ s) z (List·Memᴰ·tail m) = List·Memᴰ·tail (step-target y s z m)
 
 -- a cell is the source of one step, and the target of one
-one-target : (x : ℕ) (s : List ℕ) (z : ℕ) → Different (x ∷ s) → {t u : Step} → List·Memᴰ t (steps x s z) → List·Memᴰ u (steps x s z)
+pub one-target : (x : ℕ) (s : List ℕ) (z : ℕ) → Different (x ∷ s) → {t u : Step} → List·Memᴰ t (steps x s z) → List·Memᴰ u (steps x s z)
     → t .source ≡ u .source → t .target ≡ u .target
 unfolding steps
 one-target x [] z d (List·Memᴰ·head e) (List·Memᴰ·head e′) q = ap (λ (t : Step). t .target) (e ∙ sym e′)
@@ -55,7 +55,7 @@ one-target x (y ∷ s) z d (List·Memᴰ·tail m) (List·Memᴰ·head e) q =
     absurd (d .0 (subst (λ (c : ℕ). c ∈ (y ∷ s)) (q ∙ ap (λ (t : Step). t .source) e) (step-source y s z m)))
 one-target x (y ∷ s) z d (List·Memᴰ·tail m) (List·Memᴰ·tail m′) q = one-target y s z (d .1) m m′ q
 
-one-source : (x : ℕ) (s : List ℕ) (z : ℕ) → Different (s ++ z ∷ []) → {t u : Step} → List·Memᴰ t (steps x s z) → List·Memᴰ u (steps x s z)
+pub one-source : (x : ℕ) (s : List ℕ) (z : ℕ) → Different (s ++ z ∷ []) → {t u : Step} → List·Memᴰ t (steps x s z) → List·Memᴰ u (steps x s z)
     → t .target ≡ u .target → t .source ≡ u .source
 unfolding steps
 one-source x [] z d (List·Memᴰ·head e) (List·Memᴰ·head e′) q = ap (λ (t : Step). t .source) (e ∙ sym e′)

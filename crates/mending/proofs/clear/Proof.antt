@@ -6,17 +6,12 @@ use native.Mathlib.Omega.{arith}
 use lib.ListN.{length, length-set}
 use Rattle.stores.specs.declared.Answer.the-variants as A
 use Rattle.stores.specs.Stores.{applied}
-use Rattle.layout.specs.Words.{firstNode}
+use Rattle.layout.specs.Words.{firstNode, identAt}
 use Rattle.layout.proofs.Laws.{cell-fits}
 use Rattle.mending.specs.Mending.{clearsIn}
 use Rattle.mending.proofs.Erasing.{clears-one, clears-skip, clears-none, cleared-one, cleared-spent, cleared-none, clear-stopped, clear-done}
 use Rattle.mending.proofs.clear.Statement.{statement}
 use Rattle.mending.proofs.clear.Tie as tie
-use Rattle.mending.proofs.clear.Reads as reads
-use Rattle.mending.proofs.clear.Lts as lts
-use Rattle.layout.proofs.Layout.cell.Reads as cell-reads
-use Rattle.layout.proofs.Layout.cell_count.Reads as cell-count-reads
-use Rattle.layout.proofs.Layout.first_node.Reads as first-node-reads
 
 abbrev Inv-loop : tie.InvT-loop
 Inv-loop words₀ l idents made allowance n₀ i₀ end words n i =
@@ -28,15 +23,12 @@ Inv-loop words₀ l idents made allowance n₀ i₀ end words n i =
 abbrev μ-loop : tie.MeasureT-loop
 μ-loop words₀ l idents made allowance n₀ i₀ end words n i = end - i
 
--- src/lib.rt:136:9
 first-node-requires : tie.Need-first-node-requires Inv-loop μ-loop
 first-node-requires c κs = omega arith
 
--- src/lib.rt:137:9
 cell-count-requires : tie.Need-cell-count-requires Inv-loop μ-loop
 cell-count-requires c κs = omega arith
 
--- src/lib.rt:138:5
 loop-holds : tie.Need-loop-holds Inv-loop μ-loop
 loop-holds c =
     let s = c .before .before .before .before .args in
@@ -53,23 +45,18 @@ loop-holds c =
       rw all,
     )
 
--- src/lib.rt:139:19
 cast-if1 : tie.Need-cast-if1 Inv-loop μ-loop
 cast-if1 c = omega arith
 
--- src/lib.rt:139:12
 mul-if1 : tie.Need-mul-if1 Inv-loop μ-loop
 mul-if1 c = omega arith
 
--- src/lib.rt:139:12
 shared-slice-read-if1 : tie.Need-shared-slice-read-if1 Inv-loop μ-loop
 shared-slice-read-if1 c = omega arith
 
--- src/lib.rt:141:17
 same-length : tie.Need-same-length Inv-loop μ-loop
 same-length c = c .before .before .before .before .loop .inv .3
 
--- src/lib.rt:141:17
 returns : tie.Need-returns Inv-loop μ-loop
 returns c =
     let s = c .before .before .before .before .before .before .before .before .before .args in
@@ -81,7 +68,6 @@ returns c =
       sym (cleared-spent (s .l) (s .idents .now) (t .i) e (s .allowance) (t .n) (t .words) (c .if2 .taken)) ∙ t .inv .5,
     )
 
--- src/lib.rt:143:17
 cell-requires : tie.Need-cell-requires Inv-loop μ-loop
 cell-requires c κs = omega arith
 
@@ -92,27 +78,21 @@ fits c =
     let t = c .before .before .before .before .before .loop in
     omega (arith, cell-fits (s .args .l) (t .i) (s .pre .0) (omega arith))
 
--- src/lib.rt:144:13
 mul-words : tie.Need-mul-words Inv-loop μ-loop
 mul-words c = omega (arith, fits c)
 
--- src/lib.rt:144:13
 slice-write-words : tie.Need-slice-write-words Inv-loop μ-loop
 slice-write-words c = omega (arith, fits c)
 
--- src/lib.rt:145:13
 add-n : tie.Need-add-n Inv-loop μ-loop
 add-n c = omega arith
 
--- src/lib.rt:147:9
 add-i : tie.Need-add-i Inv-loop μ-loop
 add-i c = omega arith
 
--- src/lib.rt:138:5
 loop-less : tie.Need-loop-less Inv-loop μ-loop
 loop-less c = omega arith
 
--- src/lib.rt:138:5
 loop-again : tie.Need-loop-again Inv-loop μ-loop
 loop-again c =
     let s = c .before .before .before .before .before .before .before .before .args in
@@ -124,7 +104,7 @@ loop-again c =
           omega arith,
           omega arith,
           omega arith,
-          simp length-set (t .inv .3),
+          length-set (t .words) (identAt (s .l) (t .i)) 0 ∙ t .inv .3,
           omega (arith, ap length (clears-one (s .l) (s .idents .now) (t .i) e h (w .0 .taken))),
           sym (cleared-one (s .l) (s .idents .now) (t .i) e (s .allowance) (t .n) (t .words) h (omega arith) (w .0 .taken)) ∙ t .inv .5,
         ))
@@ -132,11 +112,9 @@ loop-again c =
           (omega arith, omega arith, omega arith, t .inv .3, t .inv .4, t .inv .5))
         (c .if1 .came)
 
--- src/lib.rt:130:1
 same-length-2 : tie.Need-same-length-2 Inv-loop μ-loop
 same-length-2 c = c .before .loop .inv .3
 
--- src/lib.rt:130:1
 returns-2 : tie.Need-returns-2 Inv-loop μ-loop
 returns-2 c =
     let s = c .before .before .before .before .before .before .args in

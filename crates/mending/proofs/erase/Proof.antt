@@ -1,93 +1,78 @@
 -- `mending::erase` meets its contract. The loop's invariant: what is still to be erased makes the column all that is asked.
 use Prim.Native.Nat.{_<_}
 use mathlib.Core.Path.{_≡_, refl, _∙_, sym}
-use native.Mathlib.Omega.{arith}
 use mathlib.Core.Bool.{true}
+use native.Mathlib.Omega.{arith}
 use lib.ListN.{length, length-set}
 use Rattle.layout.specs.Words.{isNode, cellCount}
 use Rattle.layout.proofs.Laws.{is-node, answered-no, answered-yes}
-use Rattle.mending.proofs.Erasing.{erasedFromCell, erased-on, erased-out, erased-none}
+use Rattle.mending.proofs.Erasing.{erasedAlong, erased-on, erased-out, erased-none}
 use Rattle.mending.proofs.erase.Statement.{statement}
 use Rattle.mending.proofs.erase.Tie as tie
-use Rattle.mending.proofs.erase.Reads as reads
-use Rattle.mending.proofs.erase.Lts as lts
-use Rattle.layout.proofs.Layout.is_node.Reads as is-node-reads
 
 abbrev Inv-loop : tie.InvT-loop
 Inv-loop idents₀ links l k y₀ left₀ idents y left =
-    (erasedFromCell l links left y idents ≡ erasedFromCell l links left₀ y₀ idents₀) × (length idents ≡ length idents₀)
+    (erasedAlong l links left y idents ≡ erasedAlong l links left₀ y₀ idents₀) × (length idents ≡ length idents₀)
 
 abbrev μ-loop : tie.MeasureT-loop
 μ-loop idents₀ links l k y₀ left₀ idents y left = left
 
--- src/lib.rt:116:17
 mul-y : tie.Need-mul-y Inv-loop μ-loop
 mul-y c = omega arith
 
--- src/lib.rt:116:17
 shared-slice-read-y : tie.Need-shared-slice-read-y Inv-loop μ-loop
 shared-slice-read-y c = omega arith
 
--- src/lib.rt:118:5
 loop-holds : tie.Need-loop-holds Inv-loop μ-loop
 loop-holds c = (refl, refl)
 
--- src/lib.rt:119:13
 is-node-requires : tie.Need-is-node-requires Inv-loop μ-loop
 is-node-requires c κs = omega arith
 
--- src/lib.rt:120:13
 same-length : tie.Need-same-length Inv-loop μ-loop
 same-length c = c .before .before .before .loop .inv .1
 
--- src/lib.rt:120:13
 returns : tie.Need-returns Inv-loop μ-loop
 returns c =
     let s = c .before .before .before .before .before .before .before .args in
     let t = c .before .before .before .loop in
-    sym (erased-out (s .l) (s .links .now) (t .left) (t .y) (t .idents) (answered-no (c .before .is-node .ensures) (c .if1 .taken))) ∙ t .inv .0
+    let o = answered-no (c .before .is-node .ensures) (c .if1 .taken) in
+    sym (erased-out (s .l) (s .links .now) (t .left) (t .y) (t .idents) o) ∙ t .inv .0
 
 -- the cell is a node
-node : (c : tie.Else1 Inv-loop μ-loop) → isNode (c .before .before .before .before .before .before .before .args .l) (c .before .before .before .loop .y) ≡ true
+node : (c : tie.Else1 Inv-loop μ-loop) → let s = c .before .before .before .before .before .before .before .args in
+    isNode (s .l) (c .before .before .before .loop .y) ≡ true
 node c = answered-yes (c .before .is-node .ensures) (c .if1 .left)
 
 -- so it has an entry in both columns
-cell : (c : tie.Else1 Inv-loop μ-loop) → c .before .before .before .loop .y < cellCount (c .before .before .before .before .before .before .before .args .l)
-cell c = is-node (c .before .before .before .before .before .before .before .args .l) (c .before .before .before .loop .y) (node c) .high
+cell : (c : tie.Else1 Inv-loop μ-loop) → let s = c .before .before .before .before .before .before .before .args in
+    c .before .before .before .loop .y < cellCount (s .l)
+cell c = is-node _ _ (node c) .high
 
--- src/lib.rt:122:16
 cast-idents : tie.Need-cast-idents Inv-loop μ-loop
 cast-idents c = omega (arith, cell c)
 
--- src/lib.rt:122:9
 mul-idents : tie.Need-mul-idents Inv-loop μ-loop
 mul-idents c = omega (arith, cell c)
 
--- src/lib.rt:122:9
 slice-write-idents : tie.Need-slice-write-idents Inv-loop μ-loop
 slice-write-idents c = omega (arith, cell c)
 
--- src/lib.rt:123:19
 cast-y : tie.Need-cast-y Inv-loop μ-loop
 cast-y c = omega (arith, cell c)
 
--- src/lib.rt:123:13
 mul-y-2 : tie.Need-mul-y-2 Inv-loop μ-loop
 mul-y-2 c = omega (arith, cell c)
 
--- src/lib.rt:123:13
 shared-slice-read-y-2 : tie.Need-shared-slice-read-y-2 Inv-loop μ-loop
 shared-slice-read-y-2 c = omega (arith, cell (c .before))
 
--- src/lib.rt:124:9
 sub-left : tie.Need-sub-left Inv-loop μ-loop
 sub-left c = omega arith
 
--- src/lib.rt:118:5
 loop-less : tie.Need-loop-less Inv-loop μ-loop
 loop-less c = omega arith
 
--- src/lib.rt:118:5
 loop-again : tie.Need-loop-again Inv-loop μ-loop
 loop-again c =
     let s = c .before .before .before .before .before .before .before .before .args in
@@ -96,11 +81,9 @@ loop-again c =
       simp length-set (t .inv .1),
     )
 
--- src/lib.rt:112:1
 same-length-2 : tie.Need-same-length-2 Inv-loop μ-loop
 same-length-2 c = c .before .loop .inv .1
 
--- src/lib.rt:112:1
 returns-2 : tie.Need-returns-2 Inv-loop μ-loop
 returns-2 c =
     let s = c .before .before .before .before .before .args in

@@ -1,141 +1,137 @@
 -- `mending::walk` meets its contract. The loop's invariant: the walk has summed up the faults up to x, and comes to y.
 use Prim.Native.Nat.{_<_}
-use mathlib.Core.Path.{_≡_, refl, _∙_, sym}
+use mathlib.Core.Bool.{true}
+use mathlib.Core.Logic.{⊎-elim}
+use mathlib.Core.Path.{_≡_}
 use native.Mathlib.Omega.{arith}
 use borrow.Author.Needs.{needs}
+use Rattle.layout.specs.Words.{isNode, cellCount}
 use Rattle.layout.proofs.Laws.{is-node, answered-no, answered-yes}
-use Rattle.survey.specs.Survey.{columns, Columns}
-use Rattle.mending.proofs.Walks.{Walking, walking-first, walking-next, walking-done}
+use Rattle.survey.specs.Survey.{columns}
+use Rattle.mending.proofs.Walks.{Walking, walking-first, walking-next, rest-out, rest-none, walking-done}
 use Rattle.mending.proofs.walk.Statement.{statement}
 use Rattle.mending.proofs.walk.Tie as tie
-use Rattle.mending.proofs.walk.Reads as reads
-use Rattle.mending.proofs.walk.Lts as lts
-use Rattle.layout.proofs.Layout.ident.Reads as ident-reads
-use Rattle.layout.proofs.Layout.is_node.Reads as is-node-reads
-use Rattle.mending.proofs.Faults.and.Reads as and-reads
 
 abbrev Inv-loop : tie.InvT-loop
 Inv-loop idents onward back n l k a b id faults₀ x₀ y₀ left₀ faults x y left =
-    Columns l idents onward back × (k < l .lists) × Walking l (columns idents onward back) a b k faults x y left
+    Walking l (columns idents onward back) a b k faults x y left
 
 abbrev μ-loop : tie.MeasureT-loop
 μ-loop idents onward back n l k a b id faults₀ x₀ y₀ left₀ faults x y left = left
 
--- src/lib.rt:50:9
 ident-requires : tie.Need-ident-requires Inv-loop μ-loop
 ident-requires c κs = omega arith
 
--- src/lib.rt:51:39
 mul-and : tie.Need-mul-and Inv-loop μ-loop
 mul-and c = omega arith
 
--- src/lib.rt:51:39
 shared-slice-read-and : tie.Need-shared-slice-read-and Inv-loop μ-loop
 shared-slice-read-and c = omega arith
 
--- src/lib.rt:51:9
 and-requires : tie.Need-and-requires Inv-loop μ-loop
 and-requires c κs = search needs
 
--- src/lib.rt:53:17
 mul-y : tie.Need-mul-y Inv-loop μ-loop
 mul-y c = omega arith
 
--- src/lib.rt:53:17
 shared-slice-read-y : tie.Need-shared-slice-read-y Inv-loop μ-loop
 shared-slice-read-y c = omega arith
 
--- src/lib.rt:55:5
 loop-holds : tie.Need-loop-holds Inv-loop μ-loop
-loop-holds c = ?
+loop-holds c =
+    let i = c .before .before .before in
+    let s = i .before .before .before .before .args in
+    walking-first (s .l) (columns (s .idents .now) (s .onward .now) (s .back .now)) (s .a) (s .b) (s .k)
+    (i .ident .ensures) (c .before .and .ensures)
 
--- src/lib.rt:56:13
+-- the cell that the walk comes to in a turn is a node
+abbrev start : tie.At-loop Inv-loop μ-loop → tie.Start Inv-loop μ-loop
+start c = c .before .before .before .before .before .before .before .before
+
+node : (c : tie.Else1 Inv-loop μ-loop)
+    → let t = c .before .before .before in isNode (start t .args .l) (t .loop .y) ≡ true
+node c = answered-yes (c .before .is-node .ensures) (c .if1 .left)
+
+inside : (c : tie.Else1 Inv-loop μ-loop) → let t = c .before .before .before in t .loop .y < cellCount (start t .args .l)
+inside c = let t = c .before .before .before in is-node (start t .args .l) (t .loop .y) (node c) .high
+
 is-node-requires : tie.Need-is-node-requires Inv-loop μ-loop
 is-node-requires c κs = omega arith
 
--- src/lib.rt:59:36
 cast-and : tie.Need-cast-and Inv-loop μ-loop
-cast-and c = ?
+cast-and c = omega (arith, inside c)
 
--- src/lib.rt:59:29
 mul-and-2 : tie.Need-mul-and-2 Inv-loop μ-loop
-mul-and-2 c = ?
+mul-and-2 c = omega (arith, inside c)
 
--- src/lib.rt:59:29
 shared-slice-read-and-2 : tie.Need-shared-slice-read-and-2 Inv-loop μ-loop
-shared-slice-read-and-2 c = ?
+shared-slice-read-and-2 c = omega (arith, inside (c .before))
 
--- src/lib.rt:59:9
 and-requires-2 : tie.Need-and-requires-2 Inv-loop μ-loop
 and-requires-2 c κs = search needs
 
--- src/lib.rt:60:34
 cast-and-2 : tie.Need-cast-and-2 Inv-loop μ-loop
-cast-and-2 c = ?
+cast-and-2 c = omega (arith, inside (c .before .before))
 
--- src/lib.rt:60:29
 mul-and-3 : tie.Need-mul-and-3 Inv-loop μ-loop
-mul-and-3 c = ?
+mul-and-3 c = omega (arith, inside (c .before .before))
 
--- src/lib.rt:60:29
 shared-slice-read-and-3 : tie.Need-shared-slice-read-and-3 Inv-loop μ-loop
-shared-slice-read-and-3 c = ?
+shared-slice-read-and-3 c = omega (arith, inside (c .before .before .before))
 
--- src/lib.rt:60:9
 and-requires-3 : tie.Need-and-requires-3 Inv-loop μ-loop
 and-requires-3 c κs = search needs
 
--- src/lib.rt:62:20
 cast-y : tie.Need-cast-y Inv-loop μ-loop
-cast-y c = ?
+cast-y c = omega (arith, inside (c .before .before .before .before))
 
--- src/lib.rt:62:13
 mul-y-2 : tie.Need-mul-y-2 Inv-loop μ-loop
-mul-y-2 c = ?
+mul-y-2 c = omega (arith, inside (c .before .before .before .before))
 
--- src/lib.rt:62:13
 shared-slice-read-y-2 : tie.Need-shared-slice-read-y-2 Inv-loop μ-loop
-shared-slice-read-y-2 c = ?
+shared-slice-read-y-2 c = omega (arith, inside (c .before .before .before .before .before))
 
--- src/lib.rt:63:9
 sub-left : tie.Need-sub-left Inv-loop μ-loop
 sub-left c = omega arith
 
--- src/lib.rt:55:5
 loop-less : tie.Need-loop-less Inv-loop μ-loop
 loop-less c = omega arith
 
--- src/lib.rt:55:5
 loop-again : tie.Need-loop-again Inv-loop μ-loop
-loop-again c = ?
+loop-again c =
+    let e = c .before .before .before .before .before in
+    let t = e .before .before .before in
+    walking-next (t .loop .inv) (node e) (omega arith) (t .before .before .before .before .ident .ensures)
+    (c .before .before .before .and2 .ensures) (c .before .and3 .ensures)
 
--- src/lib.rt:65:5
 and-requires-4 : tie.Need-and-requires-4 Inv-loop μ-loop
 and-requires-4 c κs = search needs
 
--- src/lib.rt:66:25
 mul-and-4 : tie.Need-mul-and-4 Inv-loop μ-loop
-mul-and-4 c = ?
+mul-and-4 c = omega arith
 
--- src/lib.rt:66:25
 shared-slice-read-and-4 : tie.Need-shared-slice-read-and-4 Inv-loop μ-loop
-shared-slice-read-and-4 c = ?
+shared-slice-read-and-4 c = omega arith
 
--- src/lib.rt:66:5
 and-requires-5 : tie.Need-and-requires-5 Inv-loop μ-loop
 and-requires-5 c κs = search needs
 
--- src/lib.rt:67:25
 sub-and : tie.Need-sub-and Inv-loop μ-loop
 sub-and c = omega arith
 
--- src/lib.rt:67:5
 and-requires-6 : tie.Need-and-requires-6 Inv-loop μ-loop
 and-requires-6 c κs = search needs
 
--- src/lib.rt:46:1
 returns : tie.Need-returns Inv-loop μ-loop
-returns c = ?
+returns c =
+    let e = c .before .before in
+    let d = e .before .before in
+    let t = d .before .before in
+    let out =
+          ⊎-elim (λ q. rest-none (t .loop .inv) (q .left))
+          (λ q. rest-out (t .loop .inv) (answered-no (q .1 .ensures) (q .2 .taken)))
+          (d .before .loop-test .came) in
+    walking-done (t .loop .inv) (start t .args .n) out (d .and4 .ensures) (e .and5 .ensures) (c .and6 .ensures)
 
 pub walk-spec : {M : Type 1} → statement M
 walk-spec =

@@ -1,0 +1,1 @@
+// No function yet: a sound store, one cut call, alterations, and recoveries.
