@@ -1,6 +1,6 @@
 -- Laws of the faults of a walk.
 use Prim.Native.Nat.{ℕ, suc, _+_, _-_, _≤_, _<_}
-use mathlib.Core.Path.{_≡_, refl, sym, ap, _∙_}
+use mathlib.Core.Path.{_≡_, refl, ap, _∙_}
 use mathlib.Core.List.{List, [], _∷_}
 use mathlib.Core.Bool.{true, false}
 use native.Mathlib.Omega.{arith}
@@ -72,9 +72,7 @@ module _ {l : Layout} {v : View} {a b k : ℕ} {f : Faults} {x y left : ℕ} (w 
       record {
         link = refl;
         few = omega arith;
-        same =
-            rw (s, r, q, plus-assoc, plus-assoc)
-            (ap (λ (t : Faults). plus f t) (sym (rw (rest-on e p, no-fault _ _ _ _ (w .link)))) ∙ w .same);
+        same = rw (s, r, q, plus-assoc, plus-assoc) (rw (rest-on e p, no-fault _ _ _ _ (w .link)) at (w .same));
         count = w .count ∙ rw (rest-on e p) (omega arith);
       }
 

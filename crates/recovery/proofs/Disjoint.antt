@@ -28,7 +28,7 @@ some (suc a) b h = omega arith
 
 module _ (l : Layout) (w : List ℕ) (i j : ℕ) (hi : i < l .lists) (hj : j < l .lists) (n : i ≡ j → ⊥) where
   -- two paths by one link, from a shared cell to two headers
-  no-paths
+  pub no-paths
       : (link : ℕ → ℕ) (s t : List ℕ) (x : ℕ) → All (Node l) s → All (Node l) t → x ∈ s → x ∈ t
       → Forward link i s i → Forward link j t j → ⊥
   no-paths link s t x ns nt ms mt p q =

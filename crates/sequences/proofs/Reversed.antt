@@ -35,7 +35,7 @@ reverse-in s {x} m = in-reverse (reverse s) (subst (λ (t : List ℕ). x ∈ t) 
 pub all-reverse : (P : ℕ → Type 0) (s : List ℕ) → All P s → All P (reverse s)
 all-reverse P s h = in-all P (reverse s) (λ x m. all-in P s h (in-reverse s m))
 
-different-reverse : (s : List ℕ) → Different s → Different (reverse s)
+pub different-reverse : (s : List ℕ) → Different s → Different (reverse s)
 different-reverse [] d = tt
 different-reverse (y ∷ s) d =
     subst Different (sym (reverse-cons y s))

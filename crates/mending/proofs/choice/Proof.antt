@@ -1,4 +1,4 @@
--- `mending::choice` meets its contract.
+-- `mending::choice` meets its contract. Each return is one case of `choose`.
 use borrow.Author.Needs.{needs}
 use borrow.Author.Tests.{eq-eqb, ne-eqb}
 use Rattle.mending.proofs.choice.Statement.{statement}

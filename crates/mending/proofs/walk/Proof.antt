@@ -127,11 +127,11 @@ returns c =
     let e = c .before .before in
     let d = e .before .before in
     let t = d .before .before in
-    let out =
-          ⊎-elim (λ q. rest-none (t .loop .inv) (q .left))
-          (λ q. rest-out (t .loop .inv) (answered-no (q .1 .ensures) (q .2 .taken)))
-          (d .before .loop-test .came) in
-    walking-done (t .loop .inv) (start t .args .n) out (d .and4 .ensures) (e .and5 .ensures) (c .and6 .ensures)
+    let i = t .loop .inv in
+    let ways = d .before .loop-test .came in
+    walking-done i (start t .args .n)
+    (⊎-elim (λ q. rest-none i (q .left)) (λ q. rest-out i (answered-no (q .1 .ensures) (q .2 .taken))) ways)
+    (d .and4 .ensures) (e .and5 .ensures) (c .and6 .ensures)
 
 pub walk-spec : {M : Type 1} → statement M
 walk-spec =

@@ -1,5 +1,4 @@
 -- `mending::Faults::and` meets its contract. The word is no fault, or one more than those summed up.
-use mathlib.Core.Path.{refl}
 use borrow.Author.Needs.{needs}
 use Rattle.mending.proofs.Walks.{plus-none, no-fault, one-fault}
 use Rattle.mending.proofs.Faults.and.Statement.{statement}
