@@ -121,15 +121,13 @@ module _ (l : Layout) (w y : List ℕ) (j : ℕ) (h : j < l .lists) (s : List �
         ∙ step-at (λ (u : Step). viewOf l w .back (u .target) ≡ u .source) (steps j s j) (right .turn .backs) m)
 
   -- an alteration of another word leaves a kind right
-  Spared : ℕ → Type 0
+  abbrev pub Spared : ℕ → Type 0
   Spared f = (c : ℕ) → Touches alt c f → ⊥
 
   idents-right : Spared 0 → length (wrong y (identsAsked l j s)) ≡ 0
-  unfolding Spared
   idents-right n = ap length (map-all-right y (λ c. write (identAt l c) (identOf j)) (j ∷ s) (λ c m. kept-ident c m (n c) ∙ was-ident c m))
 
   pub forwards-right : Spared 1 → length (wrong y (forwardsAsked l j s)) ≡ 0
-  unfolding Spared
   forwards-right n =
       ap length (map-all-right y (λ (t : Step). write (forwardAt l (t .source)) (t .target)) (steps j s j)
         (λ t m.
@@ -137,7 +135,6 @@ module _ (l : Layout) (w y : List ℕ) (j : ℕ) (h : j < l .lists) (s : List �
           ∙ step-at (λ (u : Step). viewOf l w .forward (u .source) ≡ u .target) (steps j s j) (right .turn .forwards) m))
 
   pub backs-right : Spared 2 → length (wrong y (backsAsked l j s)) ≡ 0
-  unfolding Spared
   backs-right n =
       ap length (map-all-right y (λ (t : Step). write (backAt l (t .target)) (t .source)) (steps j s j)
         (λ t m.
@@ -153,7 +150,7 @@ module _ (l : Layout) (w y : List ℕ) (j : ℕ) (h : j < l .lists) (s : List �
       by false e = omega (arith, ap length (wrong-wrong y (write (countAt j) (length s)) [] (eqb-false _ _ e)))
 
   count-right : Spared 3 → length (wrong y (countAsked j s)) ≡ 0
-  unfolding Spared wrong
+  unfolding wrong
   count-right n =
       ap length (wrong-right y (write (countAt j) (length s)) []
         (ap (λ (b : ℕ). getD y b 0) (count-word l j h)
@@ -161,11 +158,9 @@ module _ (l : Layout) (w y : List ℕ) (j : ℕ) (h : j < l .lists) (s : List �
         ∙ ap (λ (b : ℕ). getD w b 0) (sym (count-word l j h)) ∙ right .count))
 
   spared : (c f v g : ℕ) → alt ≡ altered c f v → (g ≡ f → ⊥) → Spared g
-  unfolding Spared
   spared c f v g e n d t = n (subst (λ (a : Alteration). Touches a d g) e t .1)
 
   pub altered-fits : Fits l y j s
-  unfolding Spared
   altered-fits = record { nodes = i .nodes; different = i .different; few = by alt refl }
     where
       by : (a : Alteration) → alt ≡ a → length (wrong y (asked l j s)) ≤ 1
@@ -199,8 +194,8 @@ module _ (l : Layout) (w y : List ℕ) (j : ℕ) (h : j < l .lists) (s : List �
         → ((m : ℕ) (t : List ℕ) → (m < l .lists) → (m ≡ j → ⊥) → All (Node l) t → (c : ℕ) → c ∈ t → c ∈ r
           → Forward (viewOf l y .forward) m t m → Backward (viewOf l y .back) m t m → ⊥)
         → (c : ℕ) → c ∈ (j ∷ s) → link c ∈ r → link c ∈ s
-    stay-by link r n ids no c m q =
-        ⊎-elim (λ z. z) (λ z. absurd (no (z .0) (z .1) (z .2) (z .3) (z .4) (link c) (z .5) q (z .6) (z .7)))
+    stay-by link r n ids never c m q =
+        ⊎-elim (λ z. z) (λ z. absurd (never (z .0) (z .1) (z .2) (z .3) (z .4) (link c) (z .5) q (z .6) (z .7)))
         (source (link c) (all-in (Node l) r n q) (all-in (λ d. getD y (identAt l d) 0 ≡ identOf j) r ids q))
 
     agree-forward : (c : ℕ) → c ∈ (j ∷ s) → (c ≡ at → ⊥) → viewOf l y .forward c ≡ viewOf l w .forward c

@@ -8,12 +8,13 @@ use lib.ListN.{length, getD, set}
 use Rattle.sequences.specs.Sequence.{trail}
 use Rattle.stores.specs.declared.Answer.{Answer}
 use Rattle.stores.specs.declared.Answer.the-variants as A
-use Rattle.stores.specs.Stores.{Write, write}
+use Rattle.stores.specs.Stores.{Write, write, Held}
 use Rattle.layout.specs.declared.Layout.{Layout}
-use Rattle.layout.specs.Words.{isNode, identAt, cellAt, identOf}
+use Rattle.layout.specs.Words.{isNode, identAt, cellAt, identOf, sizeOf}
 use Rattle.lists.specs.Decide.{View}
 use Rattle.mending.specs.declared.Faults.{Faults}
 use Rattle.mending.specs.declared.Faults.the-variants as F
+use Rattle.mending.specs.declared.Mends.{Mends}
 use Rattle.mending.specs.declared.Fitted.{Fitted}
 use Rattle.mending.specs.declared.Fitted.the-variants as G
 
@@ -131,3 +132,16 @@ clearsIn l idents a (suc n) =
 -- the answer of clears behind m stores that were made: stopped if they do not all fit into the allowance
 abbrev pub clearAnswer : ℕ → ℕ → ℕ → Answer
 clearAnswer m n allowance = cond (ltb allowance (m + n)) (A.Stopped allowance) (A.Done (m + n))
+
+-- a fault of a cell of the store
+abbrev pub FaultFits : Layout → Faults → Type 0
+FaultFits l F.None = Unit {0}
+FaultFits l (F.One c f v) = cellAt l c + f < sizeOf l
+FaultFits l F.Many = Unit {0}
+
+-- what is found of all lists; the mends and the directions count only where no list is refused
+pub record MendsOf (l : Layout) (v : View) (count : ℕ → ℕ) (m : Mends) : Type 0 where
+  pub refusal : m .refusal ≡ refusalIn l v count 0 (l .lists)
+  pub rows : m .refusal ≡ 0 → Held (sizeOf l) (m .rows) (mendsIn l v count 0 (l .lists))
+  pub few : m .refusal ≡ 0 → m .rows .len ≤ 8
+  pub back : m .refusal ≡ 0 → (k : ℕ) → k < l .lists → getD (m .back) k false ≡ isBackward (fitIn l v k (count k))

@@ -3,13 +3,16 @@
 // wrong word is stored, list 0 first, and then 0 to each identifier of a node in no list.
 use layout::Layout;
 use stores::Answer;
+use stores::Rows;
 ghost use mathlib.Core.Path.{_≡_};
 ghost use Prim.Native.Nat.{ℕ, _+_, _-_, _<_, _≤_};
+ghost use mathlib.Core.List.{_++_};
+ghost use mathlib.Core.Bool.{false};
 ghost use lib.ListN.{length, getD};
-ghost use Rattle.stores.specs.Stores.{applied};
+ghost use Rattle.stores.specs.Stores.{applied, writesIn, Held};
 ghost use Rattle.layout.specs.Words.{InRange, cellCount, firstNode, sizeOf};
 ghost use Rattle.survey.specs.Survey.{columns, Columns};
-ghost use Rattle.mending.specs.Mending.{plus, fault, walkFaults, choose, fitIn, walked, erased, clearsIn, clearAnswer};
+ghost use Rattle.mending.specs.Mending.{plus, fault, walkFaults, choose, fitIn, mendOf, numberOf, faultIn, isBackward, FaultFits, MendsOf, walked, erased, erasedFrom, clearsIn, clearAnswer};
 
 // The wrong words of a sequence: word f of cell c is to hold v.
 pub enum Faults {
@@ -26,6 +29,14 @@ pub enum Fitted {
     Backward(Faults),
 }
 
+// What is found of all lists: the number of the first that is refused, 0 for none; the mends, list 0 first; and which lists go by
+// their back links.
+pub struct Mends {
+    pub refusal: u16,
+    pub back: [bool; 8],
+    pub rows: Rows,
+}
+
 impl Faults {
     // One word more is compared: it holds found and is to hold v.
     fn and(self, found: u16, c: u16, f: u16, v: u16) -> Faults
@@ -38,6 +49,44 @@ impl Faults {
             Faults::None => Faults::One(c, f, v),
             Faults::One(_, _, _) => Faults::Many,
             Faults::Many => Faults::Many,
+        }
+    }
+}
+
+impl Fitted {
+    // The number of the refusal, 0 for none.
+    fn number(self) -> u16
+        ensures { λ r. ⌜ r ≡ numberOf self ⌝ }
+    {
+        match self {
+            Fitted::Nothing => 11,
+            Fitted::Several => 12,
+            Fitted::Forward(_) => 0,
+            Fitted::Backward(_) => 0,
+        }
+    }
+
+    // The faults of the sequence that fits.
+    fn fault(self) -> Faults
+        ensures { λ r. ⌜ r ≡ faultIn self ⌝ }
+    {
+        match self {
+            Fitted::Nothing => Faults::None,
+            Fitted::Several => Faults::None,
+            Fitted::Forward(f) => f,
+            Fitted::Backward(f) => f,
+        }
+    }
+
+    // Is it what the back links lead through?
+    fn is_backward(self) -> bool
+        ensures { λ r. ⌜ r ≡ isBackward self ⌝ }
+    {
+        match self {
+            Fitted::Nothing => false,
+            Fitted::Several => false,
+            Fitted::Forward(_) => false,
+            Fitted::Backward(_) => true,
         }
     }
 }
@@ -108,6 +157,39 @@ fn fit(idents: &[u16], forwards: &[u16], backs: &[u16], n: u16, l: Layout, k: u1
     )
 }
 
+// The mend of a fault behind the others.
+fn mended(rows: Rows, l: Layout, f: Faults) -> Rows
+    requires { ⌜ InRange l × Held (sizeOf l) rows (writesIn rows) × (rows .len < 8) × FaultFits l f ⌝ }
+    ensures { λ r. ⌜ Held (sizeOf l) r (writesIn rows ++ mendOf l f) ⌝ }
+{
+    match f {
+        Faults::None => rows,
+        Faults::One(c, w, v) => rows.push(l.cell(c) + w as usize, v),
+        Faults::Many => rows,
+    }
+}
+
+// The mends of all lists, from list 0 on: does a sequence fit, and only one?
+pub fn all_mends(idents: &[u16], forwards: &[u16], backs: &[u16], counts: [u16; 8], l: Layout) -> Mends
+    requires { ⌜ Columns l (now idents) (now forwards) (now backs) ⌝ }
+    ensures { λ r. ⌜ MendsOf l (columns (now (idents .entry)) (now (forwards .entry)) (now (backs .entry))) (λ k. getD counts k 0) r ⌝ }
+{
+    let mut back = [false; 8];
+    let mut rows = Rows::new();
+    let mut k: u16 = 0;
+    while k < l.lists {
+        let f = fit(idents, forwards, backs, counts[k as usize], l, k);
+        let refusal = f.number();
+        if refusal != 0 {
+            return Mends { refusal, back, rows };
+        }
+        back[k as usize] = f.is_backward();
+        rows = mended(rows, l, f.fault());
+        k += 1;
+    }
+    Mends { refusal: 0, back, rows }
+}
+
 // A column with 0 at every cell that the links lead through from the header of list k.
 fn erase(idents: &mut [u16], links: &[u16], l: Layout, k: u16)
     requires { ⌜ InRange l × (length (now idents) ≡ cellCount l) × (length (now links) ≡ cellCount l) × (k < l .lists) ⌝ }
@@ -122,6 +204,22 @@ fn erase(idents: &mut [u16], links: &[u16], l: Layout, k: u16)
         idents[y as usize] = 0;
         y = links[y as usize];
         left -= 1;
+    }
+}
+
+// The identifiers with 0 at every member of every list, each by the links that it goes by.
+pub fn erase_all(idents: &mut [u16], forwards: &[u16], backs: &[u16], back: [bool; 8], l: Layout)
+    requires { ⌜ Columns l (now idents) (now forwards) (now backs) ⌝ }
+    ensures { λ _. ⌜ now (idents .exit) ≡ erasedFrom l (columns (now (idents .entry)) (now (forwards .entry)) (now (backs .entry))) (λ k. getD back k false) 0 (l .lists) (now (idents .entry)) ⌝ }
+{
+    let mut k: u16 = 0;
+    while k < l.lists {
+        if back[k as usize] {
+            erase(idents, backs, l, k);
+        } else {
+            erase(idents, forwards, l, k);
+        }
+        k += 1;
     }
 }
 
