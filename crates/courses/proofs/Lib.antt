@@ -1,2 +1,3 @@
 pub mod Rival
 pub mod Other
+pub mod Own

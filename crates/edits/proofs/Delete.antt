@@ -10,7 +10,7 @@ use lib.Seq.{split-at}
 use Rattle.sequences.specs.Sequence.{_∈_, All, Different, Forward, Backward, lastOf, firstOf}
 use Rattle.sequences.proofs.Members.{all-in, in-all, at-in, in-front, in-behind, different-at, in-with, different-without, out-without}
 use Rattle.sequences.proofs.Splice.{last-at, first-at, cut-forward, cut-backward}
-use Rattle.stores.specs.Stores.{run}
+use Rattle.stores.specs.Stores.{run, Spares}
 use Rattle.stores.proofs.Laws.{run-out, length-run}
 use Rattle.layout.specs.declared.Layout.{Layout}
 use Rattle.layout.specs.Words.{firstNode, cellCount, Node, sizeOf, cellAt, cellWords, identAt, forwardAt, backAt, identOf}
@@ -28,47 +28,47 @@ use Rattle.edits.proofs.Writes.{record-same, delete-spares, delete-afte
 
 module _ (l : Layout) (w : List ℕ) (exact : length w ≡ sizeOf l) (s : SoundLists l w) (k : ℕ) (hk : k < l .lists)
     (p : ℕ) (hp : p < length (s .sequence k)) where
-  abbrev S : List ℕ
+  abbrev pub S : List ℕ
   S = s .sequence k
 
-  abbrev c : ℕ
+  abbrev pub c : ℕ
   c = getD S p 0
 
-  abbrev site : Site
+  abbrev pub site : Site
   site = record { before = getD (k ∷ S) p 0; cell = c; after = getD (S ++ k ∷ []) (p + 1) 0; count = length S }
 
-  abbrev Gone : List ℕ
+  abbrev pub Gone : List ℕ
   Gone = run (deleteWrites l k site) w
 
-  own : IsList l w k S
+  pub own : IsList l w k S
   own = s .lists k hk
 
   -- the cells before and after are cells of the list, and not the one deleted
-  cell-in : c ∈ S
+  pub cell-in : c ∈ S
   cell-in = at-in S p hp
 
-  before-in : getD (k ∷ S) p 0 ∈ (k ∷ S)
+  pub before-in : getD (k ∷ S) p 0 ∈ (k ∷ S)
   before-in = at-in (k ∷ S) p (omega arith)
 
   behind-length : length (S ++ k ∷ []) ≡ length S + 1
   behind-length = omega (arith, length-append S (k ∷ []))
 
-  after-in : getD (S ++ k ∷ []) (p + 1) 0 ∈ (k ∷ S)
+  pub after-in : getD (S ++ k ∷ []) (p + 1) 0 ∈ (k ∷ S)
   after-in = in-front k S (at-in (S ++ k ∷ []) (p + 1) (omega (arith, behind-length)))
 
-  hc : Node l c
+  pub hc : Node l c
   hc = all-in (Node l) S (own .nodes) cell-in
 
-  ha : getD (k ∷ S) p 0 < cellCount l
+  pub ha : getD (k ∷ S) p 0 < cellCount l
   ha = ring-cell l w k hk S own (getD (k ∷ S) p 0) before-in
 
-  hb : getD (S ++ k ∷ []) (p + 1) 0 < cellCount l
+  pub hb : getD (S ++ k ∷ []) (p + 1) 0 < cellCount l
   hb = ring-cell l w k hk S own (getD (S ++ k ∷ []) (p + 1) 0) after-in
 
-  ca : c ≡ getD (k ∷ S) p 0 → ⊥
+  pub ca : c ≡ getD (k ∷ S) p 0 → ⊥
   ca e = different-at (k ∷ S) p (suc p) (ring-different l w k hk S own) (omega arith) (omega arith) (sym e)
 
-  cb : c ≡ getD (S ++ k ∷ []) (p + 1) 0 → ⊥
+  pub cb : c ≡ getD (S ++ k ∷ []) (p + 1) 0 → ⊥
   cb e =
       different-at (S ++ k ∷ []) p (p + 1) (ring-different-behind l w k hk S own) (omega arith) (omega (arith, behind-length))
       (List·getD-append S (k ∷ []) 0 p hp ∙ e)
@@ -88,13 +88,13 @@ module _ (l : Layout) (w : List ℕ) (exact : length w ≡ sizeOf l) (s : SoundL
       ∙ delete-keeps x 0 (links-words l x 0 (omega arith)) (λ e _. n e) (λ _ e. omega arith) (λ _ e. omega arith) (λ _ e. omega arith)
       ∙ ap (λ (a : ℕ). getD w a 0) (sym (ident-word l x))
 
-  parted : S ≡ take p S ++ c ∷ drop (p + 1) S
+  pub parted : S ≡ take p S ++ c ∷ drop (p + 1) S
   parted = split-at S p 0 hp ∙ ap (λ (n : ℕ). take p S ++ c ∷ drop n S) (sym (add-one p))
 
-  before-last : getD (k ∷ S) p 0 ≡ lastOf k (take p S)
+  pub before-last : getD (k ∷ S) p 0 ≡ lastOf k (take p S)
   before-last = last-at k S p (omega arith)
 
-  after-first : getD (S ++ k ∷ []) (p + 1) 0 ≡ firstOf (drop (p + 1) S) k
+  pub after-first : getD (S ++ k ∷ []) (p + 1) 0 ≡ firstOf (drop (p + 1) S) k
   after-first = first-at S k (p + 1) (omega arith)
 
   -- a member of the new sequence is an old one, and not the one deleted
@@ -118,7 +118,7 @@ module _ (l : Layout) (w : List ℕ) (exact : length w ≡ sizeOf l) (s : SoundL
   ring-in x (List·Memᴰ·head e) = List·Memᴰ·head e
   ring-in x (List·Memᴰ·tail m) = List·Memᴰ·tail (delete-member x m)
 
-  forwards : Forward (viewOf l Gone .forward) k (deleteAt p S) k
+  pub forwards : Forward (viewOf l Gone .forward) k (deleteAt p S) k
   forwards =
       cut-forward c (drop (p + 1) S) k (viewOf l w .forward) (viewOf l Gone .forward) k (take p S)
       ((λ m. header-apart l k S hk (own .nodes) (delete-member k m)),
@@ -131,7 +131,7 @@ module _ (l : Layout) (w : List ℕ) (exact : length w ≡ sizeOf l) (s : SoundL
   behind : S ++ k ∷ [] ≡ take p S ++ c ∷ (drop (p + 1) S ++ k ∷ [])
   behind = ap (λ (t : List ℕ). t ++ k ∷ []) parted ∙ append-assoc (take p S) (c ∷ drop (p + 1) S) (k ∷ [])
 
-  backs : Backward (viewOf l Gone .back) k (deleteAt p S) k
+  pub backs : Backward (viewOf l Gone .back) k (deleteAt p S) k
   backs =
       cut-backward c (drop (p + 1) S) k (viewOf l w .back) (viewOf l Gone .back) k (take p S)
       (different-without (take p S) c (drop (p + 1) S ++ k ∷ []) (subst Different behind (ring-different-behind l w k hk S own)))
@@ -140,11 +140,11 @@ module _ (l : Layout) (w : List ℕ) (exact : length w ≡ sizeOf l) (s : SoundL
       (ap (λ (a : ℕ). getD Gone (backAt l a) 0) (sym after-first) ∙ delete-after l w exact k site hk ha hb hc ca cb ∙ before-last)
       (subst (λ (t : List ℕ). Backward (viewOf l w .back) k t k) parted (agrees-holds l w k S (own .agrees) .turn .backs))
 
-  not-cell : (x : ℕ) → x ∈ (k ∷ deleteAt p S) → x ≡ c → ⊥
+  pub not-cell : (x : ℕ) → x ∈ (k ∷ deleteAt p S) → x ≡ c → ⊥
   not-cell x (List·Memᴰ·head e) q = header-apart l k S hk (own .nodes) (subst (λ (y : ℕ). y ∈ S) (sym q ∙ e) cell-in)
   not-cell x (List·Memᴰ·tail m) q = delete-out (subst (λ (y : ℕ). y ∈ deleteAt p S) q m)
 
-  counted : length S - 1 ≡ length (deleteAt p S)
+  pub counted : length S - 1 ≡ length (deleteAt p S)
   counted = omega (arith, length-append (take p S) (drop (p + 1) S), ap length parted ∙ length-append (take p S) (c ∷ drop (p + 1) S))
 
   -- list k has the new sequence
@@ -167,10 +167,11 @@ module _ (l : Layout) (w : List ℕ) (exact : length w ≡ sizeOf l) (s : SoundL
         count = delete-count l w exact k site hk ha hb hc ca cb ∙ counted
       })
 
-  -- every other list is as it was, word for word
-  pub delete-other : (j : ℕ) → j < l .lists → (j ≡ k → ⊥) → SameCells l w Gone (j ∷ s .sequence j)
-  delete-other j h n x f m g =
-      delete-keeps x f g
+  -- no store goes to a word of another list
+  pub delete-spares-other : (j : ℕ) → j < l .lists → (j ≡ k → ⊥) → (x f : ℕ) → x ∈ (j ∷ s .sequence j) → f < cellWords l x
+      → Spares (cellAt l x + f) (deleteWrites l k site)
+  delete-spares-other j h n x f m g =
+      delete-spares l w exact k site hk ha hb hc ca cb x f g
       (λ e _. apart c (List·Memᴰ·tail cell-in) e)
       (λ e _. apart k (List·Memᴰ·head refl) e)
       (λ e _. apart (getD (k ∷ S) p 0) before-in e)
@@ -178,6 +179,10 @@ module _ (l : Layout) (w : List ℕ) (exact : length w ≡ sizeOf l) (s : SoundL
     where
       apart : (y : ℕ) → y ∈ (k ∷ S) → x ≡ y → ⊥
       apart y q e = lists-apart l w j k (s .sequence j) S h hk n (s .lists j h) own x y m q e
+
+  -- every other list is as it was, word for word
+  pub delete-other : (j : ℕ) → j < l .lists → (j ≡ k → ⊥) → SameCells l w Gone (j ∷ s .sequence j)
+  delete-other j h n x f m g = run-out (deleteWrites l k site) w (cellAt l x + f) (delete-spares-other j h n x f m g)
 
   -- the cell is free
   pub delete-free : getD Gone (identAt l c) 0 ≡ 0

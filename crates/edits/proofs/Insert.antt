@@ -8,7 +8,7 @@ use lib.ListN.{length, getD, take, drop, take-append-drop, length-append}
 use Rattle.sequences.specs.Sequence.{_∈_, All, Different, Forward, Backward, lastOf, firstOf}
 use Rattle.sequences.proofs.Members.{all-in, in-all, at-in, in-front, in-behind}
 use Rattle.sequences.proofs.Splice.{last-at, first-at, splice-forward, splice-backward}
-use Rattle.stores.specs.Stores.{run}
+use Rattle.stores.specs.Stores.{run, Spares}
 use Rattle.stores.proofs.Laws.{run-out, length-run}
 use Rattle.layout.specs.declared.Layout.{Layout}
 use Rattle.layout.specs.Words.{firstNode, cellCount, Node, sizeOf, cellAt, cellWords, identAt, forwardAt, backAt, identOf}
@@ -32,39 +32,39 @@ free-out l w s i e j h m = omega (arith, sym (member-ident l w j (s .sequence j)
 module _ (l : Layout) (w : List ℕ) (exact : length w ≡ sizeOf l) (s : SoundLists l w) (k : ℕ) (hk : k < l .lists)
     (p : ℕ) (hp : p ≤ length (s .sequence k)) (i : ℕ) (hi : Node l i) (free : getD w (identAt l i) 0 ≡ 0)
     (words : List ℕ) (size : length words ≡ l .width) where
-  abbrev S : List ℕ
+  abbrev pub S : List ℕ
   S = s .sequence k
 
-  abbrev site : Site
+  abbrev pub site : Site
   site = record { before = getD (k ∷ S) p 0; cell = i; after = getD (S ++ k ∷ []) p 0; count = length S }
 
-  abbrev Done : List ℕ
+  abbrev pub Done : List ℕ
   Done = run (insertWrites l k site words) w
 
-  own : IsList l w k S
+  pub own : IsList l w k S
   own = s .lists k hk
 
   -- the cells before and after are cells of the list, and not the new one
-  before-in : getD (k ∷ S) p 0 ∈ (k ∷ S)
+  pub before-in : getD (k ∷ S) p 0 ∈ (k ∷ S)
   before-in = at-in (k ∷ S) p (omega arith)
 
-  after-in : getD (S ++ k ∷ []) p 0 ∈ (k ∷ S)
+  pub after-in : getD (S ++ k ∷ []) p 0 ∈ (k ∷ S)
   after-in = in-front k S (at-in (S ++ k ∷ []) p (omega (arith, length-append S (k ∷ []))))
 
-  fresh : (j : ℕ) → j < l .lists → (x : ℕ) → x ∈ (j ∷ s .sequence j) → x ≡ i → ⊥
+  pub fresh : (j : ℕ) → j < l .lists → (x : ℕ) → x ∈ (j ∷ s .sequence j) → x ≡ i → ⊥
   fresh j h x (List·Memᴰ·head e) q = omega (arith, hi .low)
   fresh j h x (List·Memᴰ·tail m) q = free-out l w s i free j h (subst (λ (y : ℕ). y ∈ s .sequence j) q m)
 
-  ha : getD (k ∷ S) p 0 < cellCount l
+  pub ha : getD (k ∷ S) p 0 < cellCount l
   ha = ring-cell l w k hk S own (getD (k ∷ S) p 0) before-in
 
-  hb : getD (S ++ k ∷ []) p 0 < cellCount l
+  pub hb : getD (S ++ k ∷ []) p 0 < cellCount l
   hb = ring-cell l w k hk S own (getD (S ++ k ∷ []) p 0) after-in
 
-  ca : i ≡ getD (k ∷ S) p 0 → ⊥
+  pub ca : i ≡ getD (k ∷ S) p 0 → ⊥
   ca e = fresh k hk (getD (k ∷ S) p 0) before-in (sym e)
 
-  cb : i ≡ getD (S ++ k ∷ []) p 0 → ⊥
+  pub cb : i ≡ getD (S ++ k ∷ []) p 0 → ⊥
   cb e = fresh k hk (getD (S ++ k ∷ []) p 0) after-in (sym e)
 
   -- a word of another cell than the new one stays, but for the count, the link before and the back link after
@@ -82,16 +82,16 @@ module _ (l : Layout) (w : List ℕ) (exact : length w ≡ sizeOf l) (s : SoundL
       ∙ insert-keeps x 0 (links-words l x 0 (omega arith)) n (λ _ e. omega arith) (λ _ e. omega arith) (λ _ e. omega arith)
       ∙ ap (λ (a : ℕ). getD w a 0) (sym (ident-word l x))
 
-  parted : take p S ++ drop p S ≡ S
+  pub parted : take p S ++ drop p S ≡ S
   parted = take-append-drop p S
 
-  before-last : getD (k ∷ S) p 0 ≡ lastOf k (take p S)
+  pub before-last : getD (k ∷ S) p 0 ≡ lastOf k (take p S)
   before-last = last-at k S p hp
 
-  after-first : getD (S ++ k ∷ []) p 0 ≡ firstOf (drop p S) k
+  pub after-first : getD (S ++ k ∷ []) p 0 ≡ firstOf (drop p S) k
   after-first = first-at S k p hp
 
-  forwards : Forward (viewOf l Done .forward) k (insertAt p i S) k
+  pub forwards : Forward (viewOf l Done .forward) k (insertAt p i S) k
   forwards =
       splice-forward i (drop p S) k (viewOf l w .forward) (viewOf l Done .forward) k (take p S)
       (subst (λ (t : List ℕ). Different (k ∷ t)) (sym parted) (ring-different l w k hk S own))
@@ -105,7 +105,7 @@ module _ (l : Layout) (w : List ℕ) (exact : length w ≡ sizeOf l) (s : SoundL
   behind : take p S ++ (drop p S ++ k ∷ []) ≡ S ++ k ∷ []
   behind = sym (append-assoc (take p S) (drop p S) (k ∷ [])) ∙ ap (λ (t : List ℕ). t ++ k ∷ []) parted
 
-  backs : Backward (viewOf l Done .back) k (insertAt p i S) k
+  pub backs : Backward (viewOf l Done .back) k (insertAt p i S) k
   backs =
       splice-backward i (drop p S) k (viewOf l w .back) (viewOf l Done .back) k (take p S)
       (subst Different (sym behind) (ring-different-behind l w k hk S own))
@@ -135,7 +135,7 @@ module _ (l : Layout) (w : List ℕ) (exact : length w ≡ sizeOf l) (s : SoundL
   all-insert : (P : ℕ → Type 0) → All P S → P i → All P (insertAt p i S)
   all-insert P h q = in-all P (insertAt p i S) (λ x m. ⊎-elim (λ e. subst P (sym e) q) (λ n. all-in P S h n) (insert-member x m))
 
-  counted : length (insertAt p i S) ≡ length S + 1
+  pub counted : length (insertAt p i S) ≡ length S + 1
   counted = omega (arith, length-append (take p S) (i ∷ drop p S), sym (length-append (take p S) (drop p S)) ∙ ap length parted)
 
   -- list k has the new sequence
@@ -157,16 +157,21 @@ module _ (l : Layout) (w : List ℕ) (exact : length w ≡ sizeOf l) (s : SoundL
         count = insert-count l w exact k site hk ha hb hi ca cb words size ∙ sym counted
       })
 
-  -- every other list is as it was, word for word
-  pub insert-other : (j : ℕ) → j < l .lists → (j ≡ k → ⊥) → SameCells l w Done (j ∷ s .sequence j)
-  insert-other j h n x f m g =
-      insert-keeps x f g (fresh j h x m)
+  -- no store goes to a word of another list
+  pub insert-spares-other : (j : ℕ) → j < l .lists → (j ≡ k → ⊥) → (x f : ℕ) → x ∈ (j ∷ s .sequence j) → f < cellWords l x
+      → Spares (cellAt l x + f) (insertWrites l k site words)
+  insert-spares-other j h n x f m g =
+      insert-spares l w exact k site hk ha hb hi ca cb words size x f g (fresh j h x m)
       (λ e _. apart k (List·Memᴰ·head refl) e)
       (λ e _. apart (getD (k ∷ S) p 0) before-in e)
       (λ e _. apart (getD (S ++ k ∷ []) p 0) after-in e)
     where
       apart : (y : ℕ) → y ∈ (k ∷ S) → x ≡ y → ⊥
       apart y q e = lists-apart l w j k (s .sequence j) S h hk n (s .lists j h) own x y m q e
+
+  -- every other list is as it was, word for word
+  pub insert-other : (j : ℕ) → j < l .lists → (j ≡ k → ⊥) → SameCells l w Done (j ∷ s .sequence j)
+  insert-other j h n x f m g = run-out (insertWrites l k site words) w (cellAt l x + f) (insert-spares-other j h n x f m g)
 
   -- the words are sound, with the new sequences
   pub insert-lists : (x : SoundLists l Done) × (x .sequence ≡ replaced (s .sequence) k (insertAt p i S))

@@ -1,1 +1,109 @@
--- Laws of the mends of all lists.
+-- Laws of the mends of all lists, and of the columns after all of them are erased.
+use Prim.Native.Nat.{ℕ, suc, _+_, _-_, _≤_, _<_}
+use mathlib.Core.Path.{_≡_, refl, ap, _∙_, sym, subst}
+use mathlib.Core.List.{List, [], _∷_, _++_, append-nil, append-assoc}
+use mathlib.Core.Bool.{Bool, true, false, cond}
+use native.Mathlib.Omega.{arith}
+use native.Mathlib.Nat.{mul-le-mul}
+use native.Mathlib.Numerals.{add-one}
+use lib.Dec.{eqb}
+use lib.ListN.{length, getD, set, length-set, length-append}
+use lib.Seq.{getD-set-same, getD-set-other}
+use borrow.Author.Count.{below-more}
+use borrow.Author.Tests.{eq-eqb, ne-eqb}
+use Rattle.sequences.specs.Sequence.{All}
+use Rattle.sequences.proofs.Trail.{trail-inside}
+use Rattle.stores.specs.declared.Rows.{Rows}
+use Rattle.stores.specs.Stores.{Write, writesIn, Held}
+use Rattle.layout.specs.declared.Layout.{Layout}
+use Rattle.layout.specs.Words.{InRange, Node, isNode, nodeWords, cellCount, cellAt, sizeOf, identOf}
+use Rattle.layout.proofs.Laws.{cell-header, header-fits, cell-fits}
+use Rattle.lists.specs.Decide.{View}
+use Rattle.lists.proofs.Unique.{all-nodes}
+use Rattle.mending.specs.declared.Faults.{Faults}
+use Rattle.mending.specs.declared.Faults.the-variants as F
+use Rattle.mending.specs.declared.Fitted.{Fitted}
+use Rattle.mending.specs.declared.Fitted.the-variants as G
+use Rattle.mending.specs.Mending.{plus, fault, turnFaults, faultsOf, walked, walkFaults, turned, choose, twoFit, fitIn}
+use Rattle.mending.specs.Mending.{mendOf, numberOf, faultIn, isBackward, refusalIn, mendsIn, FaultFits, MendsOf}
+use Rattle.mending.specs.Mending.{erased, membersBy, erasedFrom}
+
+-- a word's number fits a `u16`
+pub size-small : (l : Layout) → InRange l → sizeOf l ≤ 65536
+unfolding sizeOf
+size-small l r =
+    let a : nodeWords l ≤ 16 = omega arith in
+    let b : l .nodes ≤ 2000 = r .nodes in
+    omega (arith, mul-le-mul a b)
+
+-- faults of cells of the store, as a record, from which f can be told
+record Fits (l : Layout) (f : Faults) : Type 0 where
+  pub fits : FaultFits l f
+
+-- of two parts
+plus-fits : {l : Layout} {f g : Faults} → Fits l f → Fits l g → Fits l (plus f g)
+plus-fits {l} {f = F.None} {g} p q = q
+plus-fits {l} {f = F.One c f v} {g = F.None} p q = p
+plus-fits {l} {f = F.One c f v} {g = F.One d g u} p q = record { fits = tt }
+plus-fits {l} {f = F.One c f v} {g = F.Many} p q = record { fits = tt }
+plus-fits {l} {f = F.Many} {g} p q = record { fits = tt }
+
+-- of the candidate that fits
+choose-fits : {l : Layout} {f g : Faults} → Fits l f → Fits l g → FaultFits l (faultIn (choose f g))
+choose-fits {l} {f = F.None} {g} p q = tt
+choose-fits {l} {f = F.One c f v} {g} p q = by (eqb f 2) g
+  where
+    two : (b : Bool) → FaultFits l (faultIn (cond b G.Several (G.Forward (F.One c f v))))
+    two true = tt
+    two false = p .fits
+    by : (b : Bool) (g : Faults) → FaultFits l (faultIn (cond b (twoFit (F.One c f v) g) (G.Forward (F.One c f v))))
+    by false g = p .fits
+    by true F.None = p .fits
+    by true (F.One d e u) = two (eqb e 1)
+    by true F.Many = p .fits
+choose-fits {l} {f = F.Many} {g = F.None} p q = tt
+choose-fits {l} {f = F.Many} {g = F.One c f v} p q = q .fits
+choose-fits {l} {f = F.Many} {g = F.Many} p q = tt
+
+module _ (l : Layout) (r : InRange l) where
+  -- of a word of the store
+  word-fits : (x c f v : ℕ) → cellAt l c + f < sizeOf l → Fits l (fault x c f v)
+  word-fits x c f v h = by (eqb x v)
+    where
+      by : (b : Bool) → Fits l (cond b F.None (F.One c f v))
+      by true = record { fits = tt }
+      by false = record { fits = h }
+
+  -- of one of the first three words of a cell
+  link-fits : (x c f v : ℕ) → c < cellCount l → f < 3 → Fits l (fault x c f v)
+  link-fits x c f v h g = word-fits x c f v (omega (arith, cell-fits l c r h))
+
+  module _ (v : View) (a b k : ℕ) (ha : a < 3) (hb : b < 3) (hk : k < l .lists) where
+    -- of the rest of a turn round list k
+    turn-fits : (x : ℕ) (s : List ℕ) → x < cellCount l → All (Node l) s → Fits l (turnFaults v a b k x s)
+    unfolding turnFaults
+    turn-fits x [] h t =
+        plus-fits (link-fits (v .forward x) x a k h ha) (link-fits (v .back k) k b x (omega arith) hb)
+    turn-fits x (y ∷ s) h t =
+        let c : y < cellCount l = t .0 .high in
+        plus-fits (link-fits (v .forward x) x a y h ha)
+        (plus-fits (link-fits (v .ident y) y 0 (identOf k) c (omega arith))
+        (plus-fits (link-fits (v .back y) y b x c hb)
+        (turn-fits y s c (t .1))))
+
+    -- of a walk of list k
+    walk-fits : (n : ℕ) → Fits l (walkFaults l v a b k n)
+    unfolding walkFaults faultsOf
+    walk-fits n =
+        let s = walked l v k in
+        let t = all-nodes l s (trail-inside (v .forward) (isNode l) (l .nodes) (v .forward k)) in
+        plus-fits (link-fits (v .ident k) k 0 (identOf k) (omega arith) (omega arith))
+        (plus-fits (turn-fits k s (omega arith) t)
+        (word-fits n k 3 (length s) (omega (arith, cell-header l k hk, header-fits l k hk))))
+
+  -- of what fits list k
+  pub fit-fits : (v : View) (k n : ℕ) → k < l .lists → FaultFits l (faultIn (fitIn l v k n))
+  unfolding fitIn
+  fit-fits v k n h =
+      choose-fits (walk-fits v 1 2 k (omega arith) (omega arith) h n)
+      (walk-fits (turned v) 2 1 k (omega arith) (omega arith) h n)

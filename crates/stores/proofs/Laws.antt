@@ -3,12 +3,14 @@ use Prim.Native.Nat.{ℕ, suc, zero, _+_, _-_, _≤_, _<_}
 use mathlib.Core.Path.{_≡_, refl, ap, ap₂, _∙_, sym, subst}
 use mathlib.Core.List.{List, [], _∷_, _++_}
 use mathlib.Core.Bool.{true, false, cond}
+use mathlib.Core.Logic.{_⊎_, inl, inr}
+use native.Mathlib.Decide.{ℕ-discrete, decLt}
 use native.Mathlib.Omega.{arith}
 use native.Mathlib.Numerals.{add-one}
 use native.Mathlib.Nat.{add-zero}
 use lib.Dec.{ltb}
 use lib.ListN.{length, getD, set, take, drop, length-set, length-append, take-append-drop}
-use lib.Seq.{take-suc, take-all, take-take, take-suc-set, length-take-le, getD-set-same, getD-set-other}
+use lib.Seq.{take-suc, take-all, take-take, take-suc-set, length-take-le, set-out, getD-set-same, getD-set-other}
 use borrow.Author.Tests.{lt-ltb, le-ltb}
 use Rattle.sequences.specs.Sequence.{All}
 use Rattle.sequences.proofs.Members.{all-append, all-nth}
@@ -86,6 +88,25 @@ run-in ps p qs w h n =
     ap (λ (x : List ℕ). getD x (p .at) 0) (run-append ps (p ∷ qs) w)
     ∙ run-out qs (store (run ps w) p) (p .at) n
     ∙ getD-set-same (run ps w) (p .at) (p .value) 0 (subst (λ (n : ℕ). p .at < n) (sym (length-run ps w)) h)
+
+-- a word that stores go to with one value only has that value or the one it had
+pub run-either : (ps : List Write) (w : List ℕ) (a v : ℕ) → All (λ (p : Write). a ≡ p .at → p .value ≡ v) ps
+    → (getD (run ps w) a 0 ≡ getD w a 0) ⊎ (getD (run ps w) a 0 ≡ v)
+unfolding run
+run-either [] w a v h = inl refl
+run-either (p ∷ ps) w a v h = by (ℕ-discrete a (p .at)) (run-either ps (store w p) a v (h .1))
+  where
+    by : Dec (a ≡ p .at) → (getD (run ps (store w p)) a 0 ≡ getD (store w p) a 0) ⊎ (getD (run ps (store w p)) a 0 ≡ v)
+        → (getD (run ps (store w p)) a 0 ≡ getD w a 0) ⊎ (getD (run ps (store w p)) a 0 ≡ v)
+    by (no n) (inl e) = inl (e ∙ getD-set-other w (p .at) a (p .value) 0 n)
+    by (no n) (inr e) = inr e
+    by (yes q) (inr e) = inr e
+    by (yes q) (inl e) = inside (decLt (p .at) (length w)) e
+      where
+        inside : Dec (p .at < length w) → getD (run ps (store w p)) a 0 ≡ getD (store w p) a 0
+            → (getD (run ps (store w p)) a 0 ≡ getD w a 0) ⊎ (getD (run ps (store w p)) a 0 ≡ v)
+        inside (yes i) e = inr (e ∙ ap (λ (n : ℕ). getD (store w p) n 0) q ∙ getD-set-same w (p .at) (p .value) 0 i ∙ h .0 q)
+        inside (no i) e = inl (e ∙ ap (λ (x : List ℕ). getD x a 0) (set-out w (p .at) (p .value) (omega arith)))
 
 -- stores in a row of addresses
 pub row-spares : (a b : ℕ) (vs : List ℕ) → ((j : ℕ) → j < length vs → a ≡ b + j → ⊥) → Spares a (inRow b vs)
