@@ -1,3 +1,4 @@
 pub mod Rival
 pub mod Other
 pub mod Own
+pub mod CutInsert

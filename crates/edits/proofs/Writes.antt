@@ -4,12 +4,12 @@ use mathlib.Core.Path.{_≡_, refl, ap, _∙_, sym, subst}
 use mathlib.Core.List.{List, [], _∷_, _++_, append-assoc}
 use native.Mathlib.Omega.{arith}
 use native.Mathlib.Nat.{add-zero}
-use lib.ListN.{length, getD, take, drop, length-take, length-drop}
+use lib.ListN.{length, getD, take, drop, length-take, length-drop, length-append}
 use lib.Seq.{ext-getD, getD-take, getD-drop, length-take-le}
 use Rattle.sequences.specs.Sequence.{All}
 use Rattle.sequences.proofs.Members.{all-append}
 use Rattle.stores.specs.Stores.{Write, write, run, Spares, inRow}
-use Rattle.stores.proofs.Laws.{run-append, length-run, run-out, run-in, row-spares, row-at}
+use Rattle.stores.proofs.Laws.{run-append, length-run, run-out, run-in, row-spares, row-at, length-row}
 use Rattle.layout.specs.declared.Layout.{Layout}
 use Rattle.layout.specs.Words.{firstNode, cellCount, headerAt, cellAt, cellWords, nodeAt, nodeWords, sizeOf, Node, identAt, forwardAt, backAt, countAt, recordAt, identOf, linkWords}
 use Rattle.layout.proofs.Laws.{cell-header, cell-node, node-fits}
@@ -50,23 +50,23 @@ module _ (l : Layout) (w : List ℕ) (exact : length w ≡ sizeOf l) (k : ℕ) (
     (ha : t .before < cellCount l) (hb : t .after < cellCount l) (hc : Node l (t .cell))
     (ca : t .cell ≡ t .before → ⊥) (cb : t .cell ≡ t .after → ⊥) where
   -- the cell is no header
-  not-header : t .cell ≡ k → ⊥
+  pub not-header : t .cell ≡ k → ⊥
   not-header e = omega (arith, hc .low)
 
-  count-words : 3 < cellWords l k
+  pub count-words : 3 < cellWords l k
   count-words = omega (arith, words-header l k hk)
 
-  fits : (i f : ℕ) → i < cellCount l → f < cellWords l i → cellAt l i + f < length w
+  pub fits : (i f : ℕ) → i < cellCount l → f < cellWords l i → cellAt l i + f < length w
   fits i f h g = subst (λ (n : ℕ). cellAt l i + f < n) (sym exact) (word-fits l i f h g)
 
   -- word f of cell i is none of those that are written, seen from each store
-  spare-link : (i f j g : ℕ) → f < cellWords l i → g < 3 → (i ≡ j → f ≡ g → ⊥) → cellAt l i + f ≡ cellAt l j + g → ⊥
+  pub spare-link : (i f j g : ℕ) → f < cellWords l i → g < 3 → (i ≡ j → f ≡ g → ⊥) → cellAt l i + f ≡ cellAt l j + g → ⊥
   spare-link i f j g h b n = words-apart l i j f g n h (links-words l j g b)
 
-  spare-ident : (i f j : ℕ) → f < cellWords l i → (i ≡ j → f ≡ 0 → ⊥) → cellAt l i + f ≡ identAt l j → ⊥
+  pub spare-ident : (i f j : ℕ) → f < cellWords l i → (i ≡ j → f ≡ 0 → ⊥) → cellAt l i + f ≡ identAt l j → ⊥
   spare-ident i f j h n e = spare-link i f j 0 h (omega arith) n (e ∙ ident-word l j)
 
-  spare-count : (i f : ℕ) → f < cellWords l i → (i ≡ k → f ≡ 3 → ⊥) → cellAt l i + f ≡ countAt k → ⊥
+  pub spare-count : (i f : ℕ) → f < cellWords l i → (i ≡ k → f ≡ 3 → ⊥) → cellAt l i + f ≡ countAt k → ⊥
   spare-count i f h n e = words-apart l i k f 3 n h count-words (e ∙ count-word l k hk)
 
   -- an insert
@@ -87,7 +87,7 @@ module _ (l : Layout) (w : List ℕ) (exact : length w ≡ sizeOf l) (k : ℕ) (
         (spare-link i f (t .before) 1 h (omega arith) na,
         (spare-link i f (t .after) 2 h (omega arith) nb, tt))))))
 
-    abbrev Row : List Write
+    abbrev pub Row : List Write
     Row = inRow (recordAt l (t .cell)) words
 
     abbrev Done : List ℕ
@@ -126,8 +126,32 @@ module _ (l : Layout) (w : List ℕ) (exact : length w ≡ sizeOf l) (k : ℕ) (
           ((λ e. spare-link (t .cell) 0 (t .before) 1 (links-words l _ 0 (omega arith)) (omega arith) (λ q _. ca q) (sym (ident-word l (t .cell)) ∙ e)),
           ((λ e. spare-link (t .cell) 0 (t .after) 2 (links-words l _ 0 (omega arith)) (omega arith) (λ q _. cb q) (sym (ident-word l (t .cell)) ∙ e)), tt)))
 
-    abbrev Cell-writes : List Write
+    abbrev pub Cell-writes : List Write
     Cell-writes = write (forwardAt l (t .cell)) (t .after) ∷ write (backAt l (t .cell)) (t .before) ∷ write (identAt l (t .cell)) (identOf k) ∷ []
+
+    -- the stores in front of the central one
+    abbrev pub First : List Write
+    First = Row ++ (Cell-writes ++ write (countAt k) (t .count + 1) ∷ [])
+
+    pub first-central : insertWrites l k t words ≡ First ++ (write (forwardAt l (t .before)) (t .cell) ∷ write (backAt l (t .after)) (t .cell) ∷ [])
+    unfolding insertWrites insertLinks
+    first-central = sym (append-assoc Row (Cell-writes ++ write (countAt k) (t .count + 1) ∷ []) _)
+
+    pub first-length : length First ≡ l .width + 4
+    first-length =
+        omega (arith, length-append Row (Cell-writes ++ write (countAt k) (t .count + 1) ∷ []), length-row (recordAt l (t .cell)) words)
+
+    -- they go to the new cell and the count
+    pub first-spares : (i f : ℕ) → f < cellWords l i → (i ≡ t .cell → ⊥) → (i ≡ k → f ≡ 3 → ⊥) → Spares (cellAt l i + f) First
+    first-spares i f h nc nk =
+        all-append (λ (p : Write). cellAt l i + f ≡ p .at → ⊥) Row (Cell-writes ++ write (countAt k) (t .count + 1) ∷ [])
+        (row-spares (cellAt l i + f) (recordAt l (t .cell)) words
+          (λ j g e. words-apart l i (t .cell) f (3 + j) (λ q _. nc q) h (omega (arith, words-node l (t .cell) (hc .low)))
+            (e ∙ record-word l (t .cell) j hc)))
+        (spare-link i f (t .cell) 1 h (omega arith) (λ q _. nc q),
+        (spare-link i f (t .cell) 2 h (omega arith) (λ q _. nc q),
+        (spare-ident i f (t .cell) h (λ q _. nc q),
+        (spare-count i f h nk, tt))))
 
     pub insert-count : getD Done (countAt k) 0 ≡ t .count + 1
     unfolding insertWrites insertLinks

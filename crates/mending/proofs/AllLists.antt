@@ -107,3 +107,81 @@ module _ (l : Layout) (r : InRange l) where
   fit-fits v k n h =
       choose-fits (walk-fits v 1 2 k (omega arith) (omega arith) h n)
       (walk-fits (turned v) 2 1 k (omega arith) (omega arith) h n)
+
+-- a fault has one mend at most
+mend-few : (l : Layout) (f : Faults) → length (mendOf l f) ≤ 1
+mend-few l F.None = omega arith
+mend-few l (F.One c f v) = omega arith
+mend-few l F.Many = omega arith
+
+-- where the search stands at list k: no list before it is refused, their mends are in the rows and their directions in back
+pub record Found (l : Layout) (v : View) (count : ℕ → ℕ) (back : List Bool) (rows : Rows) (k : ℕ) : Type 0 where
+  pub inside : k ≤ l .lists
+  pub refusal : refusalIn l v count k (l .lists - k) ≡ refusalIn l v count 0 (l .lists)
+  pub mends : writesIn rows ++ mendsIn l v count k (l .lists - k) ≡ mendsIn l v count 0 (l .lists)
+  pub held : Held (sizeOf l) rows (writesIn rows)
+  pub few : rows .len ≤ k
+  pub size : length back ≡ 8
+  pub ways : (j : ℕ) → j < k → getD back j false ≡ isBackward (fitIn l v j (count j))
+
+module _ (l : Layout) (r : InRange l) (v : View) (count : ℕ → ℕ) where
+  -- before list 0
+  pub found-none : (back : List Bool) (rows : Rows) → length back ≡ 8 → Held (sizeOf l) rows [] → Found l v count back rows 0
+  found-none back rows e h =
+      let z : l .lists - 0 ≡ l .lists = omega arith in
+      record {
+        inside = omega arith;
+        refusal = rw z;
+        mends = rw (h .same, z);
+        held = rw (h .same) h;
+        few = omega (arith, h .len);
+        size = e;
+        ways = λ j p. absurd (omega arith);
+      }
+
+  module _ {back : List Bool} {rows : Rows} {k : ℕ} (w : Found l v count back rows k) where
+    -- a list more, whose fit f is not refused
+    pub found-more : {f : Fitted} {n : ℕ} {b : Bool} {g : Faults} {rows′ : Rows} → k < l .lists → f ≡ fitIn l v k (count k)
+        → n ≡ numberOf f → n ≡ 0 → b ≡ isBackward f → g ≡ faultIn f → Held (sizeOf l) rows′ (writesIn rows ++ mendOf l g)
+        → Found l v count (set back k b) rows′ (k + 1)
+    unfolding refusalIn mendsIn
+    found-more {b = b} {g = g} h e en z eb eg held =
+        let s : l .lists - k ≡ suc (l .lists - (k + 1)) = omega arith in
+        let q : numberOf (fitIn l v k (count k)) ≡ 0 = ap numberOf (sym e) ∙ sym en ∙ z in
+        record {
+          inside = omega arith;
+          refusal = (rw (s, refusalIn, eq-eqb _ _ q, ← add-one k) at (w .refusal));
+          mends = rw (held .same, eg, e, append-assoc) (rw (s, mendsIn, ← add-one k) at (w .mends));
+          held = rw (held .same) held;
+          few = omega (arith, held .len, length-append (writesIn rows) (mendOf l g), mend-few l g, w .held .len);
+          size = length-set back k b ∙ w .size;
+          ways =
+              below-more _ k (λ j p. getD-set-other back k j b false (λ i. omega arith) ∙ w .ways j p)
+              (getD-set-same back k b false (omega arith) ∙ eb ∙ ap isBackward e);
+        }
+
+    -- list k is refused
+    pub found-refused : {f : Fitted} {n : ℕ} → k < l .lists → f ≡ fitIn l v k (count k) → n ≡ numberOf f → (n ≡ 0 → ⊥)
+        → MendsOf l v count (record { refusal = n; back = back; rows = rows })
+    unfolding refusalIn
+    found-refused {n = n} h e en z =
+        let s : l .lists - k ≡ suc (l .lists - (k + 1)) = omega arith in
+        let m : n ≡ numberOf (fitIn l v k (count k)) = en ∙ ap numberOf e in
+        record {
+          refusal = m ∙ (rw (s, refusalIn, ne-eqb _ _ (λ i. z (m ∙ i))) at (w .refusal));
+          rows = λ i. absurd (z i);
+          few = λ i. absurd (z i);
+          back = λ i. absurd (z i);
+        }
+
+    -- no list is left
+    pub found-all : l .lists ≤ k → MendsOf l v count (record { refusal = 0; back = back; rows = rows })
+    unfolding refusalIn mendsIn
+    found-all h =
+        let s : l .lists - k ≡ 0 = omega arith in
+        record {
+          refusal = rw s at (w .refusal);
+          rows = λ i. subst (Held (sizeOf l) rows) (sym (append-nil (writesIn rows)) ∙ (rw s at (w .mends))) (w .held);
+          few = λ i. omega arith;
+          back = λ i j p. w .ways j (omega arith);
+        }
