@@ -30,7 +30,7 @@ use Rattle.courses.proofs.Other.{altered-fits, forwards-right, backs-ri
 use Rattle.courses.proofs.Own.{Own}
 
 -- a list with one altered word that is no link
-settled
+pub settled
     : (l : Layout) (w y : List ℕ) (k : ℕ) (h : k < l .lists) (s : List ℕ) (i : IsList l w k s) (alt : Alteration)
     → ((c f : ℕ) → c ∈ (k ∷ s) → f < cellWords l c → (Touches alt c f → ⊥) → getD y (cellAt l c + f) 0 ≡ getD w (cellAt l c + f) 0)
     → ((c : ℕ) → Touches alt c 1 → ⊥) → ((c : ℕ) → Touches alt c 2 → ⊥) → Own l y k s

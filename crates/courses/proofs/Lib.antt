@@ -2,3 +2,4 @@ pub mod Rival
 pub mod Other
 pub mod Own
 pub mod CutInsert
+pub mod CutDelete

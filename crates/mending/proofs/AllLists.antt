@@ -185,3 +185,24 @@ module _ (l : Layout) (r : InRange l) (v : View) (count : ℕ → ℕ) where
           few = λ i. omega arith;
           back = λ i j p. w .ways j (omega arith);
         }
+
+-- an erased column has its length
+pub length-erased : (cs xs : List ℕ) → length (erased cs xs) ≡ length xs
+unfolding erased
+length-erased [] xs = refl
+length-erased (c ∷ cs) xs = length-erased cs (set xs c 0) ∙ length-set xs c 0
+
+module _ (l : Layout) (v : View) (back : ℕ → Bool) (k : ℕ) where
+  -- a list more is erased
+  pub erased-more : (xs : List ℕ) → k < l .lists
+      → erasedFrom l v back k (l .lists - k) xs
+      ≡ erasedFrom l v back (k + 1) (l .lists - (k + 1)) (erased (membersBy l v (back k) k) xs)
+  unfolding erasedFrom
+  erased-more xs h =
+      let s : l .lists - k ≡ suc (l .lists - (k + 1)) = omega arith in
+      rw (s, erasedFrom, add-one k)
+
+  -- no list is left
+  pub erased-all : (xs : List ℕ) → l .lists ≤ k → erasedFrom l v back k (l .lists - k) xs ≡ xs
+  unfolding erasedFrom
+  erased-all xs h = let s : l .lists - k ≡ 0 = omega arith in rw s

@@ -8,14 +8,6 @@ use Rattle.survey.specs.Survey.{columns}
 use Rattle.mending.proofs.AllLists.{Found, found-none, found-more, found-refused, found-all, fit-fits}
 use Rattle.mending.proofs.all_mends.Statement.{statement}
 use Rattle.mending.proofs.all_mends.Tie as tie
-use Rattle.mending.proofs.all_mends.Reads as reads
-use Rattle.mending.proofs.all_mends.Lts as lts
-use Rattle.mending.proofs.Fitted.fault.Reads as fault-reads
-use Rattle.mending.proofs.Fitted.is_backward.Reads as is-backward-reads
-use Rattle.mending.proofs.Fitted.number.Reads as number-reads
-use Rattle.mending.proofs.fit.Reads as fit-reads
-use Rattle.mending.proofs.mended.Reads as mended-reads
-use Rattle.stores.proofs.Rows.new.Reads as new-reads
 
 abbrev Inv-loop : tie.InvT-loop
 Inv-loop idents forwards backs l counts back₀ rows₀ k₀ back rows k =
@@ -24,9 +16,8 @@ Inv-loop idents forwards backs l counts back₀ rows₀ k₀ back rows k =
 abbrev μ-loop : tie.MeasureT-loop
 μ-loop idents forwards backs l counts back₀ rows₀ k₀ back rows k = l .lists - k
 
--- src/lib.rt:178:9
 new-requires : tie.Need-new-requires Inv-loop μ-loop
-new-requires c κs = search needs
+new-requires c κs = omega arith
 
 -- the columns and the counts
 abbrev view : tie.Start Inv-loop μ-loop → View
@@ -35,7 +26,6 @@ view s = columns (s .args .idents .now) (s .args .forwards .now) (s .args .backs
 abbrev count : tie.Start Inv-loop μ-loop → ℕ → ℕ
 count s k = getD (s .args .t4) k 0
 
--- src/lib.rt:180:5
 loop-holds : tie.Need-loop-holds Inv-loop μ-loop
 loop-holds c =
     let s = c .before .before .before .before in
@@ -48,27 +38,21 @@ start c = c .before .before .before .before .before
 abbrev at : tie.After-fit Inv-loop μ-loop → tie.At-loop Inv-loop μ-loop
 at c = c .before .before .before
 
--- src/lib.rt:181:53
 cast-fit : tie.Need-cast-fit Inv-loop μ-loop
 cast-fit c = omega arith
 
--- src/lib.rt:181:46
 mul-fit : tie.Need-mul-fit Inv-loop μ-loop
 mul-fit c = omega arith
 
--- src/lib.rt:181:46
 array-read-fit : tie.Need-array-read-fit Inv-loop μ-loop
 array-read-fit c = omega arith
 
--- src/lib.rt:181:13
 fit-requires : tie.Need-fit-requires Inv-loop μ-loop
-fit-requires c κs = search needs
+fit-requires c κs = omega arith
 
--- src/lib.rt:182:13
 number-requires : tie.Need-number-requires Inv-loop μ-loop
-number-requires c κs = search needs
+number-requires c κs = omega arith
 
--- src/lib.rt:184:13
 returns : tie.Need-returns Inv-loop μ-loop
 returns c =
     let n = c .before in
@@ -77,23 +61,18 @@ returns c =
     found-refused (s .args .l) (s .pre .inRange) (view s) (count s) (t .loop .inv) (omega arith)
     (n .before .fit .ensures) (n .number .ensures) (c .if2 .taken)
 
--- src/lib.rt:186:28
 is-backward-requires : tie.Need-is-backward-requires Inv-loop μ-loop
-is-backward-requires c κs = search needs
+is-backward-requires c κs = omega arith
 
--- src/lib.rt:186:14
 cast-back : tie.Need-cast-back Inv-loop μ-loop
 cast-back c = omega arith
 
--- src/lib.rt:186:9
 array-write-back : tie.Need-array-write-back Inv-loop μ-loop
 array-write-back c = omega arith
 
--- src/lib.rt:187:32
 fault-requires : tie.Need-fault-requires Inv-loop μ-loop
-fault-requires c κs = search needs
+fault-requires c κs = omega arith
 
--- src/lib.rt:187:9
 mended-requires : tie.Need-mended-requires Inv-loop μ-loop
 mended-requires c κs =
     let f = c .before .before .before .before in
@@ -105,15 +84,12 @@ mended-requires c κs =
       rw (c .fault .ensures, f .fit .ensures) (fit-fits (s .args .l) (s .pre .inRange) (view s) (t .loop .k) (count s (t .loop .k)) (omega arith)),
     )
 
--- src/lib.rt:188:9
 add-k : tie.Need-add-k Inv-loop μ-loop
 add-k c = omega arith
 
--- src/lib.rt:180:5
 loop-less : tie.Need-loop-less Inv-loop μ-loop
 loop-less c = omega arith
 
--- src/lib.rt:180:5
 loop-again : tie.Need-loop-again Inv-loop μ-loop
 loop-again c =
     let g = c .before in
@@ -125,7 +101,6 @@ loop-again c =
     (f .fit .ensures) (n .number .ensures) (g .before .before .if2 .left)
     (g .before .is-backward .ensures) (g .fault .ensures) (c .mended .ensures)
 
--- src/lib.rt:173:1
 returns-2 : tie.Need-returns-2 Inv-loop μ-loop
 returns-2 c =
     let t = c .before .before in

@@ -1,54 +1,86 @@
+use Prim.Native.Nat.{ℕ, _-_}
+use mathlib.Core.Path.{_≡_, refl, sym, _∙_}
+use mathlib.Core.Logic.{⊎-elim}
+use mathlib.Core.Bool.{Bool, false}
+use native.Mathlib.Omega.{arith}
+use borrow.Author.Needs.{needs}
+use lib.ListN.{length, getD}
+use Rattle.lists.specs.Decide.{View}
+use Rattle.survey.specs.Survey.{columns}
+use Rattle.mending.specs.Mending.{erased, membersBy, erasedFrom}
+use Rattle.mending.proofs.AllLists.{length-erased, erased-more, erased-all}
 use Rattle.mending.proofs.erase_all.Statement.{statement}
 use Rattle.mending.proofs.erase_all.Tie as tie
-use Rattle.mending.proofs.erase_all.Reads as reads
-use Rattle.mending.proofs.erase_all.Lts as lts
-use Rattle.mending.proofs.erase.Reads as erase-reads
 
 abbrev Inv-loop : tie.InvT-loop
-Inv-loop idents₀ forwards backs l back k₀ idents k = ?
+Inv-loop idents₀ forwards backs l back k₀ idents k =
+    let v = columns idents₀ forwards backs in
+    let b : ℕ → Bool = λ j. getD back j false in
+    (length idents ≡ length idents₀)
+    × (erasedFrom l v b k (l .lists - k) idents ≡ erasedFrom l v b 0 (l .lists) idents₀)
 
 abbrev μ-loop : tie.MeasureT-loop
-μ-loop idents₀ forwards backs l back k₀ idents k = ?
+μ-loop idents₀ forwards backs l back k₀ idents k = l .lists - k
 
--- src/lib.rt:187:5
+-- the columns at entry, and the lists that go by their back links
+abbrev start : tie.At-loop Inv-loop μ-loop → tie.Start Inv-loop μ-loop
+start c = c .before .before .before .before
+
+abbrev view : tie.Start Inv-loop μ-loop → View
+view s = columns (s .args .idents .now) (s .args .forwards .now) (s .args .backs .now)
+
+abbrev ways : tie.Start Inv-loop μ-loop → ℕ → Bool
+ways s k = getD (s .args .t4) k false
+
 loop-holds : tie.Need-loop-holds Inv-loop μ-loop
-loop-holds c = ?
+loop-holds c =
+    let n = c .before .before .before .args .l .lists in
+    let z : n - 0 ≡ n = omega arith in
+    (refl, rw z)
 
--- src/lib.rt:188:17
 cast-if2 : tie.Need-cast-if2 Inv-loop μ-loop
-cast-if2 c = ?
+cast-if2 c = omega arith
 
--- src/lib.rt:188:12
 array-read-if2 : tie.Need-array-read-if2 Inv-loop μ-loop
-array-read-if2 c = ?
+array-read-if2 c = omega arith
 
--- src/lib.rt:189:13
 erase-requires : tie.Need-erase-requires Inv-loop μ-loop
-erase-requires c κs = ?
+erase-requires c κs = omega arith
 
--- src/lib.rt:191:13
 erase-requires-2 : tie.Need-erase-requires-2 Inv-loop μ-loop
-erase-requires-2 c κs = ?
+erase-requires-2 c κs = omega arith
 
--- src/lib.rt:193:9
 add-k : tie.Need-add-k Inv-loop μ-loop
-add-k c = ?
+add-k c = omega arith
 
--- src/lib.rt:187:5
 loop-less : tie.Need-loop-less Inv-loop μ-loop
-loop-less c = ?
+loop-less c = omega arith
 
--- src/lib.rt:187:5
+-- either way the members of list k are erased
+turned : (c : tie.Joined2 Inv-loop μ-loop) →
+    let t = c .before .before .before in
+    let s = start t in
+    c .if2 .idents ≡ erased (membersBy (s .args .l) (view s) (ways s (t .loop .k)) (t .loop .k)) (t .loop .idents)
+turned c =
+    ⊎-elim (λ w. rw (w .0 .taken) (w .5 ∙ w .2 .ensures)) (λ w. rw (w .0 .left) (w .5 ∙ w .2 .ensures)) (c .if2 .came)
+
 loop-again : tie.Need-loop-again Inv-loop μ-loop
-loop-again c = ?
+loop-again c =
+    let t = c .before .before .before in
+    let s = start t in
+    rw (turned c) (
+      length-erased (membersBy (s .args .l) (view s) (ways s (t .loop .k)) (t .loop .k)) (t .loop .idents) ∙ t .loop .inv .0,
+      sym (erased-more (s .args .l) (view s) (ways s) (t .loop .k) (t .loop .idents) (omega arith)) ∙ t .loop .inv .1,
+    )
 
--- src/lib.rt:182:1
 same-length : tie.Need-same-length Inv-loop μ-loop
-same-length c = ?
+same-length c = c .before .before .loop .inv .0
 
--- src/lib.rt:182:1
 returns : tie.Need-returns Inv-loop μ-loop
-returns c = ?
+returns c =
+    let t = c .before .before in
+    let s = start t in
+    sym (erased-all (s .args .l) (view s) (ways s) (t .loop .k) (t .loop .idents) (omega arith)) ∙ t .loop .inv .1
 
 pub erase-all-spec : {M : Type 1} → statement M
 erase-all-spec =
