@@ -3,3 +3,4 @@ pub mod Other
 pub mod Own
 pub mod CutInsert
 pub mod CutDelete
+pub mod Found

@@ -14,7 +14,7 @@ use borrow.Author.Tests.{eq-eqb, ne-eqb}
 use Rattle.sequences.specs.Sequence.{All}
 use Rattle.sequences.proofs.Trail.{trail-inside}
 use Rattle.stores.specs.declared.Rows.{Rows}
-use Rattle.stores.specs.Stores.{Write, writesIn, Held}
+use Rattle.stores.specs.Stores.{writesIn, Held}
 use Rattle.layout.specs.declared.Layout.{Layout}
 use Rattle.layout.specs.Words.{InRange, Node, isNode, nodeWords, cellCount, cellAt, sizeOf, identOf}
 use Rattle.layout.proofs.Laws.{cell-header, header-fits, cell-fits}
@@ -36,11 +36,11 @@ size-small l r =
     let b : l .nodes ≤ 2000 = r .nodes in
     omega (arith, mul-le-mul a b)
 
--- faults of cells of the store, as a record, from which f can be told
+-- `FaultFits` as a record, so that f can be told from it
 record Fits (l : Layout) (f : Faults) : Type 0 where
   pub fits : FaultFits l f
 
--- of two parts
+-- the faults of two parts fit if those of each do
 plus-fits : {l : Layout} {f g : Faults} → Fits l f → Fits l g → Fits l (plus f g)
 plus-fits {l} {f = F.None} {g} p q = q
 plus-fits {l} {f = F.One c f v} {g = F.None} p q = p
@@ -48,7 +48,7 @@ plus-fits {l} {f = F.One c f v} {g = F.One d g u} p q = record { fits = tt }
 plus-fits {l} {f = F.One c f v} {g = F.Many} p q = record { fits = tt }
 plus-fits {l} {f = F.Many} {g} p q = record { fits = tt }
 
--- of the candidate that fits
+-- those of the candidate that is chosen fit
 choose-fits : {l : Layout} {f g : Faults} → Fits l f → Fits l g → FaultFits l (faultIn (choose f g))
 choose-fits {l} {f = F.None} {g} p q = tt
 choose-fits {l} {f = F.One c f v} {g} p q = by (eqb f 2) g
@@ -56,6 +56,7 @@ choose-fits {l} {f = F.One c f v} {g} p q = by (eqb f 2) g
     two : (b : Bool) → FaultFits l (faultIn (cond b G.Several (G.Forward (F.One c f v))))
     two true = tt
     two false = p .fits
+
     by : (b : Bool) (g : Faults) → FaultFits l (faultIn (cond b (twoFit (F.One c f v) g) (G.Forward (F.One c f v))))
     by false g = p .fits
     by true F.None = p .fits
@@ -66,7 +67,7 @@ choose-fits {l} {f = F.Many} {g = F.One c f v} p q = q .fits
 choose-fits {l} {f = F.Many} {g = F.Many} p q = tt
 
 module _ (l : Layout) (r : InRange l) where
-  -- of a word of the store
+  -- a word of the store
   word-fits : (x c f v : ℕ) → cellAt l c + f < sizeOf l → Fits l (fault x c f v)
   word-fits x c f v h = by (eqb x v)
     where
@@ -74,12 +75,12 @@ module _ (l : Layout) (r : InRange l) where
       by true = record { fits = tt }
       by false = record { fits = h }
 
-  -- of one of the first three words of a cell
+  -- one of the first three words of a cell
   link-fits : (x c f v : ℕ) → c < cellCount l → f < 3 → Fits l (fault x c f v)
   link-fits x c f v h g = word-fits x c f v (omega (arith, cell-fits l c r h))
 
   module _ (v : View) (a b k : ℕ) (ha : a < 3) (hb : b < 3) (hk : k < l .lists) where
-    -- of the rest of a turn round list k
+    -- the rest of a turn round list k
     turn-fits : (x : ℕ) (s : List ℕ) → x < cellCount l → All (Node l) s → Fits l (turnFaults v a b k x s)
     unfolding turnFaults
     turn-fits x [] h t =
@@ -91,7 +92,7 @@ module _ (l : Layout) (r : InRange l) where
         (plus-fits (link-fits (v .back y) y b x c hb)
         (turn-fits y s c (t .1))))
 
-    -- of a walk of list k
+    -- a walk of list k
     walk-fits : (n : ℕ) → Fits l (walkFaults l v a b k n)
     unfolding walkFaults faultsOf
     walk-fits n =
@@ -101,7 +102,7 @@ module _ (l : Layout) (r : InRange l) where
         (plus-fits (turn-fits k s (omega arith) t)
         (word-fits n k 3 (length s) (omega (arith, cell-header l k hk, header-fits l k hk))))
 
-  -- of what fits list k
+  -- so the mend of list k is a word of the store
   pub fit-fits : (v : View) (k n : ℕ) → k < l .lists → FaultFits l (faultIn (fitIn l v k n))
   unfolding fitIn
   fit-fits v k n h =

@@ -170,7 +170,13 @@ fn mended(rows: Rows, l: Layout, f: Faults) -> Rows
 }
 
 // The mends of all lists, from list 0 on: does a sequence fit, and only one?
-pub fn all_mends(idents: &[u16], forwards: &[u16], backs: &[u16], counts: [u16; 8], l: Layout) -> Mends
+pub fn all_mends(
+    idents: &[u16],
+    forwards: &[u16],
+    backs: &[u16],
+    counts: [u16; 8],
+    l: Layout,
+) -> Mends
     requires { ⌜ Columns l (now idents) (now forwards) (now backs) ⌝ }
     ensures { λ r. ⌜ MendsOf l (columns (now (idents .entry)) (now (forwards .entry)) (now (backs .entry))) (λ k. getD counts k 0) r ⌝ }
 {
@@ -181,13 +187,21 @@ pub fn all_mends(idents: &[u16], forwards: &[u16], backs: &[u16], counts: [u16; 
         let f = fit(idents, forwards, backs, counts[k as usize], l, k);
         let refusal = f.number();
         if refusal != 0 {
-            return Mends { refusal, back, rows };
+            return Mends {
+                refusal,
+                back,
+                rows,
+            };
         }
         back[k as usize] = f.is_backward();
         rows = mended(rows, l, f.fault());
         k += 1;
     }
-    Mends { refusal: 0, back, rows }
+    Mends {
+        refusal: 0,
+        back,
+        rows,
+    }
 }
 
 // A column with 0 at every cell that the links lead through from the header of list k.

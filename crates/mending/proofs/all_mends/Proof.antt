@@ -1,7 +1,7 @@
+-- `mending::all_mends` meets its contract. The loop's invariant: where the search stands at list k.
 use Prim.Native.Nat.{ℕ, _-_}
 use mathlib.Core.Path.{refl}
 use native.Mathlib.Omega.{arith}
-use borrow.Author.Needs.{needs}
 use lib.ListN.{getD}
 use Rattle.lists.specs.Decide.{View}
 use Rattle.survey.specs.Survey.{columns}
@@ -16,27 +16,26 @@ Inv-loop idents forwards backs l counts back₀ rows₀ k₀ back rows k =
 abbrev μ-loop : tie.MeasureT-loop
 μ-loop idents forwards backs l counts back₀ rows₀ k₀ back rows k = l .lists - k
 
-new-requires : tie.Need-new-requires Inv-loop μ-loop
-new-requires c κs = omega arith
+-- the places in the loop, the columns and the counts
+abbrev start : tie.At-loop Inv-loop μ-loop → tie.Start Inv-loop μ-loop
+start c = c .before .before .before .before .before
 
--- the columns and the counts
+abbrev at : tie.After-fit Inv-loop μ-loop → tie.At-loop Inv-loop μ-loop
+at c = c .before .before .before
+
 abbrev view : tie.Start Inv-loop μ-loop → View
 view s = columns (s .args .idents .now) (s .args .forwards .now) (s .args .backs .now)
 
 abbrev count : tie.Start Inv-loop μ-loop → ℕ → ℕ
 count s k = getD (s .args .t4) k 0
 
+new-requires : tie.Need-new-requires Inv-loop μ-loop
+new-requires c κs = omega arith
+
 loop-holds : tie.Need-loop-holds Inv-loop μ-loop
 loop-holds c =
     let s = c .before .before .before .before in
     found-none (s .args .l) (s .pre .inRange) (view s) (count s) _ (c .new .result) refl (c .new .ensures _)
-
--- the places in the loop
-abbrev start : tie.At-loop Inv-loop μ-loop → tie.Start Inv-loop μ-loop
-start c = c .before .before .before .before .before
-
-abbrev at : tie.After-fit Inv-loop μ-loop → tie.At-loop Inv-loop μ-loop
-at c = c .before .before .before
 
 cast-fit : tie.Need-cast-fit Inv-loop μ-loop
 cast-fit c = omega arith
@@ -81,7 +80,8 @@ mended-requires c κs =
       s .pre .inRange,
       t .loop .inv .held,
       omega arith,
-      rw (c .fault .ensures, f .fit .ensures) (fit-fits (s .args .l) (s .pre .inRange) (view s) (t .loop .k) (count s (t .loop .k)) (omega arith)),
+      rw (c .fault .ensures, f .fit .ensures)
+          (fit-fits (s .args .l) (s .pre .inRange) (view s) (t .loop .k) (count s (t .loop .k)) (omega arith)),
     )
 
 add-k : tie.Need-add-k Inv-loop μ-loop

@@ -1,9 +1,9 @@
+-- `mending::erase_all` meets its contract. The loop's invariant: what is still to be erased makes the column all that is asked.
 use Prim.Native.Nat.{ℕ, _-_}
 use mathlib.Core.Path.{_≡_, refl, sym, _∙_}
 use mathlib.Core.Logic.{⊎-elim}
 use mathlib.Core.Bool.{Bool, false}
 use native.Mathlib.Omega.{arith}
-use borrow.Author.Needs.{needs}
 use lib.ListN.{length, getD}
 use Rattle.lists.specs.Decide.{View}
 use Rattle.survey.specs.Survey.{columns}
@@ -57,18 +57,18 @@ loop-less : tie.Need-loop-less Inv-loop μ-loop
 loop-less c = omega arith
 
 -- either way the members of list k are erased
-turned : (c : tie.Joined2 Inv-loop μ-loop) →
+list-erased : (c : tie.Joined2 Inv-loop μ-loop) →
     let t = c .before .before .before in
     let s = start t in
     c .if2 .idents ≡ erased (membersBy (s .args .l) (view s) (ways s (t .loop .k)) (t .loop .k)) (t .loop .idents)
-turned c =
+list-erased c =
     ⊎-elim (λ w. rw (w .0 .taken) (w .5 ∙ w .2 .ensures)) (λ w. rw (w .0 .left) (w .5 ∙ w .2 .ensures)) (c .if2 .came)
 
 loop-again : tie.Need-loop-again Inv-loop μ-loop
 loop-again c =
     let t = c .before .before .before in
     let s = start t in
-    rw (turned c) (
+    rw (list-erased c) (
       length-erased (membersBy (s .args .l) (view s) (ways s (t .loop .k)) (t .loop .k)) (t .loop .idents) ∙ t .loop .inv .0,
       sym (erased-more (s .args .l) (view s) (ways s) (t .loop .k) (t .loop .idents) (omega arith)) ∙ t .loop .inv .1,
     )

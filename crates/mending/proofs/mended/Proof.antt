@@ -1,7 +1,7 @@
+-- `mending::mended` meets its contract. One fault is one push; else the rows stay.
 use Prim.Native.Nat.{_+_, _≤_, _<_}
 use mathlib.Core.List.{append-nil}
 use native.Mathlib.Omega.{arith}
-use borrow.Author.Needs.{needs}
 use Rattle.layout.specs.Words.{sizeOf}
 use Rattle.mending.proofs.AllLists.{size-small}
 use Rattle.mending.proofs.mended.Statement.{statement}
@@ -41,7 +41,9 @@ returns : tie.Need-returns
 returns c = rw (c .enum-told .given .1, append-nil) (c .before .before .pre .1)
 
 returns-2 : tie.Need-returns-2
-returns-2 c = rw (c .before .before .before .f .given .1, ← c .before .cell .ensures) (c .push .ensures _ _ (c .before .before .before .before .before .pre .1) (word (c .before) .0))
+returns-2 c =
+    rw (c .before .before .before .f .given .1, ← c .before .cell .ensures)
+    (c .push .ensures _ _ (c .before .before .before .before .before .pre .1) (word (c .before) .0))
 
 returns-3 : tie.Need-returns-3
 returns-3 c = rw (c .enum-told2 .given .1, append-nil) (c .before .before .pre .1)
