@@ -4,3 +4,4 @@ pub mod Own
 pub mod CutInsert
 pub mod CutDelete
 pub mod Found
+pub mod Final

@@ -73,7 +73,7 @@ pub data Value (k : ℕ) (s : List ℕ) : ℕ → ℕ → ℕ → Type 0 where
   ident : {c f v : ℕ} → f ≡ 0 → v ≡ identOf k → Value k s c f v
   forward : {c f v : ℕ} (t : Step) → f ≡ 1 → List·Memᴰ t (steps k s k) → c ≡ t .source → v ≡ t .target → Value k s c f v
   back : {c f v : ℕ} (t : Step) → f ≡ 2 → List·Memᴰ t (steps k s k) → c ≡ t .target → v ≡ t .source → Value k s c f v
-  count : {c f v : ℕ} → f ≡ 3 → v ≡ length s → Value k s c f v
+  count : {c f v : ℕ} → c ≡ k → f ≡ 3 → v ≡ length s → Value k s c f v
 
 pub record Slot (l : Layout) (k : ℕ) (s : List ℕ) (p : Write) : Type 0 where
   pub cell : ℕ
@@ -117,7 +117,7 @@ slot l k s h {p} m = ⊎-elim idents (λ m. ⊎-elim forwards (λ m. ⊎-elim ba
         record {
           cell = k; word = 3; within = List·Memᴰ·head refl; fits = omega (arith, words-header l k h);
           at = ap (λ (q : Write). q .at) e ∙ count-word l k h;
-          value = count refl (ap (λ (q : Write). q .value) e)
+          value = count refl refl (ap (λ (q : Write). q .value) e)
         }
     counts (List·Memᴰ·tail m) = absurd (elim m [ ])
 
@@ -127,19 +127,19 @@ one-value : (k : ℕ) (s : List ℕ) → Different (k ∷ s) → Different (s ++
 one-value k s a b c d f g u v e q (ident x y) (ident x′ y′) = y ∙ sym y′
 one-value k s a b c d f g u v e q (ident x y) (forward t x′ m y′ z′) = absurd (omega arith)
 one-value k s a b c d f g u v e q (ident x y) (back t x′ m y′ z′) = absurd (omega arith)
-one-value k s a b c d f g u v e q (ident x y) (count x′ y′) = absurd (omega arith)
+one-value k s a b c d f g u v e q (ident x y) (count o′ x′ y′) = absurd (omega arith)
 one-value k s a b c d f g u v e q (forward t x m y z) (ident x′ y′) = absurd (omega arith)
 one-value k s a b c d f g u v e q (forward t x m y z) (forward t′ x′ m′ y′ z′) = z ∙ one-target k s k a m m′ (sym y ∙ e ∙ y′) ∙ sym z′
 one-value k s a b c d f g u v e q (forward t x m y z) (back t′ x′ m′ y′ z′) = absurd (omega arith)
-one-value k s a b c d f g u v e q (forward t x m y z) (count x′ y′) = absurd (omega arith)
+one-value k s a b c d f g u v e q (forward t x m y z) (count o′ x′ y′) = absurd (omega arith)
 one-value k s a b c d f g u v e q (back t x m y z) (ident x′ y′) = absurd (omega arith)
 one-value k s a b c d f g u v e q (back t x m y z) (forward t′ x′ m′ y′ z′) = absurd (omega arith)
 one-value k s a b c d f g u v e q (back t x m y z) (back t′ x′ m′ y′ z′) = z ∙ one-source k s k b m m′ (sym y ∙ e ∙ y′) ∙ sym z′
-one-value k s a b c d f g u v e q (back t x m y z) (count x′ y′) = absurd (omega arith)
-one-value k s a b c d f g u v e q (count x y) (ident x′ y′) = absurd (omega arith)
-one-value k s a b c d f g u v e q (count x y) (forward t x′ m y′ z′) = absurd (omega arith)
-one-value k s a b c d f g u v e q (count x y) (back t x′ m y′ z′) = absurd (omega arith)
-one-value k s a b c d f g u v e q (count x y) (count x′ y′) = y ∙ sym y′
+one-value k s a b c d f g u v e q (back t x m y z) (count o′ x′ y′) = absurd (omega arith)
+one-value k s a b c d f g u v e q (count o x y) (ident x′ y′) = absurd (omega arith)
+one-value k s a b c d f g u v e q (count o x y) (forward t x′ m y′ z′) = absurd (omega arith)
+one-value k s a b c d f g u v e q (count o x y) (back t x′ m y′ z′) = absurd (omega arith)
+one-value k s a b c d f g u v e q (count o x y) (count o′ x′ y′) = y ∙ sym y′
 
 pub slots-agree
     : (l : Layout) (k : ℕ) (s : List ℕ) → Different (k ∷ s) → Different (s ++ k ∷ []) → {p q : Write} → Slot l k s p → Slot l k s q

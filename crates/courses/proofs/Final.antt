@@ -1,0 +1,148 @@
+-- What the whole plan leaves of an accepted store: the words of each list as its sequence asks them, and the rest as it was.
+use Prim.Native.Nat.{ℕ, zero, suc, _+_, _-_, _<_, _≤_}
+use mathlib.Core.Path.{_≡_, refl, ap, _∙_, sym, subst}
+use mathlib.Core.List.{List, [], _∷_, _++_, List·Memᴰ, List·Memᴰ·head, List·Memᴰ·tail}
+use mathlib.Core.Logic.{_⊎_, inl, inr, ⊎-elim}
+use native.Mathlib.Decide.{ℕ-discrete, decLt}
+use native.Mathlib.Omega.{arith}
+use lib.ListN.{length, getD}
+use Rattle.sequences.specs.Sequence.{_∈_, All, Step, steps}
+use Rattle.sequences.proofs.Members.{all-in, in-behind}
+use Rattle.stores.specs.Stores.{Write, write, run, Spares}
+use Rattle.stores.proofs.Laws.{run-out}
+use Rattle.layout.specs.declared.Layout.{Layout}
+use Rattle.layout.specs.Words.{firstNode, Node, sizeOf, cellAt, cellWords, identAt, identOf}
+use Rattle.layout.proofs.Apart.{cells-apart, words-apart, links-words, words-header, cell-behind}
+use Rattle.lists.specs.Lists.{asked, IsList, SoundLists, SameCells}
+use Rattle.lists.specs.Decide.{viewOf, countIn}
+use Rattle.lists.proofs.Agree.{Holds, agrees-holds}
+use Rattle.lists.proofs.Same.{ident-word, count-word}
+use Rattle.recovery.specs.Fits.{wrong, Fits}
+use Rattle.recovery.specs.Plan.{joined, recoverStores, Accepted}
+use Rattle.recovery.proofs.Slots.{Value, ident, forward, back, count, Slot, slot}
+use Rattle.recovery.proofs.Step.{wrong-in}
+use Rattle.recovery.proofs.Suffix.{one-joined, joined-one}
+use Rattle.recovery.proofs.Whole.{whole-sound}
+use Rattle.recovery.proofs.Count.{Kind, mend, clear, plan-kinds}
+use Rattle.courses.proofs.Rival.{step-from, step-to, step-at}
+
+-- two stores in which list j has the sequence s hold the same words in its header and the same links in its members
+pub same-links
+    : (l : Layout) (w x : List ℕ) (j : ℕ) → j < l .lists → (s : List ℕ) → IsList l w j s → IsList l x j s
+    → (c f : ℕ) → c ∈ (j ∷ s) → (f < 3) ⊎ ((c ≡ j) × (f ≡ 3)) → getD x (cellAt l c + f) 0 ≡ getD w (cellAt l c + f) 0
+same-links l w x j h s i i′ c f m k = by k
+  where
+    a : Holds (viewOf l w) j (countIn w j) s
+    a = agrees-holds l w j s (i .agrees)
+    b : Holds (viewOf l x) j (countIn x j) s
+    b = agrees-holds l x j s (i′ .agrees)
+    id-of : (u : List ℕ) → Holds (viewOf l u) j (countIn u j) s → c ∈ (j ∷ s) → getD u (identAt l c) 0 ≡ identOf j
+    id-of u q (List·Memᴰ·head e) = ap (λ (d : ℕ). getD u (identAt l d) 0) e ∙ q .ident
+    id-of u q (List·Memᴰ·tail t) = all-in (λ d. getD u (identAt l d) 0 ≡ identOf j) s (q .turn .idents) t
+    word : Dec (f ≡ 0) → Dec (f ≡ 1) → f < 3 → getD x (cellAt l c + f) 0 ≡ getD w (cellAt l c + f) 0
+    word (yes e) d g =
+        ap (λ (n : ℕ). getD x (cellAt l c + n) 0) e ∙ ap (λ (n : ℕ). getD x n 0) (sym (ident-word l c)) ∙ id-of x b m
+        ∙ sym (ap (λ (n : ℕ). getD w (cellAt l c + n) 0) e ∙ ap (λ (n : ℕ). getD w n 0) (sym (ident-word l c)) ∙ id-of w a m)
+    word (no z) (yes e) g =
+        let t = step-from j s j c m in
+        let link : (u : List ℕ) → Holds (viewOf l u) j (countIn u j) s → getD u (cellAt l c + 1) 0 ≡ t .0 .target =
+              λ u q. ap (λ (d : ℕ). getD u (cellAt l d + 1) 0) (sym (t .2))
+              ∙ step-at (λ (p : Step). viewOf l u .forward (p .source) ≡ p .target) (steps j s j) (q .turn .forwards) (t .1) in
+        ap (λ (n : ℕ). getD x (cellAt l c + n) 0) e ∙ link x b ∙ sym (ap (λ (n : ℕ). getD w (cellAt l c + n) 0) e ∙ link w a)
+    word (no z) (no y) g =
+        let e : f ≡ 2 = omega arith in
+        let t = step-to j s j c (in-behind j s m) in
+        let link : (u : List ℕ) → Holds (viewOf l u) j (countIn u j) s → getD u (cellAt l c + 2) 0 ≡ t .0 .source =
+              λ u q. ap (λ (d : ℕ). getD u (cellAt l d + 2) 0) (sym (t .2))
+              ∙ step-at (λ (p : Step). viewOf l u .back (p .target) ≡ p .source) (steps j s j) (q .turn .backs) (t .1) in
+        ap (λ (n : ℕ). getD x (cellAt l c + n) 0) e ∙ link x b ∙ sym (ap (λ (n : ℕ). getD w (cellAt l c + n) 0) e ∙ link w a)
+    counted : (u : List ℕ) → Holds (viewOf l u) j (countIn u j) s → c ≡ j → f ≡ 3 → getD u (cellAt l c + f) 0 ≡ length s
+    counted u q e g =
+        ap (λ (n : ℕ). getD u (cellAt l c + n) 0) g ∙ ap (λ (d : ℕ). getD u (cellAt l d + 3) 0) e
+        ∙ ap (λ (n : ℕ). getD u n 0) (sym (count-word l j h)) ∙ q .count
+    by : (f < 3) ⊎ ((c ≡ j) × (f ≡ 3)) → getD x (cellAt l c + f) 0 ≡ getD w (cellAt l c + f) 0
+    by (inl g) = word (ℕ-discrete f 0) (ℕ-discrete f 1) g
+    by (inr e) = counted x b (e .0) (e .1) ∙ sym (counted w a (e .0) (e .1))
+
+in-all-writes : (P : Write → Type 0) (ps : List Write) → ((p : Write) → List·Memᴰ p ps → P p) → All P ps
+in-all-writes P [] h = tt
+in-all-writes P (p ∷ ps) h = (h p (List·Memᴰ·head refl), in-all-writes P ps (λ q m. h q (List·Memᴰ·tail m)))
+
+at-write : (P : Write → Type 0) (ps : List Write) → All P ps → {p : Write} → List·Memᴰ p ps → P p
+at-write P (q ∷ ps) h (List·Memᴰ·head e) = subst P (sym e) (h .0)
+at-write P (q ∷ ps) h (List·Memᴰ·tail m) = at-write P ps (h .1) m
+
+module _ (l : Layout) (y : List ℕ) (exact : length y ≡ sizeOf l) (s : ℕ → List ℕ) (a : Accepted l y s) where
+  abbrev pub Final : List ℕ
+  Final = run (recoverStores l y s) y
+
+  plan-spares : (b : ℕ) → ((p : Write) → Kind l y s p → b ≡ p .at → ⊥) → Spares b (recoverStores l y s)
+  plan-spares b h =
+      in-all-writes (λ (p : Write). b ≡ p .at → ⊥) (recoverStores l y s) (λ p m. h p (at-write (Kind l y s) (recoverStores l y s) (plan-kinds l y s) m))
+
+  -- words 0 to 7 stay
+  pub final-head : (b : ℕ) → b < 8 → getD Final b 0 ≡ getD y b 0
+  final-head b h = run-out (recoverStores l y s) y b (plan-spares b elsewhere)
+    where
+      elsewhere : (p : Write) → Kind l y s p → b ≡ p .at → ⊥
+      elsewhere p (mend k g m) e =
+          let t = slot l k (s k) g (wrong-in y (asked l k (s k)) m .0) in
+          omega (arith, t .at, cell-behind l (t .cell))
+      elsewhere p (clear c low out nz r) e = omega (arith, ap (λ (q : Write). q .at) r, cell-behind l c)
+
+  -- so do the words behind the links of every node
+  pub final-records : (c f : ℕ) → firstNode l ≤ c → 3 ≤ f → f < cellWords l c → getD Final (cellAt l c + f) 0 ≡ getD y (cellAt l c + f) 0
+  final-records c f low h g = run-out (recoverStores l y s) y (cellAt l c + f) (plan-spares (cellAt l c + f) elsewhere)
+    where
+      late : (k : ℕ) → k < l .lists → (d e v : ℕ) → Value k (s k) d e v → c ≡ d → f ≡ e → ⊥
+      late k hk d e v (ident x _) p q = omega arith
+      late k hk d e v (forward t x _ _ _) p q = omega arith
+      late k hk d e v (back t x _ _ _) p q = omega arith
+      late k hk d e v (count o x _) p q = omega arith
+      elsewhere : (p : Write) → Kind l y s p → cellAt l c + f ≡ p .at → ⊥
+      elsewhere p (mend k g′ m) e =
+          let t = slot l k (s k) g′ (wrong-in y (asked l k (s k)) m .0) in
+          words-apart l c (t .cell) f (t .word) (late k g′ (t .cell) (t .word) (p .value) (t .value)) g (t .fits) (e ∙ t .at)
+      elsewhere p (clear d lo out nz r) e =
+          words-apart l c d f 0 (λ _ q. omega arith) g (links-words l d 0 (omega arith)) (e ∙ ap (λ (q : Write). q .at) r ∙ ident-word l d)
+
+  -- and all words of a node in no list but its identifier, which is 0
+  pub final-outside : (c f : ℕ) → Node l c → (c ∈ joined s (l .lists) → ⊥) → 1 ≤ f → f < cellWords l c → getD Final (cellAt l c + f) 0 ≡ getD y (cellAt l c + f) 0
+  final-outside c f n o h g = run-out (recoverStores l y s) y (cellAt l c + f) (plan-spares (cellAt l c + f) elsewhere)
+    where
+      member : (k : ℕ) → k < l .lists → (d : ℕ) → d ∈ (k ∷ s k) → c ≡ d → ⊥
+      member k hk d (List·Memᴰ·head e) q = omega (arith, n .low)
+      member k hk d (List·Memᴰ·tail m) q = o (one-joined s (l .lists) k c hk (subst (λ (x : ℕ). x ∈ s k) (sym q) m))
+      elsewhere : (p : Write) → Kind l y s p → cellAt l c + f ≡ p .at → ⊥
+      elsewhere p (mend k g′ m) e =
+          let t = slot l k (s k) g′ (wrong-in y (asked l k (s k)) m .0) in
+          cells-apart l c (t .cell) f (t .word) (member k g′ (t .cell) (t .within)) g (t .fits) (e ∙ t .at)
+      elsewhere p (clear d lo out nz r) e =
+          words-apart l c d f 0 (λ _ q. omega arith) g (links-words l d 0 (omega arith)) (e ∙ ap (λ (q : Write). q .at) r ∙ ident-word l d)
+
+  pub final-lists : (x : SoundLists l Final) × (x .sequence ≡ s)
+  final-lists = whole-sound l y s exact a
+
+  pub final-list : (j : ℕ) → j < l .lists → IsList l Final j (s j)
+  final-list j h = subst (λ (t : ℕ → List ℕ). IsList l Final j (t j)) (final-lists .1) (final-lists .0 .lists j h)
+
+  pub final-zero : (c : ℕ) → Node l c → (c ∈ joined s (l .lists) → ⊥) → getD Final (identAt l c) 0 ≡ 0
+  final-zero c n o =
+      final-lists .0 .outside c n
+      (λ k h m. o (one-joined s (l .lists) k c h (subst (λ (t : ℕ → List ℕ). c ∈ t k) (final-lists .1) m)))
+
+  -- a list's words are those of any store that has the same list, if its members' records are
+  pub final-words : (w : List ℕ) (j : ℕ) → j < l .lists → IsList l w j (s j)
+      → ((c f : ℕ) → c ∈ s j → 3 ≤ f → f < cellWords l c → getD y (cellAt l c + f) 0 ≡ getD w (cellAt l c + f) 0)
+      → SameCells l w Final (j ∷ s j)
+  final-words w j h i records c f m g = by (decLt f 3) m
+    where
+      by : Dec (f < 3) → c ∈ (j ∷ s j) → getD Final (cellAt l c + f) 0 ≡ getD w (cellAt l c + f) 0
+      by (yes z) q = same-links l w Final j h (s j) i (final-list j h) c f m (inl z)
+      by (no z) (List·Memᴰ·head e) =
+          same-links l w Final j h (s j) i (final-list j h) c f m (inr (e, last e))
+        where
+          last : c ≡ j → f ≡ 3
+          last q = omega (arith, words-header l j h, ap (cellWords l) q)
+      by (no z) (List·Memᴰ·tail q) =
+          final-records c f (all-in (Node l) (s j) (a .fits j h .nodes) q .low) (omega arith) g ∙ records c f q (omega arith) g
