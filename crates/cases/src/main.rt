@@ -9,25 +9,35 @@
 //     5               check           prints 'check = NUMBER'
 //     6 k             length          prints 'length k = NUMBER LENGTH'
 //     7 k p           read            prints 'read k p = NUMBER:' and the record's words
+//     8 k p c m v1 .. vm a            insert of the record v1 .. vm (at most 64 words) from cell c on, allowance a
+//                                     prints 'insert k p c m a = ANSWER', then the words or their checksum
+//     9 k p a         delete          prints 'delete k p a = ANSWER', then the same
 //
-// Words outside the store are not stored. An unknown operation, or an entry that is cut short, ends the run with the line
-// 'bad script'. The last line is 'end'.
+// An ANSWER is 'done', 'stopped' or 'refused' and its number. Words outside the store are not stored. An unknown operation, an
+// entry that is cut short or a record that is too long ends the run with the line 'bad script'. The last line is 'end'.
 use libc::STDIN_FILENO;
 use libc::STDOUT_FILENO;
+use stores::Answer;
 ghost use mathlib.Core.Path.{_≡_};
 ghost use Prim.Native.Nat.{_≤_, _<_};
 ghost use lib.ListN.{length};
 
-fn script_buffer() -> [u8; 524288]
-    ensures { λ r. ⌜ 524288 ≡ length r ⌝ }
+fn script_buffer() -> [u8; 1048576]
+    ensures { λ r. ⌜ 1048576 ≡ length r ⌝ }
 {
-    [0; 524288]
+    [0; 1048576]
 }
 
 fn store_buffer() -> [u16; 32100]
     ensures { λ r. ⌜ 32100 ≡ length r ⌝ }
 {
     [0; 32100]
+}
+
+fn record_buffer() -> [u16; 64]
+    ensures { λ r. ⌜ 64 ≡ length r ⌝ }
+{
+    [0; 64]
 }
 
 // Word i of the bytes, 0 past their end.
@@ -69,6 +79,26 @@ fn print_store(words: &[u16]) {
     printing::text(b"checksum = ");
     io::print_decimal(STDOUT_FILENO, checksum(words));
     printing::text(b"\n");
+}
+
+// How a call that stores ended, and what it left.
+fn print_answer(answer: Answer, words: &[u16]) {
+    match answer {
+        Answer::Done(n) => {
+            printing::text(b" = done");
+            printing::spaced(n);
+        }
+        Answer::Stopped(n) => {
+            printing::text(b" = stopped");
+            printing::spaced(n);
+        }
+        Answer::Refused(n) => {
+            printing::text(b" = refused");
+            printing::spaced(n);
+        }
+    }
+    printing::text(b"\n");
+    print_store(words);
 }
 
 // Operation 1: the first n words, or all if there are fewer, become v. The answer is how many.
@@ -144,6 +174,70 @@ fn read(words: &[u16], list: u16, position: u16) {
     printing::words(axle_store::read(words, list, position));
 }
 
+// The words of an insert's entry behind m: first those of the record.
+fn record_of(entry: &[u8]) -> [u16; 64]
+    ensures { λ r. ⌜ 64 ≡ length r ⌝ }
+{
+    let mut rec = record_buffer();
+    let mut i: usize = 0;
+    while i < 64 {
+        rec[i] = word(entry, 5 + i);
+        i += 1;
+    }
+    rec
+}
+
+// Inserts the first m words of rec.
+fn insert_first(
+    words: &mut [u16],
+    list: u16,
+    position: u16,
+    start: u16,
+    rec: &[u16],
+    m: usize,
+    allowance: u16,
+) -> Answer
+    requires { ⌜ m ≤ length (now rec) ⌝ }
+{
+    axle_store::insert(words, list, position, start, &rec[..m], allowance)
+}
+
+// Operation 8.
+fn insert(words: &mut [u16], entry: &[u8]) {
+    let list = word(entry, 1);
+    let position = word(entry, 2);
+    let start = word(entry, 3);
+    let m = word(entry, 4) as usize;
+    if 64 < m {
+        return;
+    }
+    let allowance = word(entry, 5 + m);
+    printing::text(b"insert");
+    printing::spaced(list);
+    printing::spaced(position);
+    printing::spaced(start);
+    printing::spaced(word(entry, 4));
+    printing::spaced(allowance);
+    let rec = record_of(entry);
+    let answer = insert_first(words, list, position, start, &rec, m, allowance);
+    print_answer(answer, words);
+}
+
+// Operation 9.
+fn delete(words: &mut [u16], list: u16, position: u16, allowance: u16) {
+    printing::text(b"delete");
+    printing::spaced(list);
+    printing::spaced(position);
+    printing::spaced(allowance);
+    let answer = axle_store::delete(words, list, position, allowance);
+    print_answer(answer, words);
+}
+
+// The number of words of an insert's entry whose record has m words, 0 if that is too many.
+fn insert_words(m: u16) -> usize {
+    if 64 < m { 0 } else { 6 + m as usize }
+}
+
 // The number of words of the entry that the script begins with, 0 for an unknown operation.
 fn entry_words(script: &[u8]) -> usize {
     match word(script, 0) {
@@ -152,6 +246,8 @@ fn entry_words(script: &[u8]) -> usize {
         4 => 4,
         5 => 1,
         6 => 2,
+        8 => insert_words(word(script, 4)),
+        9 => 4,
         _ => 0,
     }
 }
@@ -178,6 +274,8 @@ fn perform(entry: &[u8], words: &mut [u16]) {
         5 => check(words),
         6 => length_of(words, word(entry, 1)),
         7 => read(words, word(entry, 1), word(entry, 2)),
+        8 => insert(words, entry),
+        9 => delete(words, word(entry, 1), word(entry, 2), word(entry, 3)),
         _ => {}
     }
 }

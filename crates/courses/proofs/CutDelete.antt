@@ -74,6 +74,7 @@ module _ (l : Layout) (w : List ℕ) (exact : length w ≡ sizeOf l) (s : SoundL
           right-forward l Cut k S (forwards-right l w Cut k hk S own (altered (site .after) 2 0) kept-cut (λ x t. omega (arith, t .1)));
         other = deleteAt p S;
         nodes = new .nodes;
+        within = D.delete-member l w exact s k hk p hp;
         back =
           backward-same (viewOf l (run full w) .back) (viewOf l Cut .back) k (deleteAt p S) k (λ x m. back-cut x)
           (D.backs l w exact s k hk p hp);

@@ -40,6 +40,7 @@ settled l w y k h s i alt kept a b =
       forward = right-forward l y k s (forwards-right l w y k h s i alt kept a);
       other = s;
       nodes = i .nodes;
+      within = λ c m. m;
       back = right-backward l y k s (backs-right l w y k h s i alt kept b);
       told = inl refl
     }
@@ -134,6 +135,7 @@ module _ (l : Layout) (w : List ℕ) (exact : length w ≡ sizeOf l) (s : SoundL
           (forwards-right l (run full w) Cut k hk (insertAt p i S) new (altered (site .after) 2 0) kept-cut (λ c t. omega (arith, t .1)));
         other = S;
         nodes = own .nodes;
+        within = I.member-insert l w exact s k hk p hp i hi free words size;
         back =
           backward-same (viewOf l w .back) (viewOf l Cut .back) k S k
           (λ c m.

@@ -18,12 +18,12 @@ use Rattle.lists.specs.Decide.{viewOf, countIn}
 use Rattle.lists.proofs.Agree.{Holds, agrees-holds}
 use Rattle.lists.proofs.Same.{ident-word, count-word}
 use Rattle.recovery.specs.Fits.{wrong, Fits}
-use Rattle.recovery.specs.Plan.{joined, recoverStores, Accepted}
+use Rattle.recovery.specs.Plan.{joined, recoverStores, Accepted, Kind, mend, clear}
 use Rattle.recovery.proofs.Slots.{Value, ident, forward, back, count, Slot, slot}
 use Rattle.recovery.proofs.Step.{wrong-in}
 use Rattle.recovery.proofs.Suffix.{one-joined, joined-one}
 use Rattle.recovery.proofs.Whole.{whole-sound}
-use Rattle.recovery.proofs.Count.{Kind, mend, clear, plan-kinds}
+use Rattle.recovery.proofs.Count.{plan-kinds}
 use Rattle.courses.proofs.Rival.{step-from, step-to, step-at}
 
 -- two stores in which list j has the sequence s hold the same words in its header and the same links in its members
@@ -80,9 +80,9 @@ module _ (l : Layout) (y : List ℕ) (exact : length y ≡ sizeOf l) (s : ℕ �
   plan-spares b h =
       in-all-writes (λ (p : Write). b ≡ p .at → ⊥) (recoverStores l y s) (λ p m. h p (at-write (Kind l y s) (recoverStores l y s) (plan-kinds l y s) m))
 
-  -- words 0 to 7 stay
-  pub final-head : (b : ℕ) → b < 8 → getD Final b 0 ≡ getD y b 0
-  final-head b h = run-out (recoverStores l y s) y b (plan-spares b elsewhere)
+  -- no store goes to words 0 to 7
+  pub head-spares : (b : ℕ) → b < 8 → Spares b (recoverStores l y s)
+  head-spares b h = plan-spares b elsewhere
     where
       elsewhere : (p : Write) → Kind l y s p → b ≡ p .at → ⊥
       elsewhere p (mend k g m) e =
@@ -90,7 +90,10 @@ module _ (l : Layout) (y : List ℕ) (exact : length y ≡ sizeOf l) (s : ℕ �
           omega (arith, t .at, cell-behind l (t .cell))
       elsewhere p (clear c low out nz r) e = omega (arith, ap (λ (q : Write). q .at) r, cell-behind l c)
 
-  -- so do the words behind the links of every node
+  pub final-head : (b : ℕ) → b < 8 → getD Final b 0 ≡ getD y b 0
+  final-head b h = run-out (recoverStores l y s) y b (head-spares b h)
+
+  -- nor to the words behind the links of a node
   pub final-records : (c f : ℕ) → firstNode l ≤ c → 3 ≤ f → f < cellWords l c → getD Final (cellAt l c + f) 0 ≡ getD y (cellAt l c + f) 0
   final-records c f low h g = run-out (recoverStores l y s) y (cellAt l c + f) (plan-spares (cellAt l c + f) elsewhere)
     where
@@ -106,7 +109,7 @@ module _ (l : Layout) (y : List ℕ) (exact : length y ≡ sizeOf l) (s : ℕ �
       elsewhere p (clear d lo out nz r) e =
           words-apart l c d f 0 (λ _ q. omega arith) g (links-words l d 0 (omega arith)) (e ∙ ap (λ (q : Write). q .at) r ∙ ident-word l d)
 
-  -- and all words of a node in no list but its identifier, which is 0
+  -- nor to a word of a node in no list but its identifier, which ends as 0
   pub final-outside : (c f : ℕ) → Node l c → (c ∈ joined s (l .lists) → ⊥) → 1 ≤ f → f < cellWords l c → getD Final (cellAt l c + f) 0 ≡ getD y (cellAt l c + f) 0
   final-outside c f n o h g = run-out (recoverStores l y s) y (cellAt l c + f) (plan-spares (cellAt l c + f) elsewhere)
     where

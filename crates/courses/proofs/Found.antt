@@ -184,16 +184,14 @@ module _ (l : Layout) (w : List ℕ) (s : SoundLists l w) (k : ℕ) (alts : ℕ 
     pub found-accepted
         : (t : List ℕ)
         → (k < l .lists
-          → (o : Own l y₀ k t)
-            × ((c : ℕ) → c ∈ (k ∷ t) → (j : ℕ) → j < l .lists → (j ≡ k → ⊥) → c ∈ (j ∷ s .sequence j) → ⊥)
-            × ((c : ℕ) → c ∈ (k ∷ o .other) → (j : ℕ) → j < l .lists → (j ≡ k → ⊥) → c ∈ (j ∷ s .sequence j) → ⊥))
+          → Own l y₀ k t × ((c : ℕ) → c ∈ (k ∷ t) → (j : ℕ) → j < l .lists → (j ≡ k → ⊥) → c ∈ (j ∷ s .sequence j) → ⊥))
         → Accepted l y (replaced (s .sequence) k t)
     found-accepted t own = record { fits = λ j h. told j h .0; unique = λ j h. told j h .1 }
       where
         named : (h : k < l .lists) → Own l y k t
         named h =
             let o = own h in
-            own-same l y₀ y k h t (o .0) (λ c f m g. kept-outside c f g (o .1 c m)) (λ c f m g. kept-outside c f g (o .2 c m))
+            own-same l y₀ y k h t (o .0) (λ c f m g. kept-outside c f g (o .1 c m))
         told : (j : ℕ) → j < l .lists → Fits l y j (replaced (s .sequence) k t j) × ((r : List ℕ) → Fits l y j r → r ≡ replaced (s .sequence) k t j)
         told j h = by (ℕ-discrete j k)
           where

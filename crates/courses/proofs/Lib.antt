@@ -5,3 +5,9 @@ pub mod CutInsert
 pub mod CutDelete
 pub mod Found
 pub mod Final
+pub mod Cut
+pub mod InsertCut
+pub mod DeleteCut
+pub mod Recoveries
+pub mod EditCut
+pub mod Course

@@ -21,12 +21,14 @@ use Rattle.recovery.specs.Fits.{wrong, Fits, backwardOf}
 use Rattle.recovery.proofs.Candidates.{sequence-dec, forward-right, forward-candidate, candidates, rivals}
 use Rattle.recovery.proofs.Step.{fits-same}
 
--- a sequence s fits and its forward links are right; the back links lead round t, which is s or has another length than the count
+-- a sequence s fits and its forward links are right; the back links lead through some of its members, which are all of them or another
+-- number than the count
 pub record Own (l : Layout) (y : List ℕ) (k : ℕ) (s : List ℕ) : Type 0 where
   pub fits : Fits l y k s
   pub forward : Forward (viewOf l y .forward) k s k
   pub other : List ℕ
   pub nodes : All (Node l) other
+  pub within : (c : ℕ) → c ∈ other → c ∈ s
   pub back : Backward (viewOf l y .back) k other k
   pub told : (other ≡ s) ⊎ (countIn y k ≡ length other → ⊥)
 
@@ -49,20 +51,23 @@ own-unique l y k h s o r f = by (sequence-dec r s) (candidates l y k h r f) (o .
           (rivals l y k h r s f (o .fits) n))
 
 -- what is so of a list is so in words that are the same in the cells concerned
-pub own-same : (l : Layout) (y x : List ℕ) (k : ℕ) → k < l .lists → (s : List ℕ) (o : Own l y k s)
-    → SameCells l y x (k ∷ s) → SameCells l y x (k ∷ o .other) → Own l x k s
-own-same l y x k h s o a b =
+pub own-same : (l : Layout) (y x : List ℕ) (k : ℕ) → k < l .lists → (s : List ℕ) → Own l y k s → SameCells l y x (k ∷ s) → Own l x k s
+own-same l y x k h s o a =
     record {
       fits = fits-same l y x k h s a (o .fits);
       forward = forward-same (viewOf l y .forward) (viewOf l x .forward) k s k (λ c m. a c 1 m (links-words l c 1 (omega arith))) (o .forward);
       other = o .other;
       nodes = o .nodes;
+      within = o .within;
       back =
         backward-same (viewOf l y .back) (viewOf l x .back) k (o .other) k
-        (λ c m. b c 2 (in-front k (o .other) m) (links-words l c 2 (omega arith))) (o .back);
+        (λ c m. a c 2 (among c (in-front k (o .other) m)) (links-words l c 2 (omega arith))) (o .back);
       told = ⊎-elim inl (λ n. inr (λ e. n (sym count ∙ e))) (o .told)
     }
   where
+    among : (c : ℕ) → c ∈ (k ∷ o .other) → c ∈ (k ∷ s)
+    among c (List·Memᴰ·head e) = List·Memᴰ·head e
+    among c (List·Memᴰ·tail m) = List·Memᴰ·tail (o .within c m)
     count : countIn x k ≡ countIn y k
     count =
         ap (λ (n : ℕ). getD x n 0) (count-word l k h) ∙ a k 3 (List·Memᴰ·head refl) (omega (arith, words-header l k h))

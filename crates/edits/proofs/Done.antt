@@ -156,13 +156,13 @@ edit w s k t ps head lists others records =
 
 module _ (w : List ℕ) (s : Sound w) (k p : ℕ) (l : Layout) (t : Site) where
   -- the layout is that of the words, and the sequence is the list's own
-  its-layout : (q : Request) → lookOf w q ≡ K.At l t → l ≡ layoutOf w
+  pub its-layout : (q : Request) → lookOf w q ≡ K.At l t → l ≡ layoutOf w
   its-layout q e = opened-open w l (looked w q l t e .0) .0
 
-  its-site : (q : Request) → lookOf w q ≡ K.At l t → siteOf (layoutOf w) w q ≡ At t
+  pub its-site : (q : Request) → lookOf w q ≡ K.At l t → siteOf (layoutOf w) w q ≡ At t
   its-site q e = subst (λ (m : Layout). siteOf m w q ≡ At t) (its-layout q e) (looked w q l t e .1)
 
-  its-sequence : k < layoutOf w .lists → sequenceOf (layoutOf w) w k ≡ s .lists .sequence k
+  pub its-sequence : k < layoutOf w .lists → sequenceOf (layoutOf w) w k ≡ s .lists .sequence k
   its-sequence h = list-sequence (layoutOf w) w k h (s .lists .sequence k) (s .lists .lists k h)
 
   -- insert

@@ -1,3 +1,5 @@
 pub mod Walks
 pub mod Erasing
 pub mod AllLists
+pub mod Cleared
+pub mod Fitting

@@ -20,16 +20,11 @@ use Rattle.layout.proofs.Apart.{cells-apart, links-words}
 use Rattle.lists.specs.Lists.{asked}
 use Rattle.lists.proofs.Same.{ident-word}
 use Rattle.recovery.specs.Fits.{wrong, Fits}
-use Rattle.recovery.specs.Plan.{joined, isIn, clears, storesFrom, recoverStores, Accepted, differing}
+use Rattle.recovery.specs.Plan.{joined, isIn, clears, storesFrom, recoverStores, Accepted, differing, Kind, mend, clear}
 use Rattle.recovery.proofs.Disjoint.{fits-disjoint}
 use Rattle.recovery.proofs.Slots.{Slot, slot}
 use Rattle.recovery.proofs.Step.{wrong-in, mend-own}
 use Rattle.recovery.proofs.Suffix.{isIn-in, one-joined, clear-skip, clear-here, Next, next}
-
--- where a store of the plan goes: to a wrong word of a list, or to the identifier of a node in none that is not 0
-pub data Kind (l : Layout) (w : List ℕ) (s : ℕ → List ℕ) (p : Write) : Type 0 where
-  mend : (k : ℕ) → k < l .lists → List·Memᴰ p (wrong w (asked l k (s k))) → Kind l w s p
-  clear : (c : ℕ) → firstNode l ≤ c → (c ∈ joined s (l .lists) → ⊥) → (getD w (identAt l c) 0 ≡ 0 → ⊥) → p ≡ write (identAt l c) 0 → Kind l w s p
 
 in-all-writes : (P : Write → Type 0) (ps : List Write) → ((p : Write) → List·Memᴰ p ps → P p) → All P ps
 in-all-writes P [] h = tt

@@ -1,10 +1,11 @@
 -- What recovery stores.
-use Prim.Native.Nat.{ℕ, zero, suc, _+_, _<_}
+use Prim.Native.Nat.{ℕ, zero, suc, _+_, _<_, _≤_}
 use mathlib.Core.Path.{_≡_}
-use mathlib.Core.List.{List, [], _∷_, _++_}
+use mathlib.Core.List.{List, [], _∷_, _++_, List·Memᴰ}
 use mathlib.Core.Bool.{Bool, true, false, _||_, cond}
 use lib.Dec.{eqb}
 use lib.ListN.{length, getD}
+use Rattle.sequences.specs.Sequence.{_∈_}
 use Rattle.stores.specs.Stores.{Write, write, Plan, refuse, stores}
 use Rattle.layout.specs.declared.Layout.{Layout}
 use Rattle.layout.specs.Words.{firstNode, identAt, opened, afterOpen, ask}
@@ -72,3 +73,8 @@ unfoldable pub differing : List ℕ → List ℕ → ℕ
 differing [] x = 0
 differing (a ∷ w) [] = 0
 differing (a ∷ w) (b ∷ x) = cond (eqb a b) 0 1 + differing w x
+
+-- where a store of the plan goes: to a wrong word of a list, or to the identifier of a node in none that is not 0
+pub data Kind (l : Layout) (w : List ℕ) (s : ℕ → List ℕ) (p : Write) : Type 0 where
+  mend : (k : ℕ) → k < l .lists → List·Memᴰ p (wrong w (asked l k (s k))) → Kind l w s p
+  clear : (c : ℕ) → firstNode l ≤ c → (c ∈ joined s (l .lists) → ⊥) → (getD w (identAt l c) 0 ≡ 0 → ⊥) → p ≡ write (identAt l c) 0 → Kind l w s p

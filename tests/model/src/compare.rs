@@ -60,9 +60,9 @@ mod tests {
     use super::*;
     use crate::script::lines_of;
 
-    /// The lines of a script that gives four of the answers, and the output of a right program.
+    /// The lines of a script that gives six of the answers, and the output of a right program.
     fn sample() -> (Vec<Line>, String) {
-        let words: [u16; 13] = [1, 24, 7, 4, 1, 3, 1, 5, 6, 0, 7, 0, 0];
+        let words: [u16; 24] = [1, 24, 7, 4, 1, 3, 1, 5, 6, 0, 7, 0, 0, 8, 0, 0, 2, 1, 700, 65_535, 9, 0, 0, 2];
         let lines = lines_of(&words.iter().flat_map(|w| w.to_le_bytes()).collect::<Vec<u8>>());
         let output = lines.iter().map(|line| line.text.clone() + "\n").collect();
         (lines, output)
@@ -72,13 +72,14 @@ mod tests {
         lines.len() - compare(lines, output).passed.min(lines.len())
     }
 
-    /// The answers that the sample does not give are all that fails: 20 of 24.
+    /// The answers that the sample does not give are all that fails: 89 of 95.
     #[test]
     fn right_output() {
         let (lines, output) = sample();
         let report = compare(&lines, &output);
-        assert_eq!((report.passed, report.failed), (lines.len() + 4, 20));
+        assert_eq!((report.passed, report.failed), (lines.len() + 6, 89));
         assert!(report.text.contains(&"check: 1 lines, answers {0}".to_string()));
+        assert!(report.text.contains(&"insert done: 1 lines, answers {7}".to_string()));
     }
 
     /// Every single digit that is changed is noticed, in its own line alone.

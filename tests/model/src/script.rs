@@ -1,9 +1,12 @@
 //! Scripts of the program `cases`: the operations, and the lines that a run must print.
 
-use crate::store;
+use crate::store::{self, Answer};
 
 /// The words that the program holds.
 pub const CAPACITY: usize = 32_100;
+
+/// The most words of a record that an entry has.
+pub const LONGEST: usize = 64;
 
 #[derive(Clone, Debug, PartialEq, Eq)]
 pub enum Operation {
@@ -14,6 +17,8 @@ pub enum Operation {
     Check,
     Length { list: u16 },
     Read { list: u16, position: u16 },
+    Insert { list: u16, position: u16, start: u16, record: Vec<u16>, allowance: u16 },
+    Delete { list: u16, position: u16, allowance: u16 },
 }
 
 use Operation::*;
@@ -28,6 +33,10 @@ impl Operation {
             Check => vec![5],
             Length { list } => vec![6, list],
             Read { list, position } => vec![7, list, position],
+            Insert { list, position, start, ref record, allowance } => {
+                [&[8, list, position, start, record.len() as u16], &record[..], &[allowance]].concat()
+            }
+            Delete { list, position, allowance } => vec![9, list, position, allowance],
         }
     }
 
@@ -41,6 +50,11 @@ impl Operation {
             [5, ..] => Check,
             [6, list, ..] => Length { list },
             [7, list, position, ..] => Read { list, position },
+            [8, list, position, start, n, ref rest @ ..] if usize::from(n) <= LONGEST => {
+                let (record, &allowance) = (rest.get(..n.into())?.to_vec(), rest.get(usize::from(n))?);
+                Insert { list, position, start, record, allowance }
+            }
+            [9, list, position, allowance, ..] => Delete { list, position, allowance },
             _ => return None,
         })
     }
@@ -78,6 +92,16 @@ impl Operation {
                 let (number, part) = store::read(words, list, position).map_or_else(|n| (n, &[][..]), |part| (0, part));
                 vec![Line::answer("read", number, format!("read {list} {position} = {number}:{}", spaced(part)))]
             }
+            Insert { list, position, start, ref record, allowance } => {
+                let answer = store::insert(words, list, position, start, record, allowance);
+                let call = format!("insert {list} {position} {start} {} {allowance}", record.len());
+                vec![Line::ended(&INSERT, answer, allowance, call), words_line(words)]
+            }
+            Delete { list, position, allowance } => {
+                let answer = store::delete(words, list, position, allowance);
+                let call = format!("delete {list} {position} {allowance}");
+                vec![Line::ended(&DELETE, answer, allowance, call), words_line(words)]
+            }
         }
     }
 }
@@ -101,7 +125,7 @@ fn words_line(words: &[u16]) -> Line {
     }
 }
 
-/// A line that is printed. Of a call: its name and the number of its answer.
+/// A line that is printed. Of a call: its name, how it ended if it stores, and the number of its answer.
 #[derive(Clone, Debug, PartialEq, Eq)]
 pub struct Line {
     pub text: String,
@@ -116,14 +140,36 @@ impl Line {
     fn answer(call: &'static str, number: u16, text: String) -> Line {
         Line { text, answer: Some((call, number)) }
     }
+
+    /// Of a call that stores; the names are those of its ends.
+    fn ended(names: &[&'static str; 4], answer: Answer, allowance: u16, call: String) -> Line {
+        let (name, end, n) = match answer {
+            Answer::Done(n) => (names[0], "done", n),
+            Answer::Stopped(n) => (names[1], "stopped", n),
+            Answer::Refused(n) => (names[if allowance == 0 { 2 } else { 3 }], "refused", n),
+        };
+        Line::answer(name, n, format!("{call} = {end} {n}"))
+    }
 }
 
+/// The ends of insert and delete; refused without an allowance is one of its own.
+const INSERT: [&str; 4] = ["insert done", "insert stopped", "insert refused with 0", "insert refused"];
+const DELETE: [&str; 4] = ["delete done", "delete stopped", "delete refused with 0", "delete refused"];
+
 /// The answer numbers that each call can give.
-pub const ANSWERS: [(&str, &[u16]); 4] = [
+pub const ANSWERS: [(&str, &[u16]); 12] = [
     ("format", &[0, 3, 4]),
     ("check", &[0, 1, 2, 3, 4, 6]),
     ("length", &[0, 1, 2, 3, 4, 5, 6]),
     ("read", &[0, 1, 2, 3, 4, 5, 6, 7]),
+    (INSERT[0], &[7, 8, 9, 10, 11, 12, 13, 14, 15, 16, 17, 18, 19]),
+    (INSERT[1], &[0, 1, 2, 3, 4, 5, 6, 7, 8, 9, 10, 11, 12, 13, 14, 15, 16, 17, 18]),
+    (INSERT[2], &[1, 2, 3, 4, 5, 6, 7, 8, 9, 10]),
+    (INSERT[3], &[1, 2, 3, 4, 5, 6, 7, 8, 9, 10]),
+    (DELETE[0], &[4]),
+    (DELETE[1], &[0, 1, 2, 3]),
+    (DELETE[2], &[1, 2, 3, 4, 5, 6, 7]),
+    (DELETE[3], &[1, 2, 3, 4, 5, 6, 7]),
 ];
 
 /// The lines that a run of the script must print. A word of it is two bytes, low byte first.
@@ -166,6 +212,9 @@ mod tests {
             Check,
             Length { list: 2 },
             Read { list: 2, position: 4 },
+            Insert { list: 2, position: 4, start: 5, record: vec![], allowance: 6 },
+            Insert { list: 2, position: 4, start: 5, record: vec![7; LONGEST], allowance: 6 },
+            Delete { list: 2, position: 4, allowance: 6 },
         ];
         for operation in all {
             let words = operation.words();
@@ -182,6 +231,11 @@ mod tests {
         assert_eq!(texts(&bytes(&[5, 7, 0])), ["check = 1", "bad script", "end"]);
         assert_eq!(texts(&bytes(&[3, 0, 2, 1])), ["bad script", "end"]);
         assert_eq!(texts(&[5, 0, 5]), ["check = 1", "bad script", "end"]);
+        assert_eq!(texts(&bytes(&[8, 0, 0, 0, 1, 7])), ["bad script", "end"]);
+        let longest = [&[8, 0, 0, 0, 64], &[7; 64][..], &[0]].concat();
+        assert_eq!(texts(&bytes(&longest)), ["insert 0 0 0 64 0 = refused 1", "words =", "end"]);
+        let too_long = [&[8, 0, 0, 0, 65], &[7; 65][..], &[0]].concat();
+        assert_eq!(texts(&bytes(&too_long)), ["bad script", "end"]);
     }
 
     #[test]

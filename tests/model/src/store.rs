@@ -1,7 +1,8 @@
-//! A store is a slice of words. Here is what its words mean, when it is sound, and what format, check, length and read
-//! answer.
+//! A store is a slice of words. Here is what its words mean, when it is sound, and what format, check, length, read, insert
+//! and delete answer and leave.
 
 use std::collections::HashSet;
+use std::ops::Range;
 
 /// The identifier of list 0.
 pub const IDENTIFIER: u16 = 42_400;
@@ -32,7 +33,7 @@ impl Shape {
     }
 
     /// The cells that are nodes.
-    pub fn node_cells(self) -> std::ops::Range<usize> {
+    pub fn node_cells(self) -> Range<usize> {
         self.lists..self.lists + self.nodes
     }
 
@@ -186,26 +187,154 @@ pub fn check(words: &[u16]) -> u16 {
     }
 }
 
-/// Questions 1 to 6 of a call that names a list: the store's shape and the list's sequence, or the number of the refusal.
-fn list_of(words: &[u16], list: u16) -> Result<(Shape, Vec<usize>), u16> {
+/// Questions 1 to 6 of a call that names a list: the store's shape and each list's sequence, or the number of the refusal.
+fn lists_of(words: &[u16], list: u16) -> Result<(Shape, Vec<Vec<usize>>), u16> {
     let shape = open(words)?;
     if usize::from(list) >= shape.lists {
         return Err(5);
     }
-    let mut found = lists(words, shape).ok_or(6u16)?;
-    Ok((shape, found.swap_remove(list.into())))
+    Ok((shape, lists(words, shape).ok_or(6u16)?))
 }
 
 /// Length: the list's length, or the number of the refusal.
 pub fn length(words: &[u16], list: u16) -> Result<u16, u16> {
-    list_of(words, list).map(|(_, sequence)| sequence.len() as u16)
+    let (_, lists) = lists_of(words, list)?;
+    Ok(lists[usize::from(list)].len() as u16)
+}
+
+/// The record of a node.
+fn record_of(words: &[u16], shape: Shape, cell: usize) -> &[u16] {
+    &words[shape.cell(cell) + 3..][..shape.width]
 }
 
 /// Read: the record's words, or the number of the refusal.
 pub fn read(words: &[u16], list: u16, position: u16) -> Result<&[u16], u16> {
-    let (shape, sequence) = list_of(words, list)?;
-    let &cell = sequence.get(usize::from(position)).ok_or(7u16)?;
-    Ok(&words[shape.cell(cell) + 3..][..shape.width])
+    let (shape, lists) = lists_of(words, list)?;
+    let &cell = lists[usize::from(list)].get(usize::from(position)).ok_or(7u16)?;
+    Ok(record_of(words, shape, cell))
+}
+
+/// The answer of a call that stores: done or stopped after so many stores, or the number of its refusal.
+#[derive(Clone, Copy, Debug, PartialEq, Eq)]
+pub enum Answer {
+    Done(u16),
+    Stopped(u16),
+    Refused(u16),
+}
+
+/// A word store: the word's place, and what it becomes.
+type WordStore = (usize, u16);
+
+/// Makes the first stores of the list, up to the allowance: the answer, and the words then.
+fn make(words: &[u16], stores: &[WordStore], allowance: u16) -> (Answer, Vec<u16>) {
+    let mut words = words.to_vec();
+    for &(at, value) in stores.iter().take(allowance.into()) {
+        words[at] = value;
+    }
+    let whole = stores.len() as u16;
+    (if allowance < whole { Answer::Stopped(allowance) } else { Answer::Done(whole) }, words)
+}
+
+/// The nodes in no list, counting up from the starting cell and on from cell L after the last.
+fn free_cells(shape: Shape, lists: &[Vec<usize>], start: usize) -> Vec<usize> {
+    let members: HashSet<usize> = lists.iter().flatten().copied().collect();
+    let Range { start: first, end } = shape.node_cells();
+    (start..end).chain(first..start).filter(|cell| !members.contains(cell)).collect()
+}
+
+/// The cells before and after a place of the sequence: at its ends the header.
+fn neighbours(list: usize, before: &[usize], after: &[usize]) -> (usize, usize) {
+    (*before.last().unwrap_or(&list), *after.first().unwrap_or(&list))
+}
+
+/// The cell that an insert uses and its stores in their order, or the number of the refusal.
+fn insert_plan(words: &[u16], list: u16, position: u16, start: u16, record: &[u16]) -> Result<(usize, Vec<WordStore>), u16> {
+    let (shape, lists) = lists_of(words, list)?;
+    let sequence = &lists[usize::from(list)];
+    if usize::from(position) > sequence.len() {
+        return Err(7);
+    }
+    if !shape.node_cells().contains(&start.into()) {
+        return Err(8);
+    }
+    if record.len() != shape.width {
+        return Err(9);
+    }
+    let &cell = free_cells(shape, &lists, start.into()).first().ok_or(10u16)?;
+    let (before, after) = sequence.split_at(position.into());
+    let (a, b) = neighbours(list.into(), before, after);
+    let mut stores: Vec<WordStore> = vec![];
+    for (i, &word) in record.iter().enumerate() {
+        stores.push((shape.cell(cell) + 3 + i, word));
+    }
+    stores.push((shape.cell(cell) + 1, b as u16));
+    stores.push((shape.cell(cell) + 2, a as u16));
+    stores.push((shape.cell(cell), identifier_of(list.into())));
+    stores.push((shape.cell(list.into()) + 3, sequence.len() as u16 + 1));
+    stores.push((shape.cell(a) + 1, cell as u16));
+    stores.push((shape.cell(b) + 2, cell as u16));
+    Ok((cell, stores))
+}
+
+/// The cell that a delete frees and its stores in their order, or the number of the refusal.
+fn delete_plan(words: &[u16], list: u16, position: u16) -> Result<(usize, Vec<WordStore>), u16> {
+    let (shape, lists) = lists_of(words, list)?;
+    let sequence = &lists[usize::from(list)];
+    if usize::from(position) >= sequence.len() {
+        return Err(7);
+    }
+    let (before, rest) = sequence.split_at(position.into());
+    let (cell, after) = (rest[0], &rest[1..]);
+    let (a, b) = neighbours(list.into(), before, after);
+    let stores = vec![
+        (shape.cell(b) + 2, a as u16),
+        (shape.cell(a) + 1, b as u16),
+        (shape.cell(list.into()) + 3, sequence.len() as u16 - 1),
+        (shape.cell(cell), 0),
+    ];
+    Ok((cell, stores))
+}
+
+/// A sound store as plain sequences: the cell and the record of each member of each list.
+fn contents(words: &[u16]) -> Vec<Vec<(usize, Vec<u16>)>> {
+    let shape = open(words).expect("a store");
+    let lists = lists(words, shape).expect("a sound store");
+    let member = |&cell: &usize| (cell, record_of(words, shape, cell).to_vec());
+    lists.iter().map(|sequence| sequence.iter().map(member).collect()).collect()
+}
+
+/// Insert. Done, it is held against the insertion into a plain sequence.
+pub fn insert(words: &mut [u16], list: u16, position: u16, start: u16, record: &[u16], allowance: u16) -> Answer {
+    let (cell, stores) = match insert_plan(words, list, position, start, record) {
+        Err(number) => return Answer::Refused(number),
+        Ok(plan) => plan,
+    };
+    let (answer, left) = make(words, &stores, allowance);
+    if let Answer::Done(_) = answer {
+        let mut expected = contents(words);
+        expected[usize::from(list)].insert(position.into(), (cell, record.to_vec()));
+        assert_eq!(contents(&left), expected, "an insert is not an insertion into a sequence");
+    }
+    words.copy_from_slice(&left);
+    answer
+}
+
+/// Delete. Done, it is held against the removal from a plain sequence, and the cell is free.
+pub fn delete(words: &mut [u16], list: u16, position: u16, allowance: u16) -> Answer {
+    let (cell, stores) = match delete_plan(words, list, position) {
+        Err(number) => return Answer::Refused(number),
+        Ok(plan) => plan,
+    };
+    let (answer, left) = make(words, &stores, allowance);
+    if let Answer::Done(_) = answer {
+        let mut expected = contents(words);
+        let (removed, _) = expected[usize::from(list)].remove(position.into());
+        assert_eq!((contents(&left), cell), (expected, removed), "a delete is not a removal from a sequence");
+        let (shape, lists) = lists_of(&left, list).expect("a sound store");
+        assert_eq!(free_cells(shape, &lists, cell).first(), Some(&cell), "a deleted cell is not free");
+    }
+    words.copy_from_slice(&left);
+    answer
 }
 
 #[cfg(test)]
@@ -232,6 +361,83 @@ mod tests {
         }
         assert_eq!((length(&words, 0), read(&words, 0, 0), read(&words, 0, 1)), (Ok(2), Ok(&[700][..]), Ok(&[512][..])));
         assert_eq!((length(&words, 1), read(&words, 0, 2)), (Err(5), Err(7)));
+    }
+
+    /// The words that differ.
+    fn changes(before: &[u16], after: &[u16]) -> Vec<WordStore> {
+        (0..before.len()).filter(|&i| before[i] != after[i]).map(|i| (i, after[i])).collect()
+    }
+
+    /// C1 to C8 of the marked store by calls, and what each allowance leaves.
+    #[test]
+    fn marked_edits() {
+        let mut c1 = vec![7; 24];
+        assert_eq!(format(&mut c1, 1, 3, 1), 0);
+        let mut c2 = c1.clone();
+        assert_eq!(insert(&mut c2, 0, 0, 2, &[700], 65_535), Answer::Done(7));
+        assert_eq!(changes(&c1, &c2), [(9, 2), (10, 2), (11, 1), (16, 42400), (19, 700)]);
+        let second = [(23, 512), (21, 0), (22, 2), (20, 42400), (11, 2), (17, 3), (10, 3)];
+        let mut c3 = c2.clone();
+        for allowance in 0..9u16 {
+            let mut expected = c2.clone();
+            second.iter().take(allowance.into()).for_each(|&(at, value)| expected[at] = value);
+            c3 = c2.clone();
+            let answer = insert(&mut c3, 0, 1, 2, &[512], allowance);
+            assert_eq!(answer, if allowance < 7 { Answer::Stopped(allowance) } else { Answer::Done(7) });
+            assert_eq!(c3, expected);
+        }
+        let removal = [(22, 0), (9, 3), (11, 1), (16, 0)];
+        for allowance in 0..6u16 {
+            let mut expected = c3.clone();
+            removal.iter().take(allowance.into()).for_each(|&(at, value)| expected[at] = value);
+            let mut c6 = c3.clone();
+            let answer = delete(&mut c6, 0, 0, allowance);
+            assert_eq!(answer, if allowance < 4 { Answer::Stopped(allowance) } else { Answer::Done(4) });
+            assert_eq!(c6, expected);
+            assert_eq!(check(&c6), if [0, 4, 5].contains(&allowance) { 0 } else { 6 });
+        }
+        let mut c8 = c3.clone();
+        assert_eq!(insert(&mut c8, 0, 3, 2, &[1], 65_535), Answer::Refused(7));
+        assert_eq!(c8, c3);
+        assert_eq!(insert(&mut c8, 0, 2, 2, &[1], 65_535), Answer::Done(7));
+    }
+
+    /// The refusals that only insert and delete give, each before the next and before the allowance.
+    #[test]
+    fn refused_edits() {
+        let shape = Shape::new(2, 2, 1);
+        let sound = store_of(shape, &[vec![3], vec![2]], || 9);
+        for (list, position, start, record, number) in [
+            (2, 9, 9, &[][..], 5),
+            (1, 2, 9, &[], 7),
+            (1, 1, 1, &[], 8),
+            (1, 1, 4, &[5, 5], 8),
+            (1, 1, 2, &[5, 5], 9),
+            (1, 0, 3, &[], 9),
+            (0, 1, 2, &[5], 10),
+        ] {
+            let mut words = sound.clone();
+            assert_eq!(insert(&mut words, list, position, start, record, 0), Answer::Refused(number));
+            assert_eq!(words, sound);
+        }
+        let mut words = sound.clone();
+        assert_eq!(delete(&mut words, 2, 9, 0), Answer::Refused(5));
+        assert_eq!(delete(&mut words, 1, 1, 0), Answer::Refused(7));
+        words[shape.cell(0) + 3] = 2;
+        assert_eq!(delete(&mut words, 1, 1, 0), Answer::Refused(6));
+        assert_eq!(insert(&mut words, 1, 2, 9, &[], 0), Answer::Refused(6));
+    }
+
+    #[test]
+    fn first_free_cell() {
+        let shape = Shape::new(2, 5, 1);
+        let lists = [vec![4, 2], vec![5]];
+        assert_eq!(free_cells(shape, &lists, 2), [3, 6]);
+        assert_eq!(free_cells(shape, &lists, 3), [3, 6]);
+        assert_eq!(free_cells(shape, &lists, 4), [6, 3]);
+        assert_eq!(free_cells(shape, &lists, 6), [6, 3]);
+        assert_eq!(free_cells(shape, &[vec![4, 2, 6], vec![5]], 4), [3]);
+        assert_eq!(free_cells(shape, &[vec![4, 2, 6], vec![3, 5]], 4), []);
     }
 
     #[test]

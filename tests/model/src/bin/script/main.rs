@@ -1,5 +1,7 @@
 //! script: writes the script of the program `cases` to standard output, the same at each run.
 
+mod edits;
+
 use model::random::Random;
 use model::script::{Operation, Operation::*, CAPACITY};
 use model::store::{self, store_of, Shape, IDENTIFIER};
@@ -554,6 +556,18 @@ fn main() -> std::io::Result<()> {
         several_reasons,
         random_damage,
         largest,
+        edits::marked_store,
+        edits::short_stores,
+        edits::smallest_stores,
+        edits::small_stores,
+        edits::cuts,
+        edits::equal_values,
+        edits::searches,
+        edits::limits,
+        edits::several_reasons,
+        edits::damage,
+        edits::histories,
+        edits::largest,
     ] {
         part(&mut script);
     }

@@ -1,0 +1,180 @@
+-- Demand 3: the theorem about a whole course of calls.
+use Prim.Native.Nat.{ℕ, zero, suc, _+_, _<_, _≤_}
+use mathlib.Core.Path.{_≡_, refl, ap, _∙_, sym, subst}
+use mathlib.Core.List.{List, [], _∷_, _++_, append-nil, List·Memᴰ·tail}
+use mathlib.Core.Logic.{_⊎_, inl, inr, ⊎-elim}
+use native.Mathlib.Omega.{arith}
+use lib.ListN.{length, getD, drop}
+use lib.ListN.{drop-of-length-le}
+use Rattle.sequences.specs.Sequence.{_∈_, All}
+use Rattle.sequences.proofs.Members.{all-in}
+use Rattle.stores.specs.declared.Answer.{Answer}
+use Rattle.stores.specs.declared.Answer.the-variants as A
+use Rattle.stores.specs.Stores.{Write, Plan, stores, run, applied, answerOf, wordsAfter}
+use Rattle.stores.proofs.Laws.{length-run, answer-done}
+use Rattle.layout.specs.declared.Layout.{Layout}
+use Rattle.layout.specs.declared.Opened.the-variants as O
+use Rattle.layout.specs.Words.{Node, sizeOf, cellAt, cellWords, layoutOf, opened}
+use Rattle.layout.proofs.Laws.{open-opened}
+use Rattle.layout.proofs.Apart.{cell-behind}
+use Rattle.lists.specs.Lists.{Sound, IsList, SameCells}
+use Rattle.lists.proofs.Same.{same-sound}
+use Rattle.edits.specs.Edited.{replaced}
+use Rattle.edits.proofs.Edited.{replaced-own, replaced-other}
+use Rattle.recovery.specs.Plan.{joined, recoverStores, recoverPlan, Accepted, Kind, differing}
+use Rattle.recovery.proofs.Count.{plan-kinds, plan-differs}
+use Rattle.courses.specs.Course.{Edit, named, editPlan, allStores, needed, dueWords, Alteration, untouched, altered, Allowed, Touches, alteredBelow, found, wordsThrough, answersThrough, storesThrough, total, Course}
+use Rattle.courses.proofs.Cut.{Cut}
+use Rattle.courses.proofs.EditCut.{edit-cut}
+use Rattle.courses.proofs.Found.{altered-out, length-altered, kept, kept-outside, found-accepted}
+use Rattle.courses.proofs.Final.{final-head, final-outside, final-lists, final-zero, final-words}
+use Rattle.courses.proofs.Recoveries.{Standing, standing-plan, same-opened, one-recovery, Through, through}
+
+-- the last of several recoveries
+through-last : (ms : List ℕ) (m : ℕ) (y : List ℕ) → wordsThrough (ms ++ m ∷ []) y ≡ wordsAfter (recoverPlan (wordsThrough ms y)) m (wordsThrough ms y)
+unfolding wordsThrough
+through-last [] m y = refl
+through-last (a ∷ ms) m y = through-last ms m (wordsAfter (recoverPlan y) a y)
+
+module _ (w : List ℕ) (s : Sound w) (e : Edit) (m : ℕ) (alts : ℕ → Alteration)
+    (allowed : (j : ℕ) → j < layoutOf w .lists → (j ≡ named e → ⊥) → Allowed j (s .lists .sequence j) (alts j)) where
+  abbrev l : Layout
+  l = layoutOf w
+
+  abbrev k : ℕ
+  k = named e
+
+  own : List ℕ
+  own = edit-cut w s e m .0
+
+  abbrev y₀ : List ℕ
+  y₀ = wordsAfter (editPlan w e) m w
+
+  abbrev y : List ℕ
+  y = found w e m alts
+
+  abbrev x : List ℕ
+  x = dueWords w e m
+
+  cut : Cut l w (s .lists) k own x y₀
+  unfolding own
+  cut = edit-cut w s e m .1
+
+  -- the sequences of the found store, and of the final one
+  abbrev t : ℕ → List ℕ
+  t = replaced (s .lists .sequence) k own
+
+  accepted : Accepted l y t
+  accepted = found-accepted l w (s .lists) k alts allowed y₀ (cut .others) (cut .rest) own (λ h. (cut .own h, cut .apart h))
+
+  head : (a : ℕ) → a < 8 → getD y a 0 ≡ getD w a 0
+  head a h = altered-out l k alts (l .lists) y₀ a (λ j _ _ c f v _ q. omega (arith, cell-behind l c)) ∙ cut .head a h
+
+  size : length y ≡ length w
+  size = length-altered l k alts (l .lists) y₀ ∙ cut .size
+
+  standing : Standing l t y
+  standing =
+      let o = same-opened w y l (open-opened w (s .marked) (s .inRange) (s .exact)) head size in
+      record { opens = o .0; size = o .1; accepted = accepted }
+
+  abbrev ps : List Write
+  ps = recoverStores l y t
+
+  abbrev Final : List ℕ
+  Final = run ps y
+
+  sound : (v : Sound Final) × (v .lists .sequence ≡ t)
+  sound =
+      let f = final-lists l y (standing .size) t accepted in
+      let r = same-sound w Final s (λ a h. final-head l y (standing .size) t accepted a h ∙ head a h) (length-run ps y ∙ size) (f .0) in
+      (r .0, r .1 ∙ f .1)
+
+  -- the list named
+  mine : k < l .lists → SameCells l x Final (k ∷ own)
+  mine h =
+      subst (λ (r : List ℕ). SameCells l x Final (k ∷ r)) q
+      (final-words l y (standing .size) t accepted x k h (subst (IsList l x k) (sym q) (cut .list h))
+        (λ c f n g z.
+          let i : c ∈ own = subst (λ (r : List ℕ). c ∈ r) q n in
+          kept-outside l w (s .lists) k alts allowed y₀ (cut .others) (cut .rest) c f z (cut .apart h c (List·Memᴰ·tail i))
+          ∙ cut .records h c f i g z))
+    where
+      q : t k ≡ own
+      q = replaced-own (s .lists .sequence) k own k refl
+
+  -- every other list
+  theirs : (j : ℕ) → j < l .lists → (j ≡ k → ⊥) → SameCells l w Final (j ∷ s .lists .sequence j)
+  theirs j h n =
+      subst (λ (r : List ℕ). SameCells l w Final (j ∷ r)) q
+      (final-words l y (standing .size) t accepted w j h (subst (IsList l w j) (sym q) (s .lists .lists j h))
+        (λ c f i g z.
+          let d : c ∈ s .lists .sequence j = subst (λ (r : List ℕ). c ∈ r) q i in
+          kept l w (s .lists) k alts allowed y₀ (cut .others) (cut .rest) j h n c f (List·Memᴰ·tail d) z
+          (untouched-record (alts j) c f d g (allowed j h n))))
+    where
+      q : t j ≡ s .lists .sequence j
+      q = replaced-other (s .lists .sequence) k own j n
+      untouched-record : (v : Alteration) (c f : ℕ) → c ∈ s .lists .sequence j → 3 ≤ f → Allowed j (s .lists .sequence j) v → Touches v c f → ⊥
+      untouched-record untouched c f d g a u = u
+      untouched-record (altered b i v) c f d g (inl a) u =
+          omega (arith, all-in (Node l) (s .lists .sequence j) (s .lists .lists j h .nodes) d .low, u .0, a .0)
+      untouched-record (altered b i v) c f d g (inr a) u = omega (arith, u .1, a .1)
+
+  -- the whole course
+  module _ (ms : List ℕ) (last : ℕ) (enough : needed (recoverPlan (wordsThrough ms y)) ≤ last) where
+    abbrev runs : List ℕ
+    runs = ms ++ last ∷ []
+
+    before : Through l t y (wordsThrough ms y) (answersThrough ms y) (storesThrough ms y)
+    before = through l t ms y standing
+
+    whole : Through l t y (wordsThrough runs y) (answersThrough runs y) (storesThrough runs y)
+    whole = through l t runs y standing
+
+    abbrev y₁ : List ℕ
+    y₁ = wordsThrough ms y
+
+    plan₁ : recoverPlan y₁ ≡ stores (recoverStores l y₁ t)
+    plan₁ = standing-plan l t y₁ (before .standing)
+
+    enough₁ : length (recoverStores l y₁ t) ≤ last
+    enough₁ = subst (λ (p : Plan). needed p ≤ last) plan₁ enough
+
+    -- the last one is answered done
+    done : answerOf (recoverPlan y₁) last ≡ A.Done (needed (recoverPlan y₁))
+    done = subst (λ (p : Plan). answerOf p last ≡ A.Done (needed p)) (sym plan₁) (sym (answer-done (recoverStores l y₁ t) last enough₁))
+
+    -- nothing is left to store
+    left : recoverStores l (wordsThrough runs y) t ≡ []
+    left =
+        ap (λ (v : List ℕ). recoverStores l v t) (through-last ms last y ∙ ap (λ (p : Plan). wordsAfter p last y₁) plan₁)
+        ∙ one-recovery l t y₁ (before .standing) last .1 ∙ drop-of-length-le (recoverStores l y₁ t) enough₁
+
+    final : wordsThrough runs y ≡ Final
+    unfolding run
+    final = sym (ap (λ (qs : List Write). run qs (wordsThrough runs y)) left) ∙ whole .words
+
+    made : storesThrough runs y ≡ ps
+    made = sym (append-nil (storesThrough runs y)) ∙ ap (λ (qs : List Write). storesThrough runs y ++ qs) (sym left) ∙ whole .stores
+
+    pub course : Course w s k x y (wordsThrough runs y) (answersThrough runs y) (storesThrough runs y) × (answerOf (recoverPlan y₁) last ≡ A.Done (needed (recoverPlan y₁)))
+    course =
+        (subst (λ (z : List ℕ). Course w s k x y z (answersThrough runs y) (storesThrough runs y)) (sym final)
+          (record {
+            accepted = whole .accepted;
+            own = own;
+            list = cut .list;
+            sound = sound .0;
+            sequences = sound .1;
+            named = mine;
+            others = theirs;
+            head = final-head l y (standing .size) t accepted;
+            outside =
+              λ c n o.
+              (final-zero l y (standing .size) t accepted c n o, λ f g z. final-outside l y (standing .size) t accepted c f n o g z);
+            stored = subst (All (Kind l y t)) (sym made) (plan-kinds l y t);
+            adds = whole .adds ∙ ap length made ∙ sym (plan-differs l t ps y (standing .size) accepted refl);
+            same = ap (λ (p : Plan). run (allStores p) y) (sym (standing-plan l t y standing))
+          }),
+        done)

@@ -1,0 +1,120 @@
+-- The clears of the erased column are those of recovery's plan.
+use Prim.Native.Nat.{ℕ, zero, suc, _+_, _<_, _≤_}
+use mathlib.Core.Path.{_≡_, refl, ap, ap₂, _∙_, sym, subst}
+use mathlib.Core.List.{List, [], _∷_, List·Memᴰ·head, List·Memᴰ·tail}
+use mathlib.Core.Bool.{Bool, true, false, _||_, cond, or-true, or-false}
+use mathlib.Core.Logic.{⊎-elim}
+use native.Mathlib.Decide.{ℕ-discrete}
+use native.Mathlib.Omega.{arith}
+use native.Mathlib.Nat.{eq-or-lt-of-le}
+use lib.Dec.{eqb}
+use lib.ListN.{getD, set}
+use lib.Seq.{getD-set-other}
+use borrow.Author.Tests.{eq-eqb}
+use Rattle.sequences.specs.Sequence.{_∈_}
+use Rattle.stores.specs.Stores.{Write, write}
+use Rattle.layout.specs.declared.Layout.{Layout}
+use Rattle.layout.specs.Words.{firstNode, cellCount, identAt}
+use Rattle.lists.specs.Decide.{View}
+use Rattle.recovery.specs.Plan.{joined, isIn, clears}
+use Rattle.recovery.proofs.Suffix.{isIn-in, isIn-true, one-joined, joined-one}
+use Rattle.mending.specs.Mending.{erased, membersBy, erasedFrom, clearsIn}
+
+-- an entry set to 0 is 0, inside the column or behind it
+set-zero : (xs : List ℕ) (c : ℕ) → getD (set xs c 0) c 0 ≡ 0
+set-zero [] c = refl
+set-zero (x ∷ xs) zero = refl
+set-zero (x ∷ xs) (suc c) = set-zero xs c
+
+-- an entry that is 0 stays so
+zero-stays : (xs : List ℕ) (a c : ℕ) → getD xs c 0 ≡ 0 → getD (set xs a 0) c 0 ≡ 0
+zero-stays xs a c e = by (ℕ-discrete c a)
+  where
+    by : Dec (c ≡ a) → getD (set xs a 0) c 0 ≡ 0
+    by (yes q) = ap (λ (d : ℕ). getD (set xs a 0) d 0) q ∙ set-zero xs a
+    by (no n) = getD-set-other xs a c 0 0 n ∙ e
+
+-- through any number of cells
+pub erased-zero : (cs xs : List ℕ) (c : ℕ) → getD xs c 0 ≡ 0 → getD (erased cs xs) c 0 ≡ 0
+unfolding erased
+erased-zero [] xs c e = e
+erased-zero (d ∷ cs) xs c e = erased-zero cs (set xs d 0) c (zero-stays xs d c e)
+
+-- the entry of an erased cell is 0
+pub erased-in : (cs xs : List ℕ) (c : ℕ) → c ∈ cs → getD (erased cs xs) c 0 ≡ 0
+unfolding erased
+erased-in (d ∷ cs) xs c (List·Memᴰ·head e) =
+    erased-zero cs (set xs d 0) c (ap (λ (a : ℕ). getD (set xs d 0) a 0) e ∙ set-zero xs d)
+erased-in (d ∷ cs) xs c (List·Memᴰ·tail m) = erased-in cs (set xs d 0) c m
+
+-- any other entry is as before
+pub erased-other : (cs xs : List ℕ) (c : ℕ) → (c ∈ cs → ⊥) → getD (erased cs xs) c 0 ≡ getD xs c 0
+unfolding erased
+erased-other [] xs c n = refl
+erased-other (d ∷ cs) xs c n =
+    erased-other cs (set xs d 0) c (λ m. n (List·Memᴰ·tail m)) ∙ getD-set-other xs d c 0 0 (λ e. n (List·Memᴰ·head e))
+
+-- the same of the members of the n lists from k on
+module _ (l : Layout) (v : View) (back : ℕ → Bool) where
+  -- an entry that is 0 stays so
+  pub from-zero : (k n : ℕ) (xs : List ℕ) (c : ℕ) → getD xs c 0 ≡ 0 → getD (erasedFrom l v back k n xs) c 0 ≡ 0
+  unfolding erasedFrom
+  from-zero k zero xs c e = e
+  from-zero k (suc n) xs c e =
+      from-zero (suc k) n (erased (membersBy l v (back k) k) xs) c (erased-zero (membersBy l v (back k) k) xs c e)
+
+  -- the entry of a member is 0
+  pub from-in : (k n : ℕ) (xs : List ℕ) (c j : ℕ) → k ≤ j → j < k + n → c ∈ membersBy l v (back j) j
+      → getD (erasedFrom l v back k n xs) c 0 ≡ 0
+  unfolding erasedFrom
+  from-in k zero xs c j p q m = absurd (omega arith)
+  from-in k (suc n) xs c j p q m =
+      ⊎-elim
+      (λ e.
+      from-zero (suc k) n (erased (membersBy l v (back k) k) xs) c
+      (erased-in (membersBy l v (back k) k) xs c (subst (λ (i : ℕ). c ∈ membersBy l v (back i) i) (sym e) m)))
+      (λ h. from-in (suc k) n (erased (membersBy l v (back k) k) xs) c j h (omega arith) m)
+      (eq-or-lt-of-le p)
+
+  -- any other entry is as before
+  pub from-other : (k n : ℕ) (xs : List ℕ) (c : ℕ) → ((j : ℕ) → k ≤ j → j < k + n → c ∈ membersBy l v (back j) j → ⊥)
+      → getD (erasedFrom l v back k n xs) c 0 ≡ getD xs c 0
+  unfolding erasedFrom
+  from-other k zero xs c h = refl
+  from-other k (suc n) xs c h =
+      from-other (suc k) n (erased (membersBy l v (back k) k) xs) c (λ j p q. h j (omega arith) (omega arith))
+      ∙ erased-other (membersBy l v (back k) k) xs c (h k (omega arith) (omega arith))
+
+-- the clears are the same if an entry is 0 exactly where the word is 0 or the cell a member
+clears-told : (l : Layout) (w idents ms : List ℕ) (a n : ℕ)
+    → ((c : ℕ) → a ≤ c → c < a + n → eqb (getD idents c 0) 0 ≡ (eqb (getD w (identAt l c) 0) 0 || isIn c ms))
+    → clearsIn l idents a n ≡ clears l w ms a n
+unfolding clearsIn clears
+clears-told l w idents ms a zero h = refl
+clears-told l w idents ms a (suc n) h =
+    ap₂ (λ (b : Bool) (t : List Write). cond b t (write (identAt l a) 0 ∷ t)) (h a (omega arith) (omega arith))
+    (clears-told l w idents ms (suc a) n (λ c p q. h c (omega arith) (omega arith)))
+
+-- the clears of the identifiers without the members of the lists are those of the plan
+pub cleared-told : (l : Layout) (w idents : List ℕ) (v : View) (back : ℕ → Bool) (s : ℕ → List ℕ)
+    → ((c : ℕ) → c < cellCount l → getD idents c 0 ≡ getD w (identAt l c) 0)
+    → ((k : ℕ) → k < l .lists → (c : ℕ) → (c ∈ membersBy l v (back k) k → c ∈ s k) × (c ∈ s k → c ∈ membersBy l v (back k) k))
+    → clearsIn l (erasedFrom l v back 0 (l .lists) idents) (firstNode l) (l .nodes) ≡ clears l w (joined s (l .lists)) (firstNode l) (l .nodes)
+cleared-told l w idents v back s same members =
+    clears-told l w (erasedFrom l v back 0 (l .lists) idents) (joined s (l .lists)) (firstNode l) (l .nodes)
+    (λ c p q. by c q (isIn c (joined s (l .lists))) refl)
+  where
+    by : (c : ℕ) → c < cellCount l → (b : Bool) → isIn c (joined s (l .lists)) ≡ b
+        → eqb (getD (erasedFrom l v back 0 (l .lists) idents) c 0) 0 ≡ (eqb (getD w (identAt l c) 0) 0 || isIn c (joined s (l .lists)))
+    by c q true e =
+        let r = joined-one s (l .lists) c (isIn-true c (joined s (l .lists)) e) in
+        eq-eqb _ _ (from-in l v back 0 (l .lists) idents c (r .0) (omega arith) (omega (arith, r .1)) (members (r .0) (r .1) c .1 (r .2)))
+        ∙ sym (rw e (or-true (eqb (getD w (identAt l c) 0) 0)))
+    by c q false e =
+        ap (λ (x : ℕ). eqb x 0) (from-other l v back 0 (l .lists) idents c out ∙ same c q)
+        ∙ sym (rw e (or-false (eqb (getD w (identAt l c) 0) 0)))
+      where
+        out : (j : ℕ) → 0 ≤ j → j < 0 + l .lists → c ∈ membersBy l v (back j) j → ⊥
+        out j _ h m =
+            let k : j < l .lists = omega arith in
+            isIn-in c (joined s (l .lists)) e (one-joined s (l .lists) j c k (members j k c .0 m))
