@@ -2,11 +2,11 @@
 use Prim.Native.Nat.{ℕ, zero, suc, _+_, _<_, _≤_}
 use mathlib.Core.Path.{_≡_, refl, ap, _∙_, sym, subst}
 use mathlib.Core.List.{List, [], _∷_, _++_, map, reverse, reverse-cons, append-assoc}
-use mathlib.Core.Bool.{Bool, true, false, cond, true≢false}
+use mathlib.Core.Bool.{Bool, true, false, true≢false}
 use native.Mathlib.Omega.{arith}
-use lib.Dec.{eqb, leb}
+use lib.Dec.{eqb}
 use lib.ListN.{length, getD, length-append, length-reverse}
-use borrow.Author.Tests.{eqb-true, eqb-false, leb-true, leb-false}
+use borrow.Author.Tests.{eqb-true, leb-true, leb-false}
 use Rattle.sequences.specs.Sequence.{_∈_, All, Step, steps, trail}
 use Rattle.sequences.proofs.Trail.{trail-inside}
 use Rattle.sequences.proofs.Reversed.{all-reverse, in-reverse, reverse-in}
@@ -17,16 +17,16 @@ use Rattle.lists.specs.Lists.{asked, identsAsked, forwardsAsked, backsAsked, co
 use Rattle.lists.specs.Decide.{View, viewOf, countIn, sequenceOf}
 use Rattle.lists.proofs.Unique.{all-nodes}
 use Rattle.lists.proofs.Same.{ident-word, count-word}
-use Rattle.recovery.specs.Fits.{wrong, Fits, backwardOf, fewWrong, same, Fit, none, only, several, fitting, fitOf}
-use Rattle.recovery.specs.Plan.{joined, clears, storesFrom, onlyOf, fittingOf, fitNumber, refusalFrom}
-use Rattle.recovery.proofs.Candidates.{same-yes, same-refl, wrong-right, wrong-wrong, wrong-append, wrong-parts, few-fits, forward-candidate, back-candidate}
+use Rattle.recovery.specs.Fits.{wrong, backwardOf, fewWrong, same, none, only, several, fitting, fitOf}
+use Rattle.recovery.specs.Plan.{joined, clears, storesFrom, fittingOf, refusalFrom}
+use Rattle.recovery.proofs.Candidates.{same-yes, same-refl, wrong-append, wrong-parts, few-fits, forward-candidate, back-candidate}
 use Rattle.mending.specs.declared.Faults.{Faults}
 use Rattle.mending.specs.declared.Faults.the-variants as F
 use Rattle.mending.specs.declared.Fitted.{Fitted}
 use Rattle.mending.specs.declared.Fitted.the-variants as G
-use Rattle.mending.specs.Mending.{plus, fault, turnFaults, faultsOf, walked, walkFaults, turned, twoFit, choose, fitIn}
-use Rattle.mending.specs.Mending.{mendOf, numberOf, faultIn, isBackward, refusalIn, mendsIn, membersBy}
-use Rattle.mending.proofs.Walks.{plus-none, plus-assoc, no-fault, one-fault}
+use Rattle.mending.specs.Mending.{plus, fault, turnFaults, faultsOf, walked, walkFaults, turned, choose, fitIn}
+use Rattle.mending.specs.Mending.{mendOf, numberOf, isBackward, refusalIn, mendsIn, membersBy}
+use Rattle.mending.proofs.Walks.{plus-none, plus-assoc}
 
 -- f sums up these wrong words
 abbrev pub Summed : Layout → Faults → List Write → Type 0
@@ -44,6 +44,7 @@ plus-comm F.Many F.None = refl
 plus-comm F.Many (F.One d u t) = refl
 plus-comm F.Many F.Many = refl
 
+-- nor which of two comes first
 pub plus-swap : (f g h : Faults) → plus f (plus g h) ≡ plus g (plus f h)
 plus-swap f g h = sym (plus-assoc f g h) ∙ ap (λ (x : Faults). plus x h) (plus-comm f g) ∙ plus-assoc g f h
 
@@ -60,20 +61,445 @@ unfoldable pub sumAll {ℓ} : {A : Type ℓ} → (A → Faults) → List A → F
 sumAll g [] = F.None
 sumAll g (x ∷ s) = plus (g x) (sumAll g s)
 
--- one word
-pub summed-fault : (l : Layout) (w : List ℕ) (c f v a : ℕ) → a ≡ cellAt l c + f → Summed l (fault (getD w a 0) c f v) (wrong w (write a v ∷ []))
+-- one word, which stands at a
+pub summed-fault
+    : (l : Layout) (w : List ℕ) (c f v a : ℕ) → a ≡ cellAt l c + f
+    → Summed l (fault (getD w a 0) c f v) (wrong w (write a v ∷ []))
 unfolding wrong
 summed-fault l w c f v a e = by (eqb (getD w a 0) v) refl
   where
     by : (b : Bool) → eqb (getD w a 0) v ≡ b → Summed l (fault (getD w a 0) c f v) (wrong w (write a v ∷ []))
-    by true q = rw (q, wrong, q)
-    by false q = ?
+    by true q = rw (q, wrong)
+    by false q = rw (q, wrong) (ap (λ (n : ℕ). write n v ∷ []) e)
 
--- many words
-pub summed-map {ℓ} : {A : Type ℓ} (l : Layout) (w : List ℕ) (g : A → Faults) (h : A → Write)
+-- many words, each summed up by its own fault
+pub summed-map {ℓ}
+    : {A : Type ℓ} (l : Layout) (w : List ℕ) (g : A → Faults) (h : A → Write)
     → ((x : A) → Summed l (g x) (wrong w (h x ∷ []))) → (s : List A) → Summed l (sumAll g s) (wrong w (map h s))
 unfolding sumAll wrong
 summed-map l w g h r [] = refl
 summed-map l w g h r (x ∷ s) =
     subst (Summed l (plus (g x) (sumAll g s))) (sym (wrong-append w (h x ∷ []) (map h s)))
     (summed-plus l (g x) (sumAll g s) (wrong w (h x ∷ [])) (wrong w (map h s)) (r x) (summed-map l w g h r s))
+
+-- the three kinds of faults of a turn, each by itself
+abbrev pub identFaults : View → ℕ → List ℕ → Faults
+identFaults v k s = sumAll (λ (y : ℕ). fault (v .ident y) y 0 (identOf k)) s
+
+abbrev pub onwardFaults : View → ℕ → List Step → Faults
+onwardFaults v a ps = sumAll (λ (p : Step). fault (v .forward (p .source)) (p .source) a (p .target)) ps
+
+abbrev pub backFaults : View → ℕ → List Step → Faults
+backFaults v b ps = sumAll (λ (p : Step). fault (v .back (p .target)) (p .target) b (p .source)) ps
+
+-- what a turn meets cell by cell is sorted by kind
+turn-sorted
+    : (v : View) (a b k x : ℕ) (s : List ℕ)
+    → turnFaults v a b k x s ≡ plus (identFaults v k s) (plus (onwardFaults v a (steps x s k)) (backFaults v b (steps x s k)))
+unfolding turnFaults sumAll steps
+turn-sorted v a b k x [] = rw (plus-none, plus-none)
+turn-sorted v a b k x (y ∷ s) =
+    sorted (fault (v .ident y) y 0 (identOf k)) (fault (v .forward x) x a y) (fault (v .back y) y b x)
+    (identFaults v k s) (onwardFaults v a (steps y s k)) (backFaults v b (steps y s k))
+    (turnFaults v a b k y s) (turn-sorted v a b k y s)
+  where
+    sorted : (i f g is fs gs t : Faults) → t ≡ plus is (plus fs gs)
+        → plus f (plus i (plus g t)) ≡ plus (plus i is) (plus (plus f fs) (plus g gs))
+    sorted i f g is fs gs t e =
+        plus-swap f i (plus g t)
+        ∙ ap (λ (r : Faults). plus i (plus f r)) (ap (plus g) e ∙ plus-swap g is (plus fs gs) ∙ ap (plus is) (plus-swap g fs gs))
+        ∙ ap (plus i) (plus-swap f is (plus fs (plus g gs)) ∙ ap (plus is) (sym (plus-assoc f fs (plus g gs))))
+        ∙ sym (plus-assoc i is (plus (plus f fs) (plus g gs)))
+
+-- the faults in the order in which the words are asked
+pub faults-sorted
+    : (v : View) (a b k n : ℕ) (s : List ℕ)
+    → faultsOf v a b k n s
+    ≡ plus (identFaults v k (k ∷ s)) (plus (onwardFaults v a (steps k s k)) (plus (backFaults v b (steps k s k)) (fault n k 3 (length s))))
+unfolding faultsOf sumAll
+faults-sorted v a b k n s =
+    rw (turn-sorted v a b k k s, plus-assoc, plus-assoc, plus-assoc)
+
+-- the same of the words of a store, kind by kind
+module _ (l : Layout) (w : List ℕ) (k : ℕ) (s : List ℕ) where
+  abbrev pub identSum : Faults
+  identSum = identFaults (viewOf l w) k (k ∷ s)
+
+  abbrev pub onwardSum : Faults
+  onwardSum = onwardFaults (viewOf l w) 1 (steps k s k)
+
+  abbrev pub backSum : Faults
+  backSum = backFaults (viewOf l w) 2 (steps k s k)
+
+  abbrev pub countSum : Faults
+  countSum = fault (countIn w k) k 3 (length s)
+
+  abbrev pub faultSum : Faults
+  faultSum = faultsOf (viewOf l w) 1 2 k (countIn w k) s
+
+  -- sorted as they are asked
+  pub sum-sorted : faultSum ≡ plus identSum (plus onwardSum (plus backSum countSum))
+  sum-sorted = faults-sorted (viewOf l w) 1 2 k (countIn w k) s
+
+  -- each kind sums up its wrong words
+  pub summed-idents : Summed l identSum (wrong w (identsAsked l k s))
+  summed-idents =
+      summed-map l w (λ (c : ℕ). fault (viewOf l w .ident c) c 0 (identOf k)) (λ (c : ℕ). write (identAt l c) (identOf k))
+      (λ c. summed-fault l w c 0 (identOf k) (identAt l c) (ident-word l c)) (k ∷ s)
+
+  pub summed-onward : Summed l onwardSum (wrong w (forwardsAsked l k s))
+  summed-onward =
+      summed-map l w (λ (p : Step). fault (viewOf l w .forward (p .source)) (p .source) 1 (p .target))
+      (λ (p : Step). write (forwardAt l (p .source)) (p .target))
+      (λ p. summed-fault l w (p .source) 1 (p .target) (forwardAt l (p .source)) refl) (steps k s k)
+
+  pub summed-back : Summed l backSum (wrong w (backsAsked l k s))
+  summed-back =
+      summed-map l w (λ (p : Step). fault (viewOf l w .back (p .target)) (p .target) 2 (p .source))
+      (λ (p : Step). write (backAt l (p .target)) (p .source))
+      (λ p. summed-fault l w (p .target) 2 (p .source) (backAt l (p .target)) refl) (steps k s k)
+
+  pub summed-count : k < l .lists → Summed l countSum (wrong w (countAsked k s))
+  summed-count h = summed-fault l w k 3 (length s) (countAt k) (count-word l k h)
+
+  -- and all sum up all
+  pub summed-forward : k < l .lists → Summed l faultSum (wrong w (asked l k s))
+  unfolding asked
+  summed-forward h =
+      subst (λ (f : Faults). Summed l f (wrong w (asked l k s))) (sym sum-sorted)
+      (both identSum (plus onwardSum (plus backSum countSum))
+      (identsAsked l k s) (forwardsAsked l k s ++ (backsAsked l k s ++ countAsked k s)) summed-idents
+      (both onwardSum (plus backSum countSum) (forwardsAsked l k s) (backsAsked l k s ++ countAsked k s) summed-onward
+      (both backSum countSum (backsAsked l k s) (countAsked k s) summed-back (summed-count h))))
+    where
+      both : (f g : Faults) (ps qs : List Write) → Summed l f (wrong w ps) → Summed l g (wrong w qs)
+          → Summed l (plus f g) (wrong w (ps ++ qs))
+      both f g ps qs p q =
+          subst (Summed l (plus f g)) (sym (wrong-append w ps qs)) (summed-plus l f g (wrong w ps) (wrong w qs) p q)
+
+-- sums of what is reversed
+sum-snoc {ℓ} : {A : Type ℓ} (g : A → Faults) (s : List A) (y : A) → sumAll g (s ++ y ∷ []) ≡ plus (g y) (sumAll g s)
+unfolding sumAll
+sum-snoc g [] y = refl
+sum-snoc g (x ∷ s) y = ap (plus (g x)) (sum-snoc g s y) ∙ plus-swap (g x) (g y) (sumAll g s)
+
+sum-reverse : (g : ℕ → Faults) (s : List ℕ) → sumAll g (reverse s) ≡ sumAll g s
+unfolding sumAll
+sum-reverse g [] = refl
+sum-reverse g (x ∷ s) = ap (sumAll g) (reverse-cons x s) ∙ sum-snoc g (reverse s) x ∙ ap (plus (g x)) (sum-reverse g s)
+
+step-snoc : (x : ℕ) (s : List ℕ) (y z : ℕ) → steps x (s ++ y ∷ []) z ≡ steps x s y ++ record { source = y; target = z } ∷ []
+unfolding steps
+step-snoc x [] y z = refl
+step-snoc x (c ∷ s) y z = ap (λ (r : List Step). record { source = x; target = c } ∷ r) (step-snoc c s y z)
+
+sum-steps : (g : Step → Faults) (x : ℕ) (s : List ℕ) (z : ℕ)
+    → sumAll g (steps z (reverse s) x) ≡ sumAll (λ (p : Step). g (record { source = p .target; target = p .source })) (steps x s z)
+unfolding sumAll steps
+sum-steps g x [] z = refl
+sum-steps g x (y ∷ s) z =
+    ap (λ (t : List ℕ). sumAll g (steps z t x)) (reverse-cons y s)
+    ∙ ap (sumAll g) (step-snoc z (reverse s) y x)
+    ∙ sum-snoc g (steps z (reverse s) y) (record { source = y; target = x })
+    ∙ ap (plus (g (record { source = y; target = x }))) (sum-steps g y s z)
+
+-- the faults of the view the other way round are those of the reversed sequence
+pub turned-faults : (v : View) (a b k n : ℕ) (t : List ℕ) → faultsOf (turned v) b a k n t ≡ faultsOf v a b k n (reverse t)
+unfolding sumAll
+turned-faults v a b k n t =
+    faults-sorted (turned v) b a k n t
+    ∙ sym (faults-sorted v a b k n (reverse t) ∙ same)
+  where
+    same
+        : plus (identFaults v k (k ∷ reverse t))
+          (plus (onwardFaults v a (steps k (reverse t) k)) (plus (backFaults v b (steps k (reverse t) k)) (fault n k 3 (length (reverse t)))))
+        ≡ plus (identFaults v k (k ∷ t))
+          (plus (onwardFaults (turned v) b (steps k t k)) (plus (backFaults (turned v) a (steps k t k)) (fault n k 3 (length t))))
+    same =
+        rw (sum-reverse (λ (y : ℕ). fault (v .ident y) y 0 (identOf k)) t,
+          sum-steps (λ (p : Step). fault (v .forward (p .source)) (p .source) a (p .target)) k t k,
+          sum-steps (λ (p : Step). fault (v .back (p .target)) (p .target) b (p .source)) k t k,
+          length-reverse t)
+        (ap (plus (identFaults v k (k ∷ t)))
+        (plus-swap (backFaults (turned v) a (steps k t k)) (onwardFaults (turned v) b (steps k t k)) (fault n k 3 (length t))))
+
+-- so the back walk's faults are the wrong words of its sequence in the list's order
+pub summed-backward
+    : (l : Layout) (w : List ℕ) (k : ℕ) → k < l .lists → (t : List ℕ)
+    → Summed l (faultsOf (turned (viewOf l w)) 2 1 k (countIn w k) t) (wrong w (asked l k (reverse t)))
+summed-backward l w k h t =
+    subst (λ (f : Faults). Summed l f (wrong w (asked l k (reverse t)))) (sym (turned-faults (viewOf l w) 1 2 k (countIn w k) t))
+    (summed-forward l w k (reverse t) h)
+
+-- what a sum says of its words: none of them, its mend, or more than one
+summed-none : (l : Layout) (f : Faults) (ps : List Write) → Summed l f ps → length ps ≡ 0 → f ≡ F.None
+summed-none l F.None ps p e = refl
+summed-none l (F.One c f v) ps p e = absurd (omega (arith, ap length p))
+summed-none l F.Many ps p e = absurd (omega arith)
+
+summed-few : (l : Layout) (f : Faults) (ps : List Write) → Summed l f ps → length ps ≤ 1 → mendOf l f ≡ ps
+summed-few l F.None ps p e = sym p
+summed-few l (F.One c f v) ps p e = sym p
+summed-few l F.Many ps p e = absurd (omega arith)
+
+summed-many : (l : Layout) (f : Faults) (ps : List Write) → Summed l f ps → (length ps ≤ 1 → ⊥) → f ≡ F.Many
+summed-many l F.None ps p e = absurd (omega (arith, ap length p))
+summed-many l (F.One c f v) ps p e = absurd (omega (arith, ap length p))
+summed-many l F.Many ps p e = refl
+
+-- at most one word
+abbrev Few : Faults → Type 0
+Few F.None = Unit {0}
+Few (F.One c f v) = Unit {0}
+Few F.Many = ⊥
+
+few-summed : (l : Layout) (f : Faults) (ps : List Write) → Summed l f ps → length ps ≤ 1 → Few f
+few-summed l F.None ps p e = tt
+few-summed l (F.One c f v) ps p e = tt
+few-summed l F.Many ps p e = absurd (omega arith)
+
+-- the choice between two candidates that are one, and where only one fits
+choose-same : (f : Faults) → Few f → choose f f ≡ G.Forward f
+choose-same F.None h = refl
+choose-same (F.One c f v) h = by (eqb f 2) refl (eqb f 1) refl
+  where
+    by : (a : Bool) → eqb f 2 ≡ a → (b : Bool) → eqb f 1 ≡ b → choose (F.One c f v) (F.One c f v) ≡ G.Forward (F.One c f v)
+    by true p true q = absurd (omega (arith, eqb-true f 2 p, eqb-true f 1 q))
+    by true p false q = rw (p, q)
+    by false p b q = rw p
+choose-same F.Many h = absurd h
+
+choose-first : (f : Faults) → Few f → choose f F.Many ≡ G.Forward f
+choose-first F.None h = refl
+choose-first (F.One c f v) h = by (eqb f 2) refl
+  where
+    by : (a : Bool) → eqb f 2 ≡ a → choose (F.One c f v) F.Many ≡ G.Forward (F.One c f v)
+    by true p = rw p
+    by false p = rw p
+choose-first F.Many h = absurd h
+
+choose-second : (f : Faults) → Few f → choose F.Many f ≡ G.Backward f
+choose-second F.None h = refl
+choose-second (F.One c f v) h = refl
+choose-second F.Many h = absurd h
+
+-- all faults are of word b
+abbrev Word : ℕ → Faults → Type 0
+Word b F.None = Unit {0}
+Word b (F.One c f v) = f ≡ b
+Word b F.Many = Unit {0}
+
+word-plus : (b : ℕ) (f g : Faults) → Word b f → Word b g → Word b (plus f g)
+word-plus b F.None g p q = q
+word-plus b (F.One c f v) F.None p q = p
+word-plus b (F.One c f v) (F.One d g u) p q = tt
+word-plus b (F.One c f v) F.Many p q = tt
+word-plus b F.Many g p q = tt
+
+word-fault : (x c b v : ℕ) → Word b (fault x c b v)
+word-fault x c b v = by (eqb x v) refl
+  where
+    by : (a : Bool) → eqb x v ≡ a → Word b (fault x c b v)
+    by true q = rw q tt
+    by false q = rw q refl
+
+word-sum : (b : ℕ) (g : Step → Faults) → ((p : Step) → Word b (g p)) → (ps : List Step) → Word b (sumAll g ps)
+unfolding sumAll
+word-sum b g h [] = tt
+word-sum b g h (p ∷ ps) = word-plus b (g p) (sumAll g ps) (h p) (word-sum b g h ps)
+
+-- one fault, of word b
+abbrev OneOf : ℕ → Faults → Type 0
+OneOf b f = (c : ℕ) × (v : ℕ) × (f ≡ F.One c b v)
+
+one-summed
+    : (l : Layout) (b : ℕ) (f : Faults) (ps : List Write) → Word b f → Summed l f ps → (length ps ≡ 0 → ⊥) → length ps ≤ 1 → OneOf b f
+one-summed l b F.None ps q p n e = absurd (n (ap length p))
+one-summed l b (F.One c f v) ps q p n e = (c, v, ap (λ (x : ℕ). F.One c x v) q)
+one-summed l b F.Many ps q p n e = absurd (omega arith)
+
+-- what the decision from the columns says of the decision on the words
+abbrev pub Told : Layout → List ℕ → ℕ → Fitted → Type 0
+Told l w k G.Nothing = fitOf l w k ≡ none
+Told l w k G.Several = fitOf l w k ≡ several
+Told l w k (G.Forward f) = (fitOf l w k ≡ only (sequenceOf l w k)) × (mendOf l f ≡ wrong w (asked l k (sequenceOf l w k)))
+Told l w k (G.Backward f) = (fitOf l w k ≡ only (backwardOf l w k)) × (mendOf l f ≡ wrong w (asked l k (backwardOf l w k)))
+
+module _ (l : Layout) (w : List ℕ) (k : ℕ) (h : k < l .lists) where
+  -- with at most one wrong word, a wrong back link is the only fault, and so is a wrong forward link
+  back-only
+      : (s : List ℕ) → length (wrong w (asked l k s)) ≤ 1 → (length (wrong w (backsAsked l k s)) ≡ 0 → ⊥)
+      → OneOf 2 (faultSum l w k s)
+  back-only s f n =
+      let i : length (wrong w (identsAsked l k s)) ≡ 0 = omega (arith, wrong-parts l w k s) in
+      let o : length (wrong w (forwardsAsked l k s)) ≡ 0 = omega (arith, wrong-parts l w k s) in
+      let c : length (wrong w (countAsked k s)) ≡ 0 = omega (arith, wrong-parts l w k s) in
+      let b : length (wrong w (backsAsked l k s)) ≤ 1 = omega (arith, wrong-parts l w k s) in
+      let e : faultSum l w k s ≡ backSum l w k s =
+            sum-sorted l w k s
+            ∙ rw (summed-none l (identSum l w k s) _ (summed-idents l w k s) i,
+                summed-none l (onwardSum l w k s) _ (summed-onward l w k s) o,
+                summed-none l (countSum l w k s) _ (summed-count l w k s h) c) (plus-none (backSum l w k s)) in
+      subst (OneOf 2) (sym e)
+      (one-summed l 2 (backSum l w k s) (wrong w (backsAsked l k s))
+      (word-sum 2 (λ (p : Step). fault (viewOf l w .back (p .target)) (p .target) 2 (p .source))
+      (λ p. word-fault (viewOf l w .back (p .target)) (p .target) 2 (p .source)) (steps k s k))
+      (summed-back l w k s) n b)
+
+  onward-only
+      : (s : List ℕ) → length (wrong w (asked l k s)) ≤ 1 → (length (wrong w (forwardsAsked l k s)) ≡ 0 → ⊥)
+      → OneOf 1 (faultSum l w k s)
+  onward-only s f n =
+      let i : length (wrong w (identsAsked l k s)) ≡ 0 = omega (arith, wrong-parts l w k s) in
+      let o : length (wrong w (backsAsked l k s)) ≡ 0 = omega (arith, wrong-parts l w k s) in
+      let c : length (wrong w (countAsked k s)) ≡ 0 = omega (arith, wrong-parts l w k s) in
+      let b : length (wrong w (forwardsAsked l k s)) ≤ 1 = omega (arith, wrong-parts l w k s) in
+      let e : faultSum l w k s ≡ onwardSum l w k s =
+            sum-sorted l w k s
+            ∙ rw (summed-none l (identSum l w k s) _ (summed-idents l w k s) i,
+                summed-none l (backSum l w k s) _ (summed-back l w k s) o,
+                summed-none l (countSum l w k s) _ (summed-count l w k s h) c) (plus-none (onwardSum l w k s)) in
+      subst (OneOf 1) (sym e)
+      (one-summed l 1 (onwardSum l w k s) (wrong w (forwardsAsked l k s))
+      (word-sum 1 (λ (p : Step). fault (viewOf l w .forward (p .source)) (p .source) 1 (p .target))
+      (λ p. word-fault (viewOf l w .forward (p .source)) (p .source) 1 (p .target)) (steps k s k))
+      (summed-onward l w k s) n b)
+
+  -- the candidates are nodes
+  forward-nodes : All (Node l) (sequenceOf l w k)
+  forward-nodes = all-nodes l (sequenceOf l w k) (trail-inside (viewOf l w .forward) (isNode l) (l .nodes) (viewOf l w .forward k))
+
+  back-nodes : All (Node l) (backwardOf l w k)
+  back-nodes =
+      all-nodes l (backwardOf l w k)
+      (all-reverse (λ x. isNode l x ≡ true) (trail (viewOf l w .back) (isNode l) (l .nodes) (viewOf l w .back k))
+      (trail-inside (viewOf l w .back) (isNode l) (l .nodes) (viewOf l w .back k)))
+
+  -- a candidate that fits has at most one fault, which its mend mends; one that does not has many
+  few-yes : (s : List ℕ) → fewWrong l w k s ≡ true → length (wrong w (asked l k s)) ≤ 1
+  unfolding fewWrong
+  few-yes s e = leb-true _ _ e
+
+  many-no : (s : List ℕ) → fewWrong l w k s ≡ false → faultSum l w k s ≡ F.Many
+  unfolding fewWrong
+  many-no s e =
+      summed-many l (faultSum l w k s) (wrong w (asked l k s)) (summed-forward l w k s h)
+      (λ f. omega (arith, leb-false (length (wrong w (asked l k s))) 1 e))
+
+  few-yes-sum : (s : List ℕ) → fewWrong l w k s ≡ true → Few (faultSum l w k s)
+  few-yes-sum s e = few-summed l (faultSum l w k s) (wrong w (asked l k s)) (summed-forward l w k s h) (few-yes s e)
+
+  mend-yes : (s : List ℕ) → fewWrong l w k s ≡ true → mendOf l (faultSum l w k s) ≡ wrong w (asked l k s)
+  mend-yes s e = summed-few l (faultSum l w k s) (wrong w (asked l k s)) (summed-forward l w k s h) (few-yes s e)
+
+  -- the decision on the words, by its three questions
+  fit-by : (a b c : Bool) → fewWrong l w k (sequenceOf l w k) ≡ a → fewWrong l w k (backwardOf l w k) ≡ b
+      → same (sequenceOf l w k) (backwardOf l w k) ≡ c → fitOf l w k ≡ fitting a b c (sequenceOf l w k) (backwardOf l w k)
+  unfolding fitOf
+  fit-by a b c p q e = rw (p, q, e)
+
+  -- both decisions side by side, case by case
+  told-by : Told l w k (choose (faultSum l w k (sequenceOf l w k)) (faultSum l w k (backwardOf l w k)))
+  told-by =
+      by (fewWrong l w k (sequenceOf l w k)) refl (fewWrong l w k (backwardOf l w k)) refl (same (sequenceOf l w k) (backwardOf l w k)) refl
+    where
+      by : (a : Bool) → fewWrong l w k (sequenceOf l w k) ≡ a → (b : Bool) → fewWrong l w k (backwardOf l w k) ≡ b
+          → (c : Bool) → same (sequenceOf l w k) (backwardOf l w k) ≡ c
+          → Told l w k (choose (faultSum l w k (sequenceOf l w k)) (faultSum l w k (backwardOf l w k)))
+      by true p true q true e =
+          subst (Told l w k)
+          (sym (ap (λ (s : List ℕ). choose (faultSum l w k (sequenceOf l w k)) (faultSum l w k s))
+            (sym (same-yes (sequenceOf l w k) (backwardOf l w k) e))
+            ∙ choose-same (faultSum l w k (sequenceOf l w k)) (few-yes-sum (sequenceOf l w k) p)))
+          (fit-by true true true p q e, mend-yes (sequenceOf l w k) p)
+      by true p true q false e =
+          let n : sequenceOf l w k ≡ backwardOf l w k → ⊥ =
+                λ d. true≢false (sym (same-refl (sequenceOf l w k)) ∙ ap (same (sequenceOf l w k)) d ∙ e) in
+          let x = back-only (sequenceOf l w k) (few-yes (sequenceOf l w k) p)
+                (λ z. n (sym (back-candidate l w k h (sequenceOf l w k)
+                  (few-fits l w k (sequenceOf l w k) h forward-nodes (few-yes (sequenceOf l w k) p)) z))) in
+          let y = onward-only (backwardOf l w k) (few-yes (backwardOf l w k) q)
+                (λ z. n (forward-candidate l w k h (backwardOf l w k)
+                  (few-fits l w k (backwardOf l w k) h back-nodes (few-yes (backwardOf l w k) q)) z)) in
+          subst (Told l w k)
+          (sym (ap (λ (f : Faults). choose f (faultSum l w k (backwardOf l w k))) (x .2)
+            ∙ ap (choose (F.One (x .0) 2 (x .1))) (y .2)))
+          (fit-by true true false p q e)
+      by true p false q c e =
+          subst (Told l w k)
+          (sym (ap (choose (faultSum l w k (sequenceOf l w k))) (many-no (backwardOf l w k) q)
+            ∙ choose-first (faultSum l w k (sequenceOf l w k)) (few-yes-sum (sequenceOf l w k) p)))
+          (fit-by true false c p q e, mend-yes (sequenceOf l w k) p)
+      by false p true q c e =
+          subst (Told l w k)
+          (sym (ap (λ (f : Faults). choose f (faultSum l w k (backwardOf l w k))) (many-no (sequenceOf l w k) p)
+            ∙ choose-second (faultSum l w k (backwardOf l w k)) (few-yes-sum (backwardOf l w k) q)))
+          (fit-by false true c p q e, mend-yes (backwardOf l w k) q)
+      by false p false q c e =
+          subst (Told l w k)
+          (sym (ap (λ (f : Faults). choose f (faultSum l w k (backwardOf l w k))) (many-no (sequenceOf l w k) p)
+            ∙ ap (choose F.Many) (many-no (backwardOf l w k) q)))
+          (fit-by false false c p q e)
+
+  -- the decision from the columns is the decision on the words
+  pub fit-told : Told l w k (fitIn l (viewOf l w) k (countIn w k))
+  unfolding fitIn walkFaults
+  fit-told =
+      subst (λ (g : Faults). Told l w k (choose (faultSum l w k (sequenceOf l w k)) g))
+      (sym (turned-faults (viewOf l w) 1 2 k (countIn w k) (walked l (turned (viewOf l w)) k))) told-by
+
+-- so the first list that is refused is the same
+pub refusal-told
+    : (l : Layout) (w : List ℕ) (k n : ℕ) → k + n ≤ l .lists → refusalIn l (viewOf l w) (countIn w) k n ≡ refusalFrom l w k n
+unfolding refusalIn refusalFrom
+refusal-told l w k zero h = refl
+refusal-told l w k (suc n) h =
+    by (fitIn l (viewOf l w) k (countIn w k)) refl (fit-told l w k (omega arith)) (refusal-told l w (suc k) n (omega arith))
+  where
+    by : (r : Fitted) → fitIn l (viewOf l w) k (countIn w k) ≡ r → Told l w k r
+        → refusalIn l (viewOf l w) (countIn w) (suc k) n ≡ refusalFrom l w (suc k) n
+        → refusalIn l (viewOf l w) (countIn w) k (suc n) ≡ refusalFrom l w k (suc n)
+    by G.Nothing e t i = rw (e, t)
+    by G.Several e t i = rw (e, t)
+    by (G.Forward f) e t i = rw (e, t .0) i
+    by (G.Backward f) e t i = rw (e, t .0) i
+
+-- the mends are the wrong words of the sequences that fit, and with the clears behind them they are all stores
+pub mends-told
+    : (l : Layout) (w : List ℕ) (k n : ℕ) → k + n ≤ l .lists → refusalIn l (viewOf l w) (countIn w) k n ≡ 0
+    → mendsIn l (viewOf l w) (countIn w) k n ++ clears l w (joined (fittingOf l w) (l .lists)) (firstNode l) (l .nodes)
+    ≡ storesFrom l w (fittingOf l w) k n
+unfolding refusalIn mendsIn storesFrom
+mends-told l w k zero h z = refl
+mends-told l w k (suc n) h z =
+    by (fitIn l (viewOf l w) k (countIn w k)) refl (fit-told l w k (omega arith)) (λ q. mends-told l w (suc k) n (omega arith) q)
+  where
+    by : (r : Fitted) → fitIn l (viewOf l w) k (countIn w k) ≡ r → Told l w k r
+        → (refusalIn l (viewOf l w) (countIn w) (suc k) n ≡ 0
+          → mendsIn l (viewOf l w) (countIn w) (suc k) n ++ clears l w (joined (fittingOf l w) (l .lists)) (firstNode l) (l .nodes)
+          ≡ storesFrom l w (fittingOf l w) (suc k) n)
+        → mendsIn l (viewOf l w) (countIn w) k (suc n) ++ clears l w (joined (fittingOf l w) (l .lists)) (firstNode l) (l .nodes)
+        ≡ storesFrom l w (fittingOf l w) k (suc n)
+    by G.Nothing e t i = absurd (omega (arith, rw e at z))
+    by G.Several e t i = absurd (omega (arith, rw e at z))
+    by (G.Forward f) e t i =
+        rw (e, append-assoc, t .0, t .1) (ap (λ (ps : List Write). wrong w (asked l k (sequenceOf l w k)) ++ ps) (i (rw e at z)))
+    by (G.Backward f) e t i =
+        rw (e, append-assoc, t .0, t .1) (ap (λ (ps : List Write). wrong w (asked l k (backwardOf l w k)) ++ ps) (i (rw e at z)))
+
+-- the members by the walk that was chosen are those of the sequence that fits
+pub members-told
+    : (l : Layout) (w : List ℕ) (k : ℕ) → k < l .lists → numberOf (fitIn l (viewOf l w) k (countIn w k)) ≡ 0 → (c : ℕ)
+    → (c ∈ membersBy l (viewOf l w) (isBackward (fitIn l (viewOf l w) k (countIn w k))) k → c ∈ fittingOf l w k)
+    × (c ∈ fittingOf l w k → c ∈ membersBy l (viewOf l w) (isBackward (fitIn l (viewOf l w) k (countIn w k))) k)
+members-told l w k h z c = by (fitIn l (viewOf l w) k (countIn w k)) z (fit-told l w k h)
+  where
+    by : (r : Fitted) → numberOf r ≡ 0 → Told l w k r
+        → (c ∈ membersBy l (viewOf l w) (isBackward r) k → c ∈ fittingOf l w k)
+        × (c ∈ fittingOf l w k → c ∈ membersBy l (viewOf l w) (isBackward r) k)
+    by G.Nothing z t = absurd (omega (arith, z))
+    by G.Several z t = absurd (omega (arith, z))
+    by (G.Forward f) z t = rw (t .0) ((λ m. m), (λ m. m))
+    by (G.Backward f) z t =
+        rw (t .0)
+        ((λ m. reverse-in (walked l (turned (viewOf l w)) k) m), (λ m. in-reverse (walked l (turned (viewOf l w)) k) m))

@@ -9,9 +9,10 @@ ghost use Prim.Native.Nat.{ℕ, _+_, _-_, _<_, _≤_};
 ghost use mathlib.Core.List.{_++_};
 ghost use mathlib.Core.Bool.{false};
 ghost use lib.ListN.{length, getD};
-ghost use Rattle.stores.specs.Stores.{applied, writesIn, Held};
-ghost use Rattle.layout.specs.Words.{InRange, cellCount, firstNode, sizeOf};
+ghost use Rattle.stores.specs.Stores.{applied, writesIn, Held, answerOf, wordsAfter, store, write};
+ghost use Rattle.layout.specs.Words.{Laid, InRange, cellCount, firstNode, sizeOf, identAt};
 ghost use Rattle.survey.specs.Survey.{columns, Columns};
+ghost use Rattle.recovery.specs.Plan.{recoverOf};
 ghost use Rattle.mending.specs.Mending.{plus, fault, walkFaults, choose, fitIn, mendOf, numberOf, faultIn, isBackward, FaultFits, MendsOf, walked, erased, erasedFrom, clearsIn, clearAnswer};
 
 // The wrong words of a sequence: word f of cell c is to hold v.
@@ -237,6 +238,15 @@ pub fn erase_all(idents: &mut [u16], forwards: &[u16], backs: &[u16], back: [boo
     }
 }
 
+// Writes 0 to the identifier of node i, and nothing else.
+fn clear_step(words: &mut [u16], l: Layout, i: u16)
+    requires { ⌜ InRange l × (length (now words) ≡ sizeOf l) × (i < cellCount l) ⌝ }
+    ensures { λ _. ⌜ now (words .exit) ≡ store (now (words .entry)) (write (identAt l i) 0) ⌝ }
+{
+    let a = l.cell(i);
+    words[a] = 0;
+}
+
 // Writes 0 to the identifier of each node whose entry is not 0, lowest cell first, up to the allowance; made stores were made
 // before.
 pub fn clear(words: &mut [u16], l: Layout, idents: &[u16], made: u16, allowance: u16) -> Answer
@@ -252,11 +262,43 @@ pub fn clear(words: &mut [u16], l: Layout, idents: &[u16], made: u16, allowance:
             if n == allowance {
                 return Answer::Stopped(n);
             }
-            let a = l.cell(i);
-            words[a] = 0;
+            clear_step(words, l, i);
             n += 1;
         }
         i += 1;
     }
     Answer::Done(n)
+}
+
+// Recovers a store of this layout, whose words are read into the columns. All is decided before the first store.
+fn recover_by(words: &mut [u16], l: Layout, allowance: u16, idents: &mut [u16], forwards: &mut [u16], backs: &mut [u16]) -> Answer
+    requires { ⌜ Laid l (now words) × Columns l (now idents) (now forwards) (now backs) ⌝ }
+    ensures answer { λ r. ⌜ r ≡ answerOf (recoverOf l (now (words .entry))) allowance ⌝ }
+    ensures words { λ _. ⌜ now (words .exit) ≡ wordsAfter (recoverOf l (now (words .entry))) allowance (now (words .entry)) ⌝ }
+{
+    survey::load(words, l, idents, forwards, backs);
+    let m = all_mends(idents, forwards, backs, survey::all_counts(words, l), l);
+    if m.refusal != 0 {
+        return Answer::Refused(m.refusal);
+    }
+    let back = m.back;
+    erase_all(idents, forwards, backs, back, l);
+    let rows = m.rows;
+    let Answer::Done(made) = stores::run_rows(words, rows, allowance) else {
+        return Answer::Stopped(allowance);
+    };
+    clear(words, l, idents, made, allowance)
+}
+
+// Recovers a store of this layout.
+pub fn recover_in(words: &mut [u16], l: Layout, allowance: u16) -> Answer
+    requires { ⌜ Laid l (now words) ⌝ }
+    ensures answer { λ r. ⌜ r ≡ answerOf (recoverOf l (now (words .entry))) allowance ⌝ }
+    ensures words { λ _. ⌜ now (words .exit) ≡ wordsAfter (recoverOf l (now (words .entry))) allowance (now (words .entry)) ⌝ }
+{
+    let n = l.cell_count() as usize;
+    let mut idents = survey::column();
+    let mut forwards = survey::column();
+    let mut backs = survey::column();
+    recover_by(words, l, allowance, &mut idents[..n], &mut forwards[..n], &mut backs[..n])
 }

@@ -19,7 +19,7 @@ use Rattle.layout.specs.declared.Opened.the-variants as O
 use Rattle.layout.specs.Words.{firstNode, Node, sizeOf, identAt, opened}
 use Rattle.lists.specs.Lists.{asked, IsList, SoundLists}
 use Rattle.recovery.specs.Fits.{wrong, Fits, Fit, none, only, several, fitOf}
-use Rattle.recovery.specs.Plan.{joined, isIn, clears, storesFrom, recoverStores, onlyOf, fittingOf, fitNumber, refusalFrom, recoverPlan, Accepted}
+use Rattle.recovery.specs.Plan.{joined, isIn, clears, storesFrom, recoverStores, onlyOf, fittingOf, fitNumber, refusalFrom, recoverOf, recoverPlan, Accepted}
 use Rattle.recovery.proofs.Candidates.{agrees-wrong, wrong-agrees, Decided, decided}
 use Rattle.recovery.proofs.Step.{right-unique}
 use Rattle.recovery.proofs.Suffix.{in-isIn, isIn-true, clear-skip, clear-here, one-joined, joined-one, stores-right, suffix}
@@ -66,7 +66,7 @@ plan-same l w s t h = stores-agree l w s t h 0 (l .lists) (omega arith)
 
 -- the plan of an accepted store
 pub accepted-plan : (l : Layout) (w : List ℕ) (s : ℕ → List ℕ) → opened w ≡ O.Open l → Accepted l w s → recoverPlan w ≡ stores (recoverStores l w s)
-unfolding recoverPlan
+unfolding recoverPlan recoverOf
 accepted-plan l w s o a =
     rw (o, accepted-number l w s a 0 (l .lists) (omega arith))
     (ap stores (plan-same l w (fittingOf l w) s (λ k h. ap onlyOf (accepted-fit l w s a k h))))

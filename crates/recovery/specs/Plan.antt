@@ -56,12 +56,13 @@ refusalFrom l w k zero = 0
 refusalFrom l w k (suc n) = fitNumber (fitOf l w k) (refusalFrom l w (suc k) n)
 
 -- recover: 1 to 4, then for each list 11 and 12
-unfoldable pub recoverPlan : List ℕ → Plan
-recoverPlan w =
-    afterOpen (opened w) refuse
-    (λ l.
+unfoldable pub recoverOf : Layout → List ℕ → Plan
+recoverOf l w =
     ask (eqb (refusalFrom l w 0 (l .lists)) 0) (refuse (refusalFrom l w 0 (l .lists)))
-    (stores (recoverStores l w (fittingOf l w))))
+    (stores (recoverStores l w (fittingOf l w)))
+
+unfoldable pub recoverPlan : List ℕ → Plan
+recoverPlan w = afterOpen (opened w) refuse (λ l. recoverOf l w)
 
 -- every list has exactly one sequence that fits
 pub record Accepted (l : Layout) (w : List ℕ) (s : ℕ → List ℕ) : Type 0 where

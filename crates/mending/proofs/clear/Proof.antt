@@ -7,7 +7,6 @@ use lib.ListN.{length, length-set}
 use Rattle.stores.specs.declared.Answer.the-variants as A
 use Rattle.stores.specs.Stores.{applied}
 use Rattle.layout.specs.Words.{firstNode, identAt}
-use Rattle.layout.proofs.Laws.{cell-fits}
 use Rattle.mending.specs.Mending.{clearsIn}
 use Rattle.mending.proofs.Erasing.{clears-one, clears-skip, clears-none, cleared-one, cleared-spent, cleared-none, clear-stopped, clear-done}
 use Rattle.mending.proofs.clear.Statement.{statement}
@@ -68,21 +67,11 @@ returns c =
       sym (cleared-spent (s .l) (s .idents .now) (t .i) e (s .allowance) (t .n) (t .words) (c .if2 .taken)) ∙ t .inv .5,
     )
 
-cell-requires : tie.Need-cell-requires Inv-loop μ-loop
-cell-requires c κs = omega arith
-
--- the cell's words stand within the store
-fits : (c : tie.After-cell Inv-loop μ-loop) → c .cell .result + 3 ≤ length (c .before .before .before .before .before .loop .words)
-fits c =
+clear-step-requires : tie.Need-clear-step-requires Inv-loop μ-loop
+clear-step-requires c κs =
     let s = c .before .before .before .before .before .before .before .before .before .before in
     let t = c .before .before .before .before .before .loop in
-    omega (arith, cell-fits (s .args .l) (t .i) (s .pre .0) (omega arith))
-
-mul-words : tie.Need-mul-words Inv-loop μ-loop
-mul-words c = omega (arith, fits c)
-
-slice-write-words : tie.Need-slice-write-words Inv-loop μ-loop
-slice-write-words c = omega (arith, fits c)
+    (s .pre .0, t .inv .3 ∙ s .pre .1, omega arith)
 
 add-n : tie.Need-add-n Inv-loop μ-loop
 add-n c = omega arith
@@ -100,7 +89,7 @@ loop-again c =
     let e = c .before .before .before .before .cell-count .result in
     let h : t .i < e = c .before .before .loop-test .taken in
     ⊎-elim
-        (λ w. rw (w .3, w .4, w .2 .ensures) (
+        (λ w. rw (w .6, w .7, w .3 .ensures) (
           omega arith,
           omega arith,
           omega arith,
@@ -140,9 +129,7 @@ clear-spec =
     shared-slice-read-if1
     same-length
     returns
-    cell-requires
-    mul-words
-    slice-write-words
+    clear-step-requires
     add-n
     add-i
     loop-less
