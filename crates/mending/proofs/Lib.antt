@@ -3,3 +3,4 @@ pub mod Erasing
 pub mod AllLists
 pub mod Cleared
 pub mod Fitting
+pub mod Recovered

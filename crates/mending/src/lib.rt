@@ -9,9 +9,10 @@ ghost use Prim.Native.Nat.{ℕ, _+_, _-_, _<_, _≤_};
 ghost use mathlib.Core.List.{_++_};
 ghost use mathlib.Core.Bool.{false};
 ghost use lib.ListN.{length, getD};
-ghost use Rattle.stores.specs.Stores.{applied, writesIn, Held, answerOf, wordsAfter, store, write};
+ghost use Rattle.stores.specs.Stores.{applied, writesIn, Held, stores, answerOf, wordsAfter, store, write};
 ghost use Rattle.layout.specs.Words.{Laid, InRange, cellCount, firstNode, sizeOf, identAt};
-ghost use Rattle.survey.specs.Survey.{columns, Columns};
+ghost use Rattle.survey.specs.Survey.{columns, Columns, Loaded};
+ghost use Rattle.lists.specs.Decide.{countIn};
 ghost use Rattle.recovery.specs.Plan.{recoverOf};
 ghost use Rattle.mending.specs.Mending.{plus, fault, walkFaults, choose, fitIn, mendOf, numberOf, faultIn, isBackward, FaultFits, MendsOf, walked, erased, erasedFrom, clearsIn, clearAnswer};
 
@@ -270,24 +271,58 @@ pub fn clear(words: &mut [u16], l: Layout, idents: &[u16], made: u16, allowance:
     Answer::Done(n)
 }
 
-// Recovers a store of this layout, whose words are read into the columns. All is decided before the first store.
-fn recover_by(words: &mut [u16], l: Layout, allowance: u16, idents: &mut [u16], forwards: &mut [u16], backs: &mut [u16]) -> Answer
-    requires { ⌜ Laid l (now words) × Columns l (now idents) (now forwards) (now backs) ⌝ }
+// Makes the stores of the rows and then the clears, up to the allowance.
+fn mend_and_clear(words: &mut [u16], l: Layout, rows: Rows, idents: &[u16], allowance: u16) -> Answer
+    requires { ⌜ Laid l (now words) × (length (now idents) ≡ cellCount l) × Held (sizeOf l) rows (writesIn rows) × (rows .len ≤ 8) ⌝ }
+    ensures answer { λ r. ⌜ r ≡ answerOf (stores (writesIn rows ++ clearsIn l (now (idents .entry)) (firstNode l) (l .nodes))) allowance ⌝ }
+    ensures words { λ _. ⌜ now (words .exit) ≡ applied (writesIn rows ++ clearsIn l (now (idents .entry)) (firstNode l) (l .nodes)) allowance (now (words .entry)) ⌝ }
+{
+    let Answer::Done(made) = stores::run_rows(words, rows, allowance) else {
+        return Answer::Stopped(allowance);
+    };
+    clear(words, l, idents, made, allowance)
+}
+
+// Recovers a store of this layout by its columns and counts. All is decided before the first store.
+fn recover_by(
+    words: &mut [u16],
+    l: Layout,
+    idents: &mut [u16],
+    forwards: &[u16],
+    backs: &[u16],
+    counts: [u16; 8],
+    allowance: u16,
+) -> Answer
+    requires { ⌜ Laid l (now words) × Columns l (now idents) (now forwards) (now backs) × Loaded l (now words) (now idents) (now forwards) (now backs) × ((k : ℕ) → k < l .lists → getD counts k 0 ≡ countIn (now words) k) ⌝ }
     ensures answer { λ r. ⌜ r ≡ answerOf (recoverOf l (now (words .entry))) allowance ⌝ }
     ensures words { λ _. ⌜ now (words .exit) ≡ wordsAfter (recoverOf l (now (words .entry))) allowance (now (words .entry)) ⌝ }
 {
-    survey::load(words, l, idents, forwards, backs);
-    let m = all_mends(idents, forwards, backs, survey::all_counts(words, l), l);
+    let m = all_mends(idents, forwards, backs, counts, l);
     if m.refusal != 0 {
         return Answer::Refused(m.refusal);
     }
     let back = m.back;
     erase_all(idents, forwards, backs, back, l);
     let rows = m.rows;
-    let Answer::Done(made) = stores::run_rows(words, rows, allowance) else {
-        return Answer::Stopped(allowance);
-    };
-    clear(words, l, idents, made, allowance)
+    mend_and_clear(words, l, rows, idents, allowance)
+}
+
+// The same of the lent words, which are read into the columns.
+fn recover_with(
+    words: &mut [u16],
+    l: Layout,
+    idents: &mut [u16],
+    forwards: &mut [u16],
+    backs: &mut [u16],
+    allowance: u16,
+) -> Answer
+    requires { ⌜ Laid l (now words) × Columns l (now idents) (now forwards) (now backs) ⌝ }
+    ensures answer { λ r. ⌜ r ≡ answerOf (recoverOf l (now (words .entry))) allowance ⌝ }
+    ensures words { λ _. ⌜ now (words .exit) ≡ wordsAfter (recoverOf l (now (words .entry))) allowance (now (words .entry)) ⌝ }
+{
+    survey::load(words, l, idents, forwards, backs);
+    let counts = survey::all_counts(words, l);
+    recover_by(words, l, idents, forwards, backs, counts, allowance)
 }
 
 // Recovers a store of this layout.
@@ -300,5 +335,5 @@ pub fn recover_in(words: &mut [u16], l: Layout, allowance: u16) -> Answer
     let mut idents = survey::column();
     let mut forwards = survey::column();
     let mut backs = survey::column();
-    recover_by(words, l, allowance, &mut idents[..n], &mut forwards[..n], &mut backs[..n])
+    recover_with(words, l, &mut idents[..n], &mut forwards[..n], &mut backs[..n], allowance)
 }

@@ -1,0 +1,135 @@
+-- What the columns told is the plan of recovery, and two runs in a row make its stores.
+use Prim.Native.Nat.{ℕ, zero, suc, _+_, _-_, _<_, _≤_}
+use mathlib.Core.Path.{_≡_, refl, ap, ap₂, _∙_, sym, subst}
+use mathlib.Core.List.{List, [], _∷_, _++_}
+use mathlib.Core.Bool.{Bool, true, false, cond}
+use native.Mathlib.Omega.{arith}
+use native.Mathlib.Nat.{eq-or-lt-of-le}
+use mathlib.Core.Logic.{_⊎_, inl, inr, ⊎-elim}
+use lib.Dec.{eqb, ltb}
+use lib.ListN.{length, getD, take, length-append}
+use lib.Seq.{take-append-le, take-append-add}
+use borrow.Author.Tests.{eq-eqb, ne-eqb, eqb-true, lt-ltb, ltb-false}
+use Rattle.sequences.specs.Sequence.{_∈_}
+use Rattle.stores.specs.declared.Answer.the-variants as A
+use Rattle.stores.specs.Stores.{Write, Plan, refuse, stores, run, applied, answerOf, writesIn}
+use Rattle.stores.proofs.Laws.{run-append}
+use Rattle.layout.specs.declared.Layout.{Layout}
+use Rattle.layout.specs.Words.{firstNode}
+use Rattle.lists.specs.Decide.{View, viewOf, countIn}
+use Rattle.survey.specs.Survey.{columns, Loaded}
+use Rattle.survey.proofs.Laws.{loaded-view}
+use Rattle.recovery.specs.Plan.{joined, clears, recoverStores, fittingOf, refusalFrom, recoverOf}
+use Rattle.mending.specs.declared.Mends.{Mends}
+use Rattle.mending.specs.Mending.{fitIn, mendOf, numberOf, faultIn, isBackward, refusalIn, mendsIn, erasedFrom, clearsIn, clearAnswer, MendsOf, membersBy, erased}
+use Rattle.mending.proofs.AllLists.{length-erased}
+use Rattle.mending.proofs.Cleared.{cleared-told}
+use Rattle.mending.proofs.Fitting.{refusal-told, mends-told, members-told}
+
+-- the counts of lists below L are all that matters
+refusal-counts : (l : Layout) (v : View) (c d : ℕ → ℕ) (k n : ℕ) → ((j : ℕ) → k ≤ j → j < k + n → c j ≡ d j)
+    → refusalIn l v c k n ≡ refusalIn l v d k n
+unfolding refusalIn
+refusal-counts l v c d k zero h = refl
+refusal-counts l v c d k (suc n) h =
+    ap₂ (λ (x r : ℕ). cond (eqb (numberOf (fitIn l v k x)) 0) r (numberOf (fitIn l v k x)))
+    (h k (omega arith) (omega arith)) (refusal-counts l v c d (suc k) n (λ j p q. h j (omega arith) (omega arith)))
+
+mends-counts : (l : Layout) (v : View) (c d : ℕ → ℕ) (k n : ℕ) → ((j : ℕ) → k ≤ j → j < k + n → c j ≡ d j) → mendsIn l v c k n ≡ mendsIn l v d k n
+unfolding mendsIn
+mends-counts l v c d k zero h = refl
+mends-counts l v c d k (suc n) h =
+    ap₂ (λ (x : ℕ) (r : List Write). mendOf l (faultIn (fitIn l v k x)) ++ r)
+    (h k (omega arith) (omega arith)) (mends-counts l v c d (suc k) n (λ j p q. h j (omega arith) (omega arith)))
+
+-- where none is refused, every list is not
+none-refused : (l : Layout) (v : View) (c : ℕ → ℕ) (k n : ℕ) → refusalIn l v c k n ≡ 0 → (j : ℕ) → k ≤ j → j < k + n → numberOf (fitIn l v j (c j)) ≡ 0
+unfolding refusalIn
+none-refused l v c k zero e j p q = absurd (omega arith)
+none-refused l v c k (suc n) e j p q =
+    let r = by (eqb (numberOf (fitIn l v k (c k))) 0) refl e in
+    ⊎-elim (λ z. ap (λ (i : ℕ). numberOf (fitIn l v i (c i))) (sym z) ∙ r .0) (λ z. none-refused l v c (suc k) n (r .1) j z (omega arith)) (eq-or-lt-of-le p)
+  where
+    by : (b : Bool) → eqb (numberOf (fitIn l v k (c k))) 0 ≡ b → cond b (refusalIn l v c (suc k) n) (numberOf (fitIn l v k (c k))) ≡ 0
+        → (numberOf (fitIn l v k (c k)) ≡ 0) × (refusalIn l v c (suc k) n ≡ 0)
+    by true z e = (eqb-true _ _ z, e)
+    by false z e = let y : true ≡ false = sym (eq-eqb _ _ e) ∙ z in let o : _≡_ {A = ℕ} 1 0 = ap (λ (b : Bool). cond b 1 0) y in absurd (omega arith)
+
+module _ (l : Layout) (w idents forwards backs : List ℕ) (loaded : Loaded l w idents forwards backs) (counts : ℕ → ℕ)
+    (same : (k : ℕ) → k < l .lists → counts k ≡ countIn w k) (m : Mends) (told : MendsOf l (columns idents forwards backs) counts m) where
+  abbrev v : View
+  v = viewOf l w
+
+  told-words : MendsOf l v counts m
+  told-words = subst (λ (u : View). MendsOf l u counts m) (loaded-view l w idents forwards backs loaded) told
+
+  counted : refusalIn l v counts 0 (l .lists) ≡ refusalIn l v (countIn w) 0 (l .lists)
+  counted = refusal-counts l v counts (countIn w) 0 (l .lists) (λ j p q. same j (omega arith))
+
+  refusal : m .refusal ≡ refusalFrom l w 0 (l .lists)
+  refusal = told-words .refusal ∙ counted ∙ refusal-told l w 0 (l .lists) (omega arith)
+
+  -- a refusal
+  pub recover-refused : (m .refusal ≡ 0 → ⊥) → recoverOf l w ≡ refuse (m .refusal)
+  unfolding recoverOf
+  recover-refused n = rw (ne-eqb _ _ (λ e. n (refusal ∙ e))) (ap refuse (sym refusal))
+
+  -- the stores: the mends, and the clears by what is left of the identifiers
+  abbrev Clears : List Write
+  Clears = clearsIn l (erasedFrom l (columns idents forwards backs) (λ k. getD (m .back) k false) 0 (l .lists) idents) (firstNode l) (l .nodes)
+
+  pub recover-stores : m .refusal ≡ 0 → recoverOf l w ≡ stores (writesIn (m .rows) ++ Clears)
+  unfolding recoverOf
+  recover-stores z =
+      rw (eq-eqb _ _ (sym refusal ∙ z))
+      (ap stores
+      (sym
+      (ap₂ (λ (ps qs : List Write). ps ++ qs)
+        (told-words .rows z .same ∙ mends-counts l v counts (countIn w) 0 (l .lists) (λ j p q. same j (omega arith)))
+        cleared
+      ∙ mends-told l w 0 (l .lists) (omega arith) none)))
+    where
+      none : refusalIn l v (countIn w) 0 (l .lists) ≡ 0
+      none = sym counted ∙ sym (told-words .refusal) ∙ z
+      back : (k : ℕ) → k < l .lists → getD (m .back) k false ≡ isBackward (fitIn l v k (countIn w k))
+      back k h = told-words .back z k h ∙ ap (λ (n : ℕ). isBackward (fitIn l v k n)) (same k h)
+      cleared : Clears ≡ clears l w (joined (fittingOf l w) (l .lists)) (firstNode l) (l .nodes)
+      cleared =
+          ap (λ (u : View). clearsIn l (erasedFrom l u (λ k. getD (m .back) k false) 0 (l .lists) idents) (firstNode l) (l .nodes))
+          (loaded-view l w idents forwards backs loaded)
+          ∙ cleared-told l w idents v (λ k. getD (m .back) k false) (fittingOf l w) (λ c _. loaded .idents c)
+            (λ k h. subst (λ (b : Bool). (c : ℕ) → (c ∈ membersBy l v b k → c ∈ fittingOf l w k) × (c ∈ fittingOf l w k → c ∈ membersBy l v b k)) (sym (back k h))
+              (members-told l w k h (none-refused l v (countIn w) 0 (l .lists) none k (omega arith) (omega arith))))
+
+-- a run of the first stores that is cut: so is a run of all
+pub first-stopped : (ps qs : List Write) (m : ℕ) (w : List ℕ) → m < length ps
+    → (A.Stopped m ≡ answerOf (stores (ps ++ qs)) m) × (applied ps m w ≡ applied (ps ++ qs) m w)
+first-stopped ps qs m w h =
+    (rw (lt-ltb m (length (ps ++ qs)) (omega (arith, length-append ps qs))), ap (λ (rs : List Write). run rs w) (sym (take-append-le m ps qs (omega arith))))
+
+-- a run of the first stores that is done, and then one of the rest
+pub first-done : (ps qs : List Write) (m : ℕ) (w : List ℕ) → length ps ≤ m
+    → (clearAnswer (length ps) (length qs) m ≡ answerOf (stores (ps ++ qs)) m) × (applied qs (m - length ps) (run ps w) ≡ applied (ps ++ qs) m w)
+first-done ps qs m w h =
+    (ap (λ (n : ℕ). cond (ltb m n) (A.Stopped m) (A.Done n)) (sym (length-append ps qs)),
+    sym (ap (λ (rs : List Write). run rs w)
+      (ap (λ (n : ℕ). take n (ps ++ qs)) e ∙ take-append-add ps qs (m - length ps))
+      ∙ run-append ps (take (m - length ps) qs) w))
+  where
+    e : m ≡ length ps + (m - length ps)
+    e = omega arith
+
+-- a run that is done made all its stores
+pub done-whole : (ps : List Write) (m n : ℕ) → A.Done n ≡ answerOf (stores ps) m → (n ≡ length ps) × (length ps ≤ m)
+done-whole ps m n = by (ltb m (length ps)) refl
+  where
+    by : (b : Bool) → ltb m (length ps) ≡ b → A.Done n ≡ cond b (A.Stopped m) (A.Done (length ps)) → (n ≡ length ps) × (length ps ≤ m)
+    by true z e = let y : _≡_ {A = ℕ} 0 1 = cc in absurd (omega arith)
+    by false z e = (cc, ltb-false m (length ps) z)
+
+-- a column with members erased has its length
+pub length-from : (l : Layout) (v : View) (back : ℕ → Bool) (k n : ℕ) (xs : List ℕ) → length (erasedFrom l v back k n xs) ≡ length xs
+unfolding erasedFrom
+length-from l v back k zero xs = refl
+length-from l v back k (suc n) xs =
+    length-from l v back (suc k) n (erased (membersBy l v (back k) k) xs) ∙ length-erased (membersBy l v (back k) k) xs
