@@ -7,12 +7,14 @@ use lib.ListN.{length, take, drop}
 use borrow.Author.Tests.{eq-eqb, ne-eqb}
 use Rattle.stores.specs.Stores.{refuse, stores}
 use Rattle.layout.specs.declared.Layout.{Layout}
-use Rattle.layout.specs.Words.{inRange, sizeOf, formatted, recordAt}
+use Rattle.layout.specs.declared.Opened.the-variants as O
+use Rattle.layout.specs.Words.{opened, inRange, sizeOf, formatted, recordAt}
 use Rattle.requests.specs.declared.Site.{Site}
 use Rattle.requests.specs.declared.Request.the-variants.{Check, Whole, Member, Gap}
 use Rattle.requests.specs.declared.Looked.the-variants as K
 use Rattle.requests.specs.Requests.{lookOf}
 use Rattle.edits.specs.Edits.{insertWrites, deleteWrites}
+use Rattle.recovery.specs.Plan.{recoverOf, recoverPlan}
 use Rattle.axle_store.specs.declared.Formatted.the-variants as F
 use Rattle.axle_store.specs.declared.Checked.the-variants as C
 use Rattle.axle_store.specs.declared.Counted.the-variants as L
@@ -84,3 +86,12 @@ module _ (w : List ℕ) where
         pub insert-at : {l : Layout} {t : Site} → lookOf w (Gap k p c (length words)) ≡ K.At l t → insertPlan w k p c words ≡ stores (insertWrites l k t words)
         unfolding insertPlan
         insert-at e = rw e
+
+  -- recover: a store that is not opened, or a plan by its layout
+  pub recover-shut : {n : ℕ} → opened w ≡ O.Refused n → recoverPlan w ≡ refuse n
+  unfolding recoverPlan
+  recover-shut e = rw e
+
+  pub recover-open : {l : Layout} → opened w ≡ O.Open l → recoverPlan w ≡ recoverOf l w
+  unfolding recoverPlan
+  recover-open e = rw e

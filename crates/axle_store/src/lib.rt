@@ -1,6 +1,7 @@
 // The axle store's calls on lent words. Each asks its questions in the order of docs/FORMAT.md; the first no decides, and a
 // refused call stores nothing. No call asks anything of its caller: the words may hold anything, at any length.
 use layout::Layout;
+use layout::Opened;
 use requests::Looked;
 use requests::Request;
 use stores::Answer;
@@ -9,6 +10,7 @@ ghost use Prim.Native.Nat.{_+_, _*_};
 ghost use lib.ListN.{length};
 ghost use Rattle.stores.specs.Stores.{answerOf, wordsAfter};
 ghost use Rattle.layout.specs.Words.{InRange, sizeOf, formatted};
+ghost use Rattle.recovery.specs.Plan.{recoverPlan};
 ghost use Rattle.axle_store.specs.Answers.{checkedNumber, formattedNumber, countedNumber, countedLength};
 ghost use Rattle.axle_store.specs.Calls.{formatAnswer, formatWords, checkAnswer, lengthAnswer, readNumber, readWords, readStart, insertPlan, deletePlan};
 
@@ -175,5 +177,16 @@ pub fn delete(words: &mut [u16], list: u16, position: u16, allowance: u16) -> An
     match requests::look(words, Request::Member(list, position)) {
         Looked::Refused(n) => Answer::Refused(n),
         Looked::At(l, t) => stores::run_rows(words, edits::delete_rows(l, list, t), allowance),
+    }
+}
+
+// Recovers the store by correction: the words that a cut insert or delete, or one altered word in a list, left wrong.
+pub fn recover(words: &mut [u16], allowance: u16) -> Answer
+    ensures answer { λ r. ⌜ r ≡ answerOf (recoverPlan (now (words .entry))) allowance ⌝ }
+    ensures words { λ _. ⌜ now (words .exit) ≡ wordsAfter (recoverPlan (now (words .entry))) allowance (now (words .entry)) ⌝ }
+{
+    match layout::open(words) {
+        Opened::Refused(n) => Answer::Refused(n),
+        Opened::Open(l) => mending::recover_in(words, l, allowance),
     }
 }
