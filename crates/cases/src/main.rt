@@ -12,6 +12,7 @@
 //     8 k p c m v1 .. vm a            insert of the record v1 .. vm (at most 64 words) from cell c on, allowance a
 //                                     prints 'insert k p c m a = ANSWER', then the words or their checksum
 //     9 k p a         delete          prints 'delete k p a = ANSWER', then the same
+//     10 a            recover         prints 'recover a = ANSWER', then the same
 //
 // An ANSWER is 'done', 'stopped' or 'refused' and its number. Words outside the store are not stored. An unknown operation, an
 // entry that is cut short or a record that is too long ends the run with the line 'bad script'. The last line is 'end'.
@@ -233,6 +234,14 @@ fn delete(words: &mut [u16], list: u16, position: u16, allowance: u16) {
     print_answer(answer, words);
 }
 
+// Operation 10.
+fn recover(words: &mut [u16], allowance: u16) {
+    printing::text(b"recover");
+    printing::spaced(allowance);
+    let answer = axle_store::recover(words, allowance);
+    print_answer(answer, words);
+}
+
 // The number of words of an insert's entry whose record has m words, 0 if that is too many.
 fn insert_words(m: u16) -> usize {
     if 64 < m { 0 } else { 6 + m as usize }
@@ -245,7 +254,7 @@ fn entry_words(script: &[u8]) -> usize {
         3 => 3 + word(script, 2) as usize,
         4 => 4,
         5 => 1,
-        6 => 2,
+        6 | 10 => 2,
         8 => insert_words(word(script, 4)),
         9 => 4,
         _ => 0,
@@ -276,6 +285,7 @@ fn perform(entry: &[u8], words: &mut [u16]) {
         7 => read(words, word(entry, 1), word(entry, 2)),
         8 => insert(words, entry),
         9 => delete(words, word(entry, 1), word(entry, 2), word(entry, 3)),
+        10 => recover(words, word(entry, 1)),
         _ => {}
     }
 }

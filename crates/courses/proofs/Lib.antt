@@ -11,3 +11,4 @@ pub mod DeleteCut
 pub mod Recoveries
 pub mod EditCut
 pub mod Course
+pub mod Single

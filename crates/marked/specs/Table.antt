@@ -6,6 +6,7 @@ use Rattle.stores.specs.declared.Answer.{Answer}
 use Rattle.stores.specs.declared.Answer.the-variants as A
 use Rattle.stores.specs.Stores.{Write, write, Plan, answerOf, wordsAfter, madeBy}
 use Rattle.layout.specs.declared.Layout.{Layout}
+use Rattle.recovery.specs.Plan.{recoverPlan}
 use Rattle.axle_store.specs.Answers.{formattedNumber, checkedNumber, countedNumber, countedLength}
 use Rattle.axle_store.specs.Calls.{formatAnswer, formatWords, checkAnswer, lengthAnswer, readNumber, readWords, insertPlan, deletePlan}
 
@@ -20,6 +21,7 @@ pub data Call : Type 0 where
   read : ℕ → ℕ → Call
   insert : ℕ → ℕ → ℕ → List ℕ → ℕ → Call
   delete : ℕ → ℕ → ℕ → Call
+  recover : ℕ → Call
 
 -- how a call ends: a refusal's number or 0, done or stopped after so many stores
 pub data End : Type 0 where
@@ -50,6 +52,7 @@ outcome (length k) w =
 outcome (read k p) w = record { ended = number (readNumber w k p); values = readWords w k p; stores = []; words = w }
 outcome (insert k p c words m) w = planned (insertPlan w k p c words) m w
 outcome (delete k p m) w = planned (deletePlan w k p) m w
+outcome (recover m) w = planned (recoverPlan w) m w
 
 pub record Row : Type 0 where
   pub words : List ℕ
@@ -63,7 +66,7 @@ store header node1 node2 node3 = 82 ∷ 66 ∷ 83 ∷ 1 ∷ 1 ∷ 3 ∷ 1 ∷ 0 
 abbrev pub cell : ℕ → ℕ → ℕ → ℕ → List ℕ
 cell a b c d = a ∷ b ∷ c ∷ d ∷ []
 
--- the words of C1, C2 and C3, and of C6 when done and when cut after one store
+-- the words of each row: when cut, and when done or recovered
 abbrev pub c1 : List ℕ
 c1 = 82 ∷ 66 ∷ 83 ∷ 1 ∷ 1 ∷ 3 ∷ 1 ∷ 0 ∷ 42400 ∷ 0 ∷ 0 ∷ 0 ∷ replicate 12 0
 
@@ -73,11 +76,29 @@ c2 = store (cell 42400 2 2 1) (cell 0 0 0 0) (cell 42400 0 0 700) (cell 0 0 0 0)
 abbrev pub c3 : List ℕ
 c3 = store (cell 42400 2 3 2) (cell 0 0 0 0) (cell 42400 3 0 700) (cell 42400 0 2 512)
 
+abbrev pub c4cut : List ℕ
+c4cut = store (cell 42400 2 2 2) (cell 0 0 0 0) (cell 42400 0 0 700) (cell 42400 0 2 512)
+
+abbrev pub c4 : List ℕ
+c4 = store (cell 42400 2 2 1) (cell 0 0 0 0) (cell 42400 0 0 700) (cell 0 0 2 512)
+
+abbrev pub c5cut : List ℕ
+c5cut = store (cell 42400 2 2 2) (cell 0 0 0 0) (cell 42400 3 0 700) (cell 42400 0 2 512)
+
 abbrev pub c6 : List ℕ
 c6 = store (cell 42400 3 3 1) (cell 0 0 0 0) (cell 0 3 0 700) (cell 42400 0 0 512)
 
 abbrev pub c6cut : List ℕ
 c6cut = store (cell 42400 2 3 2) (cell 0 0 0 0) (cell 42400 3 0 700) (cell 42400 0 0 512)
+
+abbrev pub c7cut : List ℕ
+c7cut = store (cell 42400 3 3 2) (cell 0 0 0 0) (cell 42400 3 0 700) (cell 42400 0 0 512)
+
+abbrev pub c9 : List ℕ
+c9 = store (cell 42400 1 2 1) (cell 42400 0 0 0) (cell 42400 0 0 700) (cell 0 0 0 0)
+
+abbrev pub c10 : List ℕ
+c10 = store (cell 42400 9 9 2) (cell 0 0 0 0) (cell 42400 3 0 700) (cell 42400 0 2 512)
 
 -- C1. "Formatted: 82 66 83 1 1 3 1 0 42400 0 0 0, then twelve zeros."
 abbrev pub rows1 : List Row
@@ -122,7 +143,54 @@ rows3 =
     ∷ record { words = c3; call = read 0 1; outcome = record { ended = number 0; values = 512 ∷ []; stores = []; words = c3 } }
     ∷ []
 
--- C6. "From C3, delete position 0: 22 = 0, 9 = 3, 11 = 1, 16 = 0. Cut after 1: .."
+-- C4. "C3 cut after 5 stores: recovery gives 700 alone; it stores 11 = 1, 20 = 0."
+abbrev pub rows4 : List Row
+rows4 =
+    record {
+      words = c2;
+      call = insert 0 1 2 (512 ∷ []) 5;
+      outcome =
+        record {
+          ended = stopped 5;
+          values = [];
+          stores = write 23 512 ∷ write 21 0 ∷ write 22 2 ∷ write 20 42400 ∷ write 11 2 ∷ [];
+          words = c4cut
+        }
+    }
+    ∷ record {
+      words = c4cut;
+      call = recover 65535;
+      outcome = record { ended = done 2; values = []; stores = write 11 1 ∷ write 20 0 ∷ []; words = c4 }
+    }
+    ∷ record { words = c4; call = check; outcome = record { ended = number 0; values = []; stores = []; words = c4 } }
+    ∷ record { words = c4; call = length 0; outcome = record { ended = number 0; values = 1 ∷ []; stores = []; words = c4 } }
+    ∷ record { words = c4; call = read 0 0; outcome = record { ended = number 0; values = 700 ∷ []; stores = []; words = c4 } }
+    ∷ []
+
+-- C5. "C3 cut after 6: recovery gives 700, 512; it stores 10 = 3."
+abbrev pub rows5 : List Row
+rows5 =
+    record {
+      words = c2;
+      call = insert 0 1 2 (512 ∷ []) 6;
+      outcome =
+        record {
+          ended = stopped 6;
+          values = [];
+          stores = write 23 512 ∷ write 21 0 ∷ write 22 2 ∷ write 20 42400 ∷ write 11 2 ∷ write 17 3 ∷ [];
+          words = c5cut
+        }
+    }
+    ∷ record {
+      words = c5cut;
+      call = recover 65535;
+      outcome = record { ended = done 1; values = []; stores = write 10 3 ∷ []; words = c3 }
+    }
+    ∷ record { words = c3; call = length 0; outcome = record { ended = number 0; values = 2 ∷ []; stores = []; words = c3 } }
+    ∷ record { words = c3; call = read 0 0; outcome = record { ended = number 0; values = 700 ∷ []; stores = []; words = c3 } }
+    ∷ []
+
+-- C6. "From C3, delete position 0: 22 = 0, 9 = 3, 11 = 1, 16 = 0. Cut after 1: both records stay, one store, 22 = 2."
 abbrev pub rows6 : List Row
 rows6 =
     record {
@@ -132,6 +200,29 @@ rows6 =
         record { ended = done 4; values = []; stores = write 22 0 ∷ write 9 3 ∷ write 11 1 ∷ write 16 0 ∷ []; words = c6 }
     }
     ∷ record { words = c3; call = delete 0 0 1; outcome = record { ended = stopped 1; values = []; stores = write 22 0 ∷ []; words = c6cut } }
+    ∷ record {
+      words = c6cut;
+      call = recover 65535;
+      outcome = record { ended = done 1; values = []; stores = write 22 2 ∷ []; words = c3 }
+    }
+    ∷ []
+
+-- C7. "The same cut after 2: 512 alone; stores 11 = 1, 16 = 0."
+abbrev pub rows7 : List Row
+rows7 =
+    record {
+      words = c3;
+      call = delete 0 0 2;
+      outcome = record { ended = stopped 2; values = []; stores = write 22 0 ∷ write 9 3 ∷ []; words = c7cut }
+    }
+    ∷ record {
+      words = c7cut;
+      call = recover 65535;
+      outcome = record { ended = done 2; values = []; stores = write 11 1 ∷ write 16 0 ∷ []; words = c6 }
+    }
+    ∷ record { words = c6; call = check; outcome = record { ended = number 0; values = []; stores = []; words = c6 } }
+    ∷ record { words = c6; call = length 0; outcome = record { ended = number 0; values = 1 ∷ []; stores = []; words = c6 } }
+    ∷ record { words = c6; call = read 0 0; outcome = record { ended = number 0; values = 512 ∷ []; stores = []; words = c6 } }
     ∷ []
 
 -- C8. "From C3, position 3 for insert: 7. Position 2: accepted as a position."
@@ -145,5 +236,14 @@ rows8 =
     }
     ∷ []
 
+-- C9. "From C2, cell 1 given identifier 42400, forward 0, back 0, and word 9 = 1: two sequences fit, refused 12."
+abbrev pub row9 : Row
+row9 = record { words = c9; call = recover 65535; outcome = record { ended = number 12; values = []; stores = []; words = c9 } }
+
+-- C10. "C3 with words 9 and 10 both 9: refused 11."
+abbrev pub row10 : Row
+row10 = record { words = c10; call = recover 65535; outcome = record { ended = number 11; values = []; stores = []; words = c10 } }
+
 abbrev pub rows : List Row
-rows = rows1 ++ (row2 ∷ rows3 ++ (rows6 ++ rows8))
+rows =
+    rows1 ++ (row2 ∷ rows3 ++ (rows4 ++ (rows5 ++ (rows6 ++ (rows7 ++ (rows8 ++ (row9 ∷ row10 ∷ [])))))))

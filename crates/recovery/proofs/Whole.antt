@@ -2,12 +2,12 @@
 use Prim.Native.Nat.{ℕ, zero, suc, _+_, _<_, _≤_}
 use mathlib.Core.Path.{_≡_, refl, ap, ap₂, _∙_, sym, subst}
 use mathlib.Core.List.{List, [], _∷_, _++_, List·Memᴰ·head, List·Memᴰ·tail}
-use mathlib.Core.Bool.{Bool, true, false, _||_, or-true}
+use mathlib.Core.Bool.{Bool, true, false, cond, _||_, or-true}
 use mathlib.Core.Logic.{_⊎_, inl, inr, ⊎-elim}
 use native.Mathlib.Omega.{arith}
 use native.Mathlib.Nat.{eq-or-lt-of-le, le-of-suc-le-suc}
 use lib.Dec.{eqb}
-use lib.ListN.{length, getD, drop}
+use lib.ListN.{length, getD, drop, length-append}
 use lib.Seq.{drop-length}
 use borrow.Author.Tests.{eq-eqb, eqb-true}
 use Rattle.sequences.specs.Sequence.{_∈_, All}
@@ -161,3 +161,22 @@ sound-settled l w x =
     zero-outside : (c : ℕ) → firstNode l ≤ c → c < firstNode l + l .nodes → (c ∈ joined (x .sequence) (l .lists) → ⊥) → getD w (identAt l c) 0 ≡ 0
     zero-outside c p q o =
         x .outside c (record { low = p; high = q }) (λ k h m. o (one-joined (x .sequence) (l .lists) k c h m))
+
+-- "so recovery makes at most L + N stores"
+clears-few : (l : Layout) (w ms : List ℕ) (a n : ℕ) → length (clears l w ms a n) ≤ n
+unfolding clears
+clears-few l w ms a zero = omega arith
+clears-few l w ms a (suc n) = by (eqb (getD w (identAt l a) 0) 0 || isIn a ms) (clears-few l w ms (suc a) n)
+  where
+    by : (b : Bool) → length (clears l w ms (suc a) n) ≤ n → length (cond b (clears l w ms (suc a) n) (write (identAt l a) 0 ∷ clears l w ms (suc a) n)) ≤ suc n
+    by true h = omega arith
+    by false h = omega arith
+
+pub few-stores : (l : Layout) (w : List ℕ) (s : ℕ → List ℕ) → Accepted l w s → length (recoverStores l w s) ≤ l .lists + l .nodes
+unfolding storesFrom
+few-stores l w s a = from 0 (l .lists) (omega arith)
+  where
+    from : (k n : ℕ) → k + n ≤ l .lists → length (storesFrom l w s k n) ≤ n + l .nodes
+    from k zero h = omega (arith, clears-few l w (joined s (l .lists)) (firstNode l) (l .nodes))
+    from k (suc n) h =
+        omega (arith, length-append (wrong w (asked l k (s k))) (storesFrom l w s (suc k) n), a .fits k (omega arith) .few, from (suc k) n (omega arith))

@@ -6,5 +6,6 @@
 
 pub mod compare;
 pub mod random;
+pub mod recovery;
 pub mod script;
 pub mod store;

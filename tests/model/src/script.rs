@@ -1,5 +1,6 @@
 //! Scripts of the program `cases`: the operations, and the lines that a run must print.
 
+use crate::recovery;
 use crate::store::{self, Answer};
 
 /// The words that the program holds.
@@ -19,6 +20,7 @@ pub enum Operation {
     Read { list: u16, position: u16 },
     Insert { list: u16, position: u16, start: u16, record: Vec<u16>, allowance: u16 },
     Delete { list: u16, position: u16, allowance: u16 },
+    Recover { allowance: u16 },
 }
 
 use Operation::*;
@@ -37,6 +39,7 @@ impl Operation {
                 [&[8, list, position, start, record.len() as u16], &record[..], &[allowance]].concat()
             }
             Delete { list, position, allowance } => vec![9, list, position, allowance],
+            Recover { allowance } => vec![10, allowance],
         }
     }
 
@@ -55,6 +58,7 @@ impl Operation {
                 Insert { list, position, start, record, allowance }
             }
             [9, list, position, allowance, ..] => Delete { list, position, allowance },
+            [10, allowance, ..] => Recover { allowance },
             _ => return None,
         })
     }
@@ -101,6 +105,10 @@ impl Operation {
                 let answer = store::delete(words, list, position, allowance);
                 let call = format!("delete {list} {position} {allowance}");
                 vec![Line::ended(&DELETE, answer, allowance, call), words_line(words)]
+            }
+            Recover { allowance } => {
+                let answer = recovery::recover(words, allowance);
+                vec![Line::ended(&RECOVER, answer, allowance, format!("recover {allowance}")), words_line(words)]
             }
         }
     }
@@ -152,12 +160,13 @@ impl Line {
     }
 }
 
-/// The ends of insert and delete; refused without an allowance is one of its own.
+/// The ends of insert, delete and recover; refused without an allowance is one of its own.
 const INSERT: [&str; 4] = ["insert done", "insert stopped", "insert refused with 0", "insert refused"];
 const DELETE: [&str; 4] = ["delete done", "delete stopped", "delete refused with 0", "delete refused"];
+const RECOVER: [&str; 4] = ["recover done", "recover stopped", "recover refused with 0", "recover refused"];
 
-/// The answer numbers that each call can give.
-pub const ANSWERS: [(&str, &[u16]); 12] = [
+/// The answer numbers that each call can give; of recover's stores the least numbers, and those of the largest store.
+pub const ANSWERS: [(&str, &[u16]); 16] = [
     ("format", &[0, 3, 4]),
     ("check", &[0, 1, 2, 3, 4, 6]),
     ("length", &[0, 1, 2, 3, 4, 5, 6]),
@@ -170,6 +179,10 @@ pub const ANSWERS: [(&str, &[u16]); 12] = [
     (DELETE[1], &[0, 1, 2, 3]),
     (DELETE[2], &[1, 2, 3, 4, 5, 6, 7]),
     (DELETE[3], &[1, 2, 3, 4, 5, 6, 7]),
+    (RECOVER[0], &[0, 1, 2, 3, 4, 5, 6, 7, 8, 9, 10, 2008]),
+    (RECOVER[1], &[0, 1, 2, 3, 4, 5, 6, 7, 8, 2007]),
+    (RECOVER[2], &[1, 2, 3, 4, 11, 12]),
+    (RECOVER[3], &[1, 2, 3, 4, 11, 12]),
 ];
 
 /// The lines that a run of the script must print. A word of it is two bytes, low byte first.
@@ -215,6 +228,7 @@ mod tests {
             Insert { list: 2, position: 4, start: 5, record: vec![], allowance: 6 },
             Insert { list: 2, position: 4, start: 5, record: vec![7; LONGEST], allowance: 6 },
             Delete { list: 2, position: 4, allowance: 6 },
+            Recover { allowance: 6 },
         ];
         for operation in all {
             let words = operation.words();

@@ -1,5 +1,5 @@
 //! A store is a slice of words. Here is what its words mean, when it is sound, and what format, check, length, read, insert
-//! and delete answer and leave.
+//! and delete answer and leave. What recover does is in `recovery`.
 
 use std::collections::HashSet;
 use std::ops::Range;
@@ -47,7 +47,7 @@ impl Shape {
     }
 }
 
-fn identifier_of(list: usize) -> u16 {
+pub(crate) fn identifier_of(list: usize) -> u16 {
     IDENTIFIER + list as u16
 }
 
@@ -101,19 +101,25 @@ fn list_by_enumeration(words: &[u16], shape: Shape, list: usize, all: &[Vec<usiz
     fitting.first().map(|s| s.to_vec())
 }
 
-/// The list's sequence, found by its forward links.
-fn list_by_links(words: &[u16], shape: Shape, list: usize) -> Option<Vec<usize>> {
+/// The nodes met from the header on until it is met again, by the link that is word 1 or 2 of a cell: nothing if the way
+/// leaves the nodes or meets one twice.
+pub(crate) fn walk(words: &[u16], shape: Shape, list: usize, link: usize) -> Option<Vec<usize>> {
     let mut sequence = vec![];
     let mut visited = HashSet::new();
-    let mut at: usize = words[shape.cell(list) + 1].into();
+    let mut at: usize = words[shape.cell(list) + link].into();
     while at != list {
         if !shape.node_cells().contains(&at) || !visited.insert(at) {
             return None;
         }
         sequence.push(at);
-        at = words[shape.cell(at) + 1].into();
+        at = words[shape.cell(at) + link].into();
     }
-    Some(sequence).filter(|s| is_list(words, shape, list, s))
+    Some(sequence)
+}
+
+/// The list's sequence, found by its forward links.
+fn list_by_links(words: &[u16], shape: Shape, list: usize) -> Option<Vec<usize>> {
+    walk(words, shape, list, 1).filter(|s| is_list(words, shape, list, s))
 }
 
 /// The sequence of each list if the store is sound: every list has one, and a node in none has identifier 0.
@@ -223,10 +229,10 @@ pub enum Answer {
 }
 
 /// A word store: the word's place, and what it becomes.
-type WordStore = (usize, u16);
+pub type WordStore = (usize, u16);
 
 /// Makes the first stores of the list, up to the allowance: the answer, and the words then.
-fn make(words: &[u16], stores: &[WordStore], allowance: u16) -> (Answer, Vec<u16>) {
+pub(crate) fn make(words: &[u16], stores: &[WordStore], allowance: u16) -> (Answer, Vec<u16>) {
     let mut words = words.to_vec();
     for &(at, value) in stores.iter().take(allowance.into()) {
         words[at] = value;

@@ -5,11 +5,11 @@ use model::script::{Operation, Operation::*, LONGEST};
 use model::store::{self, sequences, store_of, Shape, IDENTIFIER};
 
 /// No call needs a larger allowance.
-const ENOUGH: u16 = 65_535;
+pub const ENOUGH: u16 = 65_535;
 
 /// A call that stores but for its allowance.
 #[derive(Clone)]
-enum Edit {
+pub enum Edit {
     Insertion { list: usize, position: usize, start: usize, record: Vec<u16> },
     Deletion { list: usize, position: usize },
 }
@@ -17,7 +17,7 @@ enum Edit {
 use Edit::*;
 
 impl Edit {
-    fn with(&self, allowance: u16) -> Operation {
+    pub fn with(&self, allowance: u16) -> Operation {
         match *self {
             Insertion { list, position, start, ref record } => Insert {
                 list: list as u16,
@@ -31,7 +31,7 @@ impl Edit {
     }
 
     /// The number of its stores.
-    fn whole(&self) -> u16 {
+    pub fn whole(&self) -> u16 {
         match self {
             Insertion { record, .. } => record.len() as u16 + 6,
             Deletion { .. } => 4,
@@ -41,7 +41,7 @@ impl Edit {
 
 impl Script {
     /// Random words, some of them such as links, counts and identifiers.
-    fn record(&mut self, size: usize) -> Vec<u16> {
+    pub fn record(&mut self, size: usize) -> Vec<u16> {
         (0..size)
             .map(|_| match self.random.below(6) {
                 0 => self.random.pick(&[0, 1, 65_535, IDENTIFIER]),
@@ -52,12 +52,12 @@ impl Script {
     }
 
     /// The insertion of a random record.
-    fn insertion(&mut self, shape: Shape, list: usize, position: usize, start: usize) -> Edit {
+    pub fn insertion(&mut self, shape: Shape, list: usize, position: usize, start: usize) -> Edit {
         Insertion { list, position, start, record: self.record(shape.width) }
     }
 
     /// A random node.
-    fn node(&mut self, shape: Shape) -> usize {
+    pub fn node(&mut self, shape: Shape) -> usize {
         shape.lists + self.random.below(shape.nodes)
     }
 
@@ -95,7 +95,7 @@ impl Script {
 }
 
 /// A formatted store.
-fn formatted(s: &mut Script, shape: Shape) {
+pub fn formatted(s: &mut Script, shape: Shape) {
     let value = s.random.word();
     s.add(Fill { size: shape.size() as u16, value });
     s.add(Format { lists: shape.lists as u16, nodes: shape.nodes as u16, width: shape.width as u16 });
@@ -411,7 +411,7 @@ pub fn damage(s: &mut Script) {
 }
 
 /// A random call: most have right arguments.
-fn random_edit(s: &mut Script, shape: Shape, lists: &[Vec<usize>], growing: bool) -> Edit {
+pub fn random_edit(s: &mut Script, shape: Shape, lists: &[Vec<usize>], growing: bool) -> Edit {
     let list = s.random.below(shape.lists);
     let n = lists[list].len();
     let beyond = usize::from(s.random.below(40) == 0);

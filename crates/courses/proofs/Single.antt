@@ -1,0 +1,87 @@
+-- One recovery: whatever store is not refused, a whole run leaves sound with at most L + N stores, and a sound store needs none.
+use Prim.Native.Nat.{ℕ, zero, suc, _+_, _<_, _≤_}
+use mathlib.Core.Path.{_≡_, refl, ap, _∙_, sym, subst}
+use mathlib.Core.List.{List, [], _∷_}
+use mathlib.Core.Bool.{Bool, true, false, cond}
+use mathlib.Core.Logic.{_⊎_, inl, inr, ⊎-elim}
+use native.Mathlib.Omega.{arith}
+use native.Mathlib.Nat.{eq-or-lt-of-le}
+use lib.Dec.{eqb}
+use lib.ListN.{length, getD}
+use borrow.Author.Tests.{eqb-true}
+use Rattle.stores.specs.Stores.{Write, Plan, refuse, stores, run}
+use Rattle.stores.proofs.Laws.{length-run}
+use Rattle.layout.specs.declared.Layout.{Layout}
+use Rattle.layout.specs.declared.Opened.{Opened}
+use Rattle.layout.specs.declared.Opened.the-variants as O
+use Rattle.layout.specs.Words.{InRange, layoutOf, sizeOf, opened, afterOpen, ask}
+use Rattle.layout.proofs.Laws.{opened-open, open-opened}
+use Rattle.lists.specs.Lists.{Sound, SoundLists}
+use Rattle.lists.proofs.Same.{same-marked, same-layout}
+use Rattle.recovery.specs.Fits.{Fit, none, only, several, fitOf}
+use Rattle.recovery.specs.Plan.{recoverStores, onlyOf, fittingOf, fitNumber, refusalFrom, recoverOf, recoverPlan, Accepted}
+use Rattle.recovery.proofs.Whole.{fit-accepted, accepted-plan, whole-sound, sound-accepted, sound-settled, few-stores}
+use Rattle.courses.proofs.Final.{final-head}
+
+-- no list refused: each has its only sequence
+all-only : (l : Layout) (w : List ℕ) (k n : ℕ) → refusalFrom l w k n ≡ 0 → (j : ℕ) → k ≤ j → j < k + n → fitOf l w j ≡ only (fittingOf l w j)
+unfolding refusalFrom
+all-only l w k zero e j p q = absurd (omega arith)
+all-only l w k (suc n) e j p q =
+    let r = by (fitOf l w k) e in
+    ⊎-elim (λ z. subst (λ (i : ℕ). fitOf l w i ≡ only (fittingOf l w i)) z (r .0)) (λ z. all-only l w (suc k) n (r .1) j z (omega arith)) (eq-or-lt-of-le p)
+  where
+    by : (f : Fit) → fitNumber f (refusalFrom l w (suc k) n) ≡ 0 → (f ≡ only (onlyOf f)) × (refusalFrom l w (suc k) n ≡ 0)
+    by none e = absurd (omega arith)
+    by (only s) e = (refl, e)
+    by several e = absurd (omega arith)
+
+-- what a plan that is not a refusal tells
+planned : (w : List ℕ) (ps : List Write) → recoverPlan w ≡ stores ps
+    → (opened w ≡ O.Open (layoutOf w)) × Accepted (layoutOf w) w (fittingOf (layoutOf w) w) × (ps ≡ recoverStores (layoutOf w) w (fittingOf (layoutOf w) w))
+unfolding recoverPlan recoverOf
+planned w ps = by (opened w) refl
+  where
+    asked : (l : Layout) (b : Bool) → eqb (refusalFrom l w 0 (l .lists)) 0 ≡ b
+        → ask b (refuse (refusalFrom l w 0 (l .lists))) (stores (recoverStores l w (fittingOf l w))) ≡ stores ps
+        → Accepted l w (fittingOf l w) × (ps ≡ recoverStores l w (fittingOf l w))
+    asked l true z e =
+        (fit-accepted l w (fittingOf l w) (λ k h. all-only l w 0 (l .lists) (eqb-true _ _ z) k (omega arith) (omega arith)), cc)
+    asked l false z e = let y : _≡_ {A = ℕ} 0 1 = cc in absurd (omega arith)
+    by : (o : Opened) → opened w ≡ o → afterOpen o refuse (λ l. recoverOf l w) ≡ stores ps
+        → (opened w ≡ O.Open (layoutOf w)) × Accepted (layoutOf w) w (fittingOf (layoutOf w) w) × (ps ≡ recoverStores (layoutOf w) w (fittingOf (layoutOf w) w))
+    by (O.Refused n) p e = let y : _≡_ {A = ℕ} 0 1 = cc in absurd (omega arith)
+    by (O.Open l) p e =
+        let q = opened-open w l p .0 in
+        let a = asked l (eqb (refusalFrom l w 0 (l .lists)) 0) refl e in
+        (p ∙ ap O.Open q, subst (λ (m : Layout). Accepted m w (fittingOf m w)) q (a .0),
+          subst (λ (m : Layout). ps ≡ recoverStores m w (fittingOf m w)) q (a .1))
+
+-- "Words already right aren't stored, so recovery makes at most L + N stores."
+pub recover-few : (w : List ℕ) (ps : List Write) → recoverPlan w ≡ stores ps → length ps ≤ layoutOf w .lists + layoutOf w .nodes
+recover-few w ps e =
+    let p = planned w ps e in
+    subst (λ (qs : List Write). length qs ≤ layoutOf w .lists + layoutOf w .nodes) (sym (p .2)) (few-stores (layoutOf w) w (fittingOf (layoutOf w) w) (p .1))
+
+-- a whole run leaves a sound store
+pub recover-sound : (w : List ℕ) (ps : List Write) → recoverPlan w ≡ stores ps → Sound (run ps w)
+recover-sound w ps e =
+    let p = planned w ps e in
+    let l = layoutOf w in
+    let t = fittingOf l w in
+    let o = opened-open w l (p .0) in
+    subst (λ (qs : List Write). Sound (run qs w)) (sym (p .2))
+    (let h : (a : ℕ) → a < 8 → getD (run (recoverStores l w t) w) a 0 ≡ getD w a 0 = final-head l w (o .3) t (p .1) in
+    let y : layoutOf (run (recoverStores l w t) w) ≡ l = same-layout w (run (recoverStores l w t) w) h in
+    record {
+      marked = same-marked w (run (recoverStores l w t) w) h ∙ o .1;
+      inRange = subst InRange (sym y) (o .2);
+      exact = length-run (recoverStores l w t) w ∙ o .3 ∙ ap sizeOf (sym y);
+      lists = subst (λ (m : Layout). SoundLists m (run (recoverStores l w t) w)) (sym y) (whole-sound l w t (o .3) (p .1) .0)
+    })
+
+-- recovering a sound store makes no store
+pub sound-recover : (w : List ℕ) → Sound w → recoverPlan w ≡ stores []
+sound-recover w s =
+    accepted-plan (layoutOf w) w (s .lists .sequence) (open-opened w (s .marked) (s .inRange) (s .exact)) (sound-accepted (layoutOf w) w (s .lists))
+    ∙ ap stores (sound-settled (layoutOf w) w (s .lists))

@@ -1,0 +1,337 @@
+//! What recover answers and leaves, in the words of docs/FORMAT.md, and how a course of calls that ends with it must end.
+
+use crate::store::{identifier_of, lists, make, open, sequences, walk, Answer, Shape, WordStore, FEW_NODES};
+use std::collections::{BTreeSet, HashSet};
+
+/// What a sequence asks of the list's header and of its members.
+fn asked(shape: Shape, list: usize, sequence: &[usize]) -> Vec<WordStore> {
+    let mut way = vec![list];
+    way.extend(sequence);
+    way.push(list);
+    let mut asked = vec![(shape.cell(list) + 3, sequence.len() as u16)];
+    for w in way.windows(2) {
+        asked.push((shape.cell(w[0]), identifier_of(list)));
+        asked.push((shape.cell(w[0]) + 1, w[1] as u16));
+        asked.push((shape.cell(w[1]) + 2, w[0] as u16));
+    }
+    asked
+}
+
+/// What the sequence asks and the words do not hold.
+fn differing(words: &[u16], shape: Shape, list: usize, sequence: &[usize]) -> Vec<WordStore> {
+    asked(shape, list, sequence).into_iter().filter(|&(at, value)| words[at] != value).collect()
+}
+
+fn fits(words: &[u16], shape: Shape, list: usize, sequence: &[usize]) -> bool {
+    differing(words, shape, list, sequence).len() <= 1
+}
+
+type Sequences = BTreeSet<Vec<usize>>;
+
+/// The sequences that fit the list, found among all that there are.
+fn fitting_by_enumeration(words: &[u16], shape: Shape, list: usize) -> Sequences {
+    let all = sequences(&shape.node_cells().collect::<Vec<_>>());
+    all.into_iter().filter(|s| fits(words, shape, list, s)).collect()
+}
+
+/// The sequences that fit the list, found by links: with one word wrong at most, all forward links or all back links are right.
+fn fitting_by_links(words: &[u16], shape: Shape, list: usize) -> Sequences {
+    let forward = walk(words, shape, list, 1);
+    let back = walk(words, shape, list, 2).map(|s| s.into_iter().rev().collect());
+    forward.into_iter().chain(back).filter(|s| fits(words, shape, list, s)).collect()
+}
+
+/// The sequences that fit the list.
+fn fitting(words: &[u16], shape: Shape, list: usize) -> Sequences {
+    let found = fitting_by_links(words, shape, list);
+    if shape.nodes <= FEW_NODES {
+        assert_eq!(found, fitting_by_enumeration(words, shape, list), "the model disagrees with itself on {words:?}");
+    }
+    found
+}
+
+/// The sequence that alone fits each list, or the number of the refusal.
+fn fitting_lists(words: &[u16]) -> Result<(Shape, Vec<Vec<usize>>), u16> {
+    let shape = open(words)?;
+    let mut lists = vec![];
+    for list in 0..shape.lists {
+        let mut found = fitting(words, shape, list);
+        let sequence = found.pop_first().ok_or(11u16)?;
+        if !found.is_empty() {
+            return Err(12);
+        }
+        lists.push(sequence);
+    }
+    Ok((shape, lists))
+}
+
+/// The nodes in none of the lists that carry an identifier, lowest first.
+fn orphans(words: &[u16], shape: Shape, lists: &[Vec<usize>]) -> Vec<usize> {
+    let members: HashSet<usize> = lists.iter().flatten().copied().collect();
+    shape.node_cells().filter(|i| !members.contains(i) && words[shape.cell(*i)] != 0).collect()
+}
+
+/// Recover. Done, it leaves a sound store of the sequences that fit.
+pub fn recover(words: &mut [u16], allowance: u16) -> Answer {
+    let (shape, sequences) = match fitting_lists(words) {
+        Err(number) => return Answer::Refused(number),
+        Ok(fitting) => fitting,
+    };
+    let mut stores: Vec<WordStore> = vec![];
+    for (list, sequence) in sequences.iter().enumerate() {
+        stores.extend(differing(words, shape, list, sequence));
+    }
+    stores.extend(orphans(words, shape, &sequences).into_iter().map(|cell| (shape.cell(cell), 0)));
+    let (answer, left) = make(words, &stores, allowance);
+    if let Answer::Done(_) = answer {
+        assert_eq!(lists(&left, shape), Some(sequences), "recover does not leave a sound store");
+    }
+    words.copy_from_slice(&left);
+    answer
+}
+
+/// A course: an insert or delete on a sound store, alterations in the lists that it does not name, then recover calls.
+pub struct Course {
+    /// The store that the recover calls find.
+    found: Vec<u16>,
+    /// The store that they must leave.
+    last: Vec<u16>,
+    /// The number of their stores so far.
+    stores: usize,
+}
+
+impl Course {
+    /// `new` are the words with every store of the call made, if it must count as made: it was not refused and its allowance
+    /// is not below the central store's number.
+    pub fn new(sound: &[u16], list: u16, new: Option<&[u16]>, found: &[u16]) -> Course {
+        let shape = open(sound).expect("a store");
+        let old = lists(sound, shape).expect("a sound store");
+        let mut last = found.to_vec();
+        let mut members = vec![];
+        for (k, sequence) in old.iter().enumerate() {
+            let (words, sequence) = match new {
+                Some(new) if k == usize::from(list) => (new, lists(new, shape).expect("a sound store")[k].clone()),
+                _ => (sound, sequence.clone()),
+            };
+            let header = shape.cell(k)..shape.cell(k) + 4;
+            last[header.clone()].copy_from_slice(&words[header]);
+            for &cell in &sequence {
+                let node = shape.cell(cell)..shape.cell(cell) + 3 + shape.width;
+                last[node.clone()].copy_from_slice(&words[node]);
+            }
+            members.push(sequence);
+        }
+        for cell in orphans(found, shape, &members) {
+            last[shape.cell(cell)] = 0;
+        }
+        Course { found: found.to_vec(), last, stores: 0 }
+    }
+
+    /// After a recover call.
+    pub fn recovered(&mut self, answer: Answer, allowance: u16) {
+        match answer {
+            Answer::Stopped(n) => {
+                assert_eq!(n, allowance, "stopped before the allowance is spent");
+                self.stores += usize::from(n);
+            }
+            Answer::Done(n) => {
+                assert!(n <= allowance, "done beyond the allowance");
+                self.stores += usize::from(n);
+            }
+            Answer::Refused(n) => panic!("recovery refused {n} in a course: {:?}", self.found),
+        }
+    }
+
+    /// At the end, the last recover call done.
+    pub fn ended(&self, words: &[u16]) {
+        assert_eq!(words, self.last, "a course does not end as it must");
+        let changed = (0..words.len()).filter(|&i| words[i] != self.found[i]).count();
+        assert_eq!(self.stores, changed, "the numbers of stores do not add up");
+    }
+}
+
+#[cfg(test)]
+mod tests {
+    use super::*;
+    use crate::random::Random;
+    use crate::store::{check, delete, format, insert, store_of};
+
+    const ENOUGH: u16 = 65_535;
+
+    fn with(words: &[u16], changes: &[WordStore]) -> Vec<u16> {
+        let mut words = words.to_vec();
+        changes.iter().for_each(|&(at, value)| words[at] = value);
+        words
+    }
+
+    /// Recovery of the words at every allowance makes these stores in their order.
+    fn stores(words: &[u16], expected: &[WordStore]) {
+        for allowance in 0..expected.len() as u16 + 2 {
+            let mut left = words.to_vec();
+            let n = expected.len().min(allowance.into());
+            let answer = recover(&mut left, allowance);
+            let number = n as u16;
+            assert_eq!(answer, if n < expected.len() { Answer::Stopped(number) } else { Answer::Done(number) });
+            assert_eq!(left, with(words, &expected[..n]));
+        }
+    }
+
+    /// C4 to C7, C9 and C10 of the marked store.
+    #[test]
+    fn marked_store() {
+        let mut c2 = vec![7; 24];
+        assert_eq!(format(&mut c2, 1, 3, 1), 0);
+        insert(&mut c2, 0, 0, 2, &[700], ENOUGH);
+        let mut c3 = c2.clone();
+        insert(&mut c3, 0, 1, 2, &[512], ENOUGH);
+        stores(&c3, &[]);
+        let inserted = |allowance| {
+            let mut words = c2.clone();
+            insert(&mut words, 0, 1, 2, &[512], allowance);
+            words
+        };
+        stores(&inserted(5), &[(11, 1), (20, 0)]);
+        stores(&inserted(6), &[(10, 3)]);
+        let deleted = |allowance| {
+            let mut words = c3.clone();
+            delete(&mut words, 0, 0, allowance);
+            words
+        };
+        stores(&deleted(1), &[(22, 2)]);
+        stores(&deleted(2), &[(11, 1), (16, 0)]);
+        stores(&deleted(3), &[(16, 0)]);
+        for allowance in [0, 1, ENOUGH] {
+            let mut c9 = with(&c2, &[(12, 42_400), (13, 0), (14, 0), (9, 1)]);
+            assert_eq!(recover(&mut c9, allowance), Answer::Refused(12));
+            let mut c10 = with(&c3, &[(9, 9), (10, 9)]);
+            assert_eq!(recover(&mut c10, allowance), Answer::Refused(11));
+        }
+    }
+
+    /// The first list with a reason decides.
+    #[test]
+    fn first_list() {
+        let shape = Shape::new(2, 4, 1);
+        let sound = store_of(shape, &[vec![2], vec![3]], || 0);
+        let twice = |list: usize, free: usize| {
+            let k = list as u16;
+            [(shape.cell(free), identifier_of(list)), (shape.cell(free) + 1, k), (shape.cell(free) + 2, k), (shape.cell(list) + 1, free as u16)]
+        };
+        let none = |list: usize| [(shape.cell(list) + 1, 9), (shape.cell(list) + 2, 9)];
+        for (changes, number) in [
+            ([&twice(0, 4)[..], &none(1)].concat(), 12),
+            ([&none(0)[..], &twice(1, 4)].concat(), 11),
+            ([&twice(0, 4)[..], &twice(1, 5)].concat(), 12),
+            (twice(1, 5).to_vec(), 12),
+            (none(1).to_vec(), 11),
+            ([&none(1)[..], &[(7, 1)]].concat(), 2),
+        ] {
+            let words = with(&sound, &changes);
+            let mut left = words.clone();
+            assert_eq!(recover(&mut left, ENOUGH), Answer::Refused(number), "{changes:?}");
+            assert_eq!(left, words);
+        }
+    }
+
+    fn deal(random: &mut Random, shape: Shape) -> Vec<Vec<usize>> {
+        let mut cells: Vec<usize> = shape.node_cells().collect();
+        random.shuffle(&mut cells);
+        let used = random.between(0, shape.nodes);
+        let mut lists = vec![vec![]; shape.lists];
+        for &cell in &cells[..used] {
+            lists[random.below(shape.lists)].push(cell);
+        }
+        lists
+    }
+
+    /// A value that may well stand at word `i` of a cell.
+    fn value(random: &mut Random, shape: Shape, i: usize) -> u16 {
+        match (i, random.below(8)) {
+            (_, 0) => random.pick(&[0, 1, 65_535]),
+            (0, 1..=4) => identifier_of(random.below(shape.lists)),
+            (0, _) => 0,
+            _ => random.below(shape.lists + shape.nodes + 1) as u16,
+        }
+    }
+
+    /// Both ways find the same sequences: in sound stores with a few words altered, in stores of random words and in those
+    /// where one sequence goes forward and another back. All numbers of fitting sequences occur: none, one and two.
+    #[test]
+    fn both_ways_agree() {
+        let mut random = Random::new(7);
+        let mut seen = [0; 3];
+        for turn in 0..60_000 {
+            let shape = Shape::new(random.between(1, 3), random.between(1, 4), 1);
+            let dealt = deal(&mut random, shape);
+            let mut words = store_of(shape, &dealt, || 0);
+            let changes = if turn % 10 == 0 { 40 } else { random.between(0, 6) };
+            for _ in 0..changes {
+                let cell = random.below(shape.lists + shape.nodes);
+                let i = random.below(if cell < shape.lists { 4 } else { 3 });
+                words[shape.cell(cell) + i] = value(&mut random, shape, i);
+            }
+            if turn % 3 == 0 {
+                let (list, other) = (random.below(shape.lists), deal(&mut random, shape));
+                for (at, value) in asked(shape, list, &other[list]) {
+                    let i = (0..shape.lists + shape.nodes).find_map(|c| at.checked_sub(shape.cell(c)).filter(|i| *i < 4)).unwrap();
+                    if i != 1 || random.below(4) == 0 {
+                        words[at] = value;
+                    }
+                }
+            }
+            for list in 0..shape.lists {
+                let found = fitting_by_links(&words, shape, list);
+                assert_eq!(found, fitting_by_enumeration(&words, shape, list), "{words:?}");
+                seen[found.len()] += 1;
+            }
+        }
+        assert!(seen.iter().all(|&n| n > 100), "{seen:?}");
+    }
+
+    /// Courses from sound stores of many shapes end as they must.
+    #[test]
+    fn courses() {
+        let mut random = Random::new(9);
+        for turn in 0..20_000 {
+            let nodes = random.between(1, if turn % 4 == 0 { 12 } else { 5 });
+            let shape = Shape::new(random.between(1, if turn % 5 == 0 { 8 } else { 3 }), nodes, random.between(1, 3));
+            let lists = deal(&mut random, shape);
+            let sound = store_of(shape, &lists, || random.word());
+            let named = random.below(shape.lists + usize::from(random.below(20) == 0));
+            let position = random.between(0, lists.get(named).map_or(0, |s| s.len())) as u16;
+            let start = (shape.lists + random.below(shape.nodes)) as u16;
+            let record: Vec<u16> = (0..shape.width).map(|_| random.word()).collect();
+            let inserting = random.below(2) == 0;
+            let call = |words: &mut [u16], allowance| match inserting {
+                true => insert(words, named as u16, position, start, &record, allowance),
+                false => delete(words, named as u16, position, allowance),
+            };
+            let central = if inserting { shape.width as u16 + 5 } else { 2 };
+            let allowance = random.below(shape.width + 8) as u16;
+            let mut found = sound.clone();
+            let refused = matches!(call(&mut found, allowance), Answer::Refused(_));
+            let mut new = sound.clone();
+            call(&mut new, ENOUGH);
+            for (list, sequence) in lists.iter().enumerate().filter(|&(list, _)| list != named) {
+                let cell = [&[list][..], sequence].concat()[random.below(sequence.len() + 1)];
+                let i = random.below(if cell == list { 4 } else { 3 });
+                if random.below(4) > 0 {
+                    found[shape.cell(cell) + i] = value(&mut random, shape, i);
+                }
+            }
+            let made = (!refused && allowance >= central).then_some(&new[..]);
+            let mut course = Course::new(&sound, named as u16, made, &found);
+            let mut words = found;
+            for _ in 0..random.below(4) {
+                let allowance = random.below(4) as u16;
+                let answer = recover(&mut words, allowance);
+                course.recovered(answer, allowance);
+            }
+            let answer = recover(&mut words, ENOUGH);
+            assert!(matches!(answer, Answer::Done(_)));
+            course.recovered(answer, ENOUGH);
+            course.ended(&words);
+            assert_eq!(check(&words), 0);
+        }
+    }
+}
