@@ -1,1 +1,1 @@
-// No function yet: when a sequence fits a list, and what recovery would store.
+// No function: when a sequence fits a list, and what recovery stores.

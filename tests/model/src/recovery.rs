@@ -55,12 +55,12 @@ fn fitting_lists(words: &[u16]) -> Result<(Shape, Vec<Vec<usize>>), u16> {
     let shape = open(words)?;
     let mut lists = vec![];
     for list in 0..shape.lists {
-        let mut found = fitting(words, shape, list);
-        let sequence = found.pop_first().ok_or(11u16)?;
-        if !found.is_empty() {
-            return Err(12);
+        let found: Vec<Vec<usize>> = fitting(words, shape, list).into_iter().collect();
+        match found.len() {
+            0 => return Err(11),
+            1 => lists.extend(found),
+            _ => return Err(12),
         }
-        lists.push(sequence);
     }
     Ok((shape, lists))
 }
@@ -297,7 +297,8 @@ mod tests {
             let shape = Shape::new(random.between(1, if turn % 5 == 0 { 8 } else { 3 }), nodes, random.between(1, 3));
             let lists = deal(&mut random, shape);
             let sound = store_of(shape, &lists, || random.word());
-            let named = random.below(shape.lists + usize::from(random.below(20) == 0));
+            let beyond = usize::from(random.below(20) == 0);
+            let named = random.below(shape.lists + beyond);
             let position = random.between(0, lists.get(named).map_or(0, |s| s.len())) as u16;
             let start = (shape.lists + random.below(shape.nodes)) as u16;
             let record: Vec<u16> = (0..shape.width).map(|_| random.word()).collect();
