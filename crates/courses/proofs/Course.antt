@@ -31,7 +31,7 @@ use Rattle.courses.proofs.Final.{final-head, final-outside, final-lists
 use Rattle.courses.proofs.Recoveries.{Standing, standing-plan, same-opened, one-recovery, Through, through}
 
 -- the last of several recoveries
-through-last : (ms : List ℕ) (m : ℕ) (y : List ℕ) → wordsThrough (ms ++ m ∷ []) y ≡ wordsAfter (recoverPlan (wordsThrough ms y)) m (wordsThrough ms y)
+pub through-last : (ms : List ℕ) (m : ℕ) (y : List ℕ) → wordsThrough (ms ++ m ∷ []) y ≡ wordsAfter (recoverPlan (wordsThrough ms y)) m (wordsThrough ms y)
 unfolding wordsThrough
 through-last [] m y = refl
 through-last (a ∷ ms) m y = through-last ms m (wordsAfter (recoverPlan y) a y)

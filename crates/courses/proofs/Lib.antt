@@ -12,3 +12,4 @@ pub mod Recoveries
 pub mod EditCut
 pub mod Course
 pub mod Single
+pub mod Each

@@ -65,7 +65,10 @@ fn store() -> [u16; 52]
 
 // Inserts a record of an axle: its number, and the brake forces left and right.
 fn insert(words: &mut [u16], list: u16, position: u16, rec: &[u16], allowance: u16) {
-    print_answer(b"insert", axle_store::insert(words, list, position, 2, rec, allowance));
+    print_answer(
+        b"insert",
+        axle_store::insert(words, list, position, 2, rec, allowance),
+    );
 }
 
 // The power is back: what the cut left, the recovery, and the list that it gives.

@@ -72,12 +72,12 @@ mod tests {
         lines.len() - compare(lines, output).passed.min(lines.len())
     }
 
-    /// The answers that the sample does not give are all that fails: 123 of 129.
+    /// The answers that the sample does not give are all that fails: 128 of 134.
     #[test]
     fn right_output() {
         let (lines, output) = sample();
         let report = compare(&lines, &output);
-        assert_eq!((report.passed, report.failed), (lines.len() + 6, 123));
+        assert_eq!((report.passed, report.failed), (lines.len() + 6, 128));
         assert!(report.text.contains(&"check: 1 lines, answers {0}".to_string()));
         assert!(report.text.contains(&"insert done: 1 lines, answers {7}".to_string()));
     }

@@ -1,7 +1,14 @@
-//! What recover answers and leaves, in the words of docs/FORMAT.md, and how a course of calls that ends with it must end.
+//! What recover answers and leaves, and how a course of calls that ends with it must end.
+//!
+//! A sequence of different nodes fits a list if at most one word differs from what it asks of the header and of its members.
+//! If one alone fits each list, the differing words are stored, list 0 first, then 0 to each identifier of a node in none
+//! of them that is not 0, lowest cell first.
 
-use crate::store::{identifier_of, lists, make, open, sequences, walk, Answer, Shape, WordStore, FEW_NODES};
+use crate::store::{identifier_of, lists, make, open, sequences, walk, Answer, Shape, WordStore};
 use std::collections::{BTreeSet, HashSet};
+
+/// In stores of at most so many nodes the fitting sequences are found by enumeration too.
+const FEW_NODES: usize = 4;
 
 /// What a sequence asks of the list's header and of its members.
 fn asked(shape: Shape, list: usize, sequence: &[usize]) -> Vec<WordStore> {
@@ -34,7 +41,8 @@ fn fitting_by_enumeration(words: &[u16], shape: Shape, list: usize) -> Sequences
     all.into_iter().filter(|s| fits(words, shape, list, s)).collect()
 }
 
-/// The sequences that fit the list, found by links: with one word wrong at most, all forward links or all back links are right.
+/// The sequences that fit the list, found by links: with one word wrong at most, all forward links are right or all back
+/// links.
 fn fitting_by_links(words: &[u16], shape: Shape, list: usize) -> Sequences {
     let forward = walk(words, shape, list, 1);
     let back = walk(words, shape, list, 2).map(|s| s.into_iter().rev().collect());
@@ -215,7 +223,12 @@ mod tests {
         let sound = store_of(shape, &[vec![2], vec![3]], || 0);
         let twice = |list: usize, free: usize| {
             let k = list as u16;
-            [(shape.cell(free), identifier_of(list)), (shape.cell(free) + 1, k), (shape.cell(free) + 2, k), (shape.cell(list) + 1, free as u16)]
+            [
+                (shape.cell(free), identifier_of(list)),
+                (shape.cell(free) + 1, k),
+                (shape.cell(free) + 2, k),
+                (shape.cell(list) + 1, free as u16),
+            ]
         };
         let none = |list: usize| [(shape.cell(list) + 1, 9), (shape.cell(list) + 2, 9)];
         for (changes, number) in [
@@ -260,7 +273,7 @@ mod tests {
     fn both_ways_agree() {
         let mut random = Random::new(7);
         let mut seen = [0; 3];
-        for turn in 0..60_000 {
+        for turn in 0..40_000 {
             let shape = Shape::new(random.between(1, 3), random.between(1, 4), 1);
             let dealt = deal(&mut random, shape);
             let mut words = store_of(shape, &dealt, || 0);
@@ -272,9 +285,9 @@ mod tests {
             }
             if turn % 3 == 0 {
                 let (list, other) = (random.below(shape.lists), deal(&mut random, shape));
+                let forward: HashSet<usize> = (0..shape.lists + shape.nodes).map(|i| shape.cell(i) + 1).collect();
                 for (at, value) in asked(shape, list, &other[list]) {
-                    let i = (0..shape.lists + shape.nodes).find_map(|c| at.checked_sub(shape.cell(c)).filter(|i| *i < 4)).unwrap();
-                    if i != 1 || random.below(4) == 0 {
+                    if !forward.contains(&at) || random.below(4) == 0 {
                         words[at] = value;
                     }
                 }
@@ -292,7 +305,7 @@ mod tests {
     #[test]
     fn courses() {
         let mut random = Random::new(9);
-        for turn in 0..20_000 {
+        for turn in 0..10_000 {
             let nodes = random.between(1, if turn % 4 == 0 { 12 } else { 5 });
             let shape = Shape::new(random.between(1, if turn % 5 == 0 { 8 } else { 3 }), nodes, random.between(1, 3));
             let lists = deal(&mut random, shape);

@@ -165,7 +165,7 @@ const INSERT: [&str; 4] = ["insert done", "insert stopped", "insert refused with
 const DELETE: [&str; 4] = ["delete done", "delete stopped", "delete refused with 0", "delete refused"];
 const RECOVER: [&str; 4] = ["recover done", "recover stopped", "recover refused with 0", "recover refused"];
 
-/// The answer numbers that each call can give; of recover's stores the least numbers, and those of the largest store.
+/// The answer numbers that each call can give; of the numbers of recover's stores, those of small stores and the most.
 pub const ANSWERS: [(&str, &[u16]); 16] = [
     ("format", &[0, 3, 4]),
     ("check", &[0, 1, 2, 3, 4, 6]),
@@ -179,8 +179,8 @@ pub const ANSWERS: [(&str, &[u16]); 16] = [
     (DELETE[1], &[0, 1, 2, 3]),
     (DELETE[2], &[1, 2, 3, 4, 5, 6, 7]),
     (DELETE[3], &[1, 2, 3, 4, 5, 6, 7]),
-    (RECOVER[0], &[0, 1, 2, 3, 4, 5, 6, 7, 8, 9, 10, 2008]),
-    (RECOVER[1], &[0, 1, 2, 3, 4, 5, 6, 7, 8, 2007]),
+    (RECOVER[0], &[0, 1, 2, 3, 4, 5, 6, 7, 8, 9, 14, 2008]),
+    (RECOVER[1], &[0, 1, 2, 3, 4, 5, 6, 7, 8, 9, 10, 11, 12, 13, 2007]),
     (RECOVER[2], &[1, 2, 3, 4, 11, 12]),
     (RECOVER[3], &[1, 2, 3, 4, 11, 12]),
 ];

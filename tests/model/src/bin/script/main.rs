@@ -1,6 +1,7 @@
 //! script: writes the script of the program `cases` to standard output, the same at each run.
 
 mod edits;
+mod recoveries;
 
 use model::random::Random;
 use model::script::{Operation, Operation::*, CAPACITY};
@@ -568,6 +569,16 @@ fn main() -> std::io::Result<()> {
         edits::damage,
         edits::histories,
         edits::largest,
+        recoveries::marked_store,
+        recoveries::short_stores,
+        recoveries::smallest_stores,
+        recoveries::altered_words,
+        recoveries::several_fit,
+        recoveries::several_reasons,
+        recoveries::random_damage,
+        recoveries::many_stores,
+        recoveries::courses,
+        recoveries::largest,
     ] {
         part(&mut script);
     }

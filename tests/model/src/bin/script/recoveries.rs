@@ -1,0 +1,379 @@
+//! The parts of the script that recover.
+
+use crate::edits::{formatted, random_edit, Edit, Edit::*, ENOUGH};
+use crate::{altered, values_for, Script};
+use model::recovery::{recover, Course};
+use model::script::Operation::*;
+use model::store::{self, store_of, Answer, Shape, IDENTIFIER};
+
+impl Script {
+    /// Recover, and its answer.
+    fn recover(&mut self, allowance: u16) -> Answer {
+        let answer = recover(&mut self.words.clone(), allowance);
+        self.add(Recover { allowance });
+        answer
+    }
+
+    /// Recovers these words.
+    fn recover_from(&mut self, words: &[u16], allowance: u16) {
+        self.load(words);
+        self.recover(allowance);
+    }
+
+    /// Recovers these words at every allowance up to one above the number of stores, and with enough.
+    fn recover_at_each(&mut self, words: &[u16]) {
+        let whole = match recover(&mut words.to_vec(), ENOUGH) {
+            Answer::Done(n) => n,
+            _ => 0,
+        };
+        for allowance in 0..=whole + 1 {
+            self.recover_from(words, allowance);
+        }
+        self.recover_from(words, ENOUGH);
+        self.add(Check);
+    }
+
+    /// A value to put at word `i` of a cell.
+    fn value(&mut self, shape: Shape, cell: usize, i: usize) -> (usize, u16) {
+        let at = shape.cell(cell) + i;
+        let values = values_for(shape, cell < shape.lists, i, self.words[at]);
+        (at, self.random.pick(&values))
+    }
+
+    /// A random word of the header or of a cell's identifier and links, altered.
+    fn alteration(&mut self, shape: Shape, cell: usize) -> (usize, u16) {
+        let i = self.random.below(if cell < shape.lists { 4 } else { 3 });
+        self.value(shape, cell, i)
+    }
+}
+
+/// The two records of the marked store, and its cuts and damage: each row at every allowance.
+pub fn marked_store(s: &mut Script) {
+    let shape = Shape::new(1, 3, 1);
+    formatted(s, shape);
+    let first = Insertion { list: 0, position: 0, start: 2, record: vec![700] };
+    let second = Insertion { list: 0, position: 1, start: 2, record: vec![512] };
+    s.add(first.with(ENOUGH));
+    let c2 = s.words.clone();
+    s.add(second.with(ENOUGH));
+    let c3 = s.words.clone();
+    for (words, edit) in
+        [(&c2, &second), (&c3, &Deletion { list: 0, position: 0 }), (&c3, &Deletion { list: 0, position: 1 })]
+    {
+        for allowance in 0..=edit.whole() {
+            s.load(words);
+            s.add(edit.with(allowance));
+            let cut = s.words.clone();
+            s.recover_at_each(&cut);
+        }
+    }
+    let c9 = altered(&c2, &[(12, 42_400), (13, 0), (14, 0), (9, 1)]);
+    s.recover_at_each(&c9);
+    for at in [8, 9, 10, 11, 12, 13, 14, 15, 16, 17, 18] {
+        s.recover_from(&altered(&c9, &[(at, c9[at] + 1)]), ENOUGH);
+    }
+    let c10 = altered(&c3, &[(9, 9), (10, 9)]);
+    s.recover_at_each(&c10);
+    for changes in [[(9, 9), (10, 3)], [(9, 2), (10, 9)], [(9, 9), (11, 1)], [(10, 2), (17, 0)]] {
+        s.recover_from(&altered(&c3, &changes), ENOUGH);
+    }
+}
+
+/// Questions 1 to 4: less than eight words and few more, each of the first eight altered, a wrong length.
+pub fn short_stores(s: &mut Script) {
+    let shape = Shape::new(1, 1, 1);
+    let whole = [s.sound(shape, &[vec![1]]), vec![0; 2]].concat();
+    for size in 0..=whole.len() {
+        for allowance in [0, 1, ENOUGH] {
+            s.recover_from(&whole[..size], allowance);
+        }
+    }
+    for at in 0..8 {
+        for value in [0, 1, whole[at].wrapping_sub(1), whole[at] + 1, whole[at] | 0x100, 65_535] {
+            for allowance in [0, ENOUGH] {
+                s.recover_from(&altered(&whole[..16], &[(at, value)]), allowance);
+            }
+        }
+    }
+}
+
+/// Stores of one list and one node over a few values.
+pub fn smallest_stores(s: &mut Script) {
+    let shape = Shape::new(1, 1, 1);
+    let identifiers = [IDENTIFIER, 0];
+    let links = [0, 1, 2];
+    let places: [(usize, &[u16]); 7] = [
+        (8, &identifiers),
+        (9, &links),
+        (10, &links),
+        (11, &links),
+        (12, &identifiers),
+        (13, &links[..2]),
+        (14, &links[..2]),
+    ];
+    let words = s.sound(shape, &[vec![]]);
+    let all: usize = places.iter().map(|(_, values)| values.len()).product();
+    for mut choice in 0..all {
+        let mut changes = vec![];
+        for (at, values) in places {
+            changes.push((at, values[choice % values.len()]));
+            choice /= values.len();
+        }
+        let allowance = s.random.pick(&[0, 1, 2, ENOUGH, ENOUGH, ENOUGH, ENOUGH]);
+        s.recover_from(&altered(&words, &changes), allowance);
+    }
+}
+
+/// Each word of the headers, and the first four of each node, altered alone, and then with a second one.
+pub fn altered_words(s: &mut Script) {
+    for (lists, nodes, width, used) in [(1, 2, 1, 2), (2, 5, 7, 4), (3, 8, 4, 6), (8, 10, 3, 9)] {
+        let shape = Shape::new(lists, nodes, width);
+        let dealt = s.deal(shape, used);
+        let words = s.sound(shape, &dealt);
+        s.recover_from(&words, ENOUGH);
+        for cell in 0..lists + nodes {
+            for i in 0..4 {
+                let at = shape.cell(cell) + i;
+                let mut values = values_for(shape, cell < lists, i, words[at]);
+                s.random.shuffle(&mut values);
+                for &value in values.iter().take(6) {
+                    s.recover_from(&altered(&words, &[(at, value)]), ENOUGH);
+                    s.load(&words);
+                    let cell = s.random.below(lists + nodes);
+                    let second = s.alteration(shape, cell);
+                    let allowance = s.random.pick(&[0, 1, 2, ENOUGH, ENOUGH]);
+                    s.recover_from(&altered(&words, &[(at, value), second]), allowance);
+                }
+            }
+        }
+    }
+}
+
+/// The changes that let a second sequence fit: a free node in the place of a member, by the forward link before it or by the
+/// back link behind it.
+fn second_sequence(
+    shape: Shape,
+    list: usize,
+    sequence: &[usize],
+    position: usize,
+    free: usize,
+    forward: bool,
+) -> Vec<(usize, u16)> {
+    let before = if position == 0 { list } else { sequence[position - 1] };
+    let after = *sequence.get(position + 1).unwrap_or(&list);
+    let link = if forward { shape.cell(before) + 1 } else { shape.cell(after) + 2 };
+    vec![
+        (shape.cell(free), IDENTIFIER + list as u16),
+        (shape.cell(free) + 1, after as u16),
+        (shape.cell(free) + 2, before as u16),
+        (link, free as u16),
+    ]
+}
+
+/// Two sequences fit; with one more word altered, one of them or none.
+pub fn several_fit(s: &mut Script) {
+    for (lists, nodes, width) in [(1, 2, 1), (1, 4, 1), (2, 4, 8), (3, 7, 5), (8, 12, 2), (5, 30, 1)] {
+        let shape = Shape::new(lists, nodes, width);
+        for _ in 0..6 {
+            let dealt = s.deal(shape, nodes - 1);
+            let free = shape.node_cells().find(|cell| !dealt.concat().contains(cell)).expect("a free node");
+            let words = s.sound(shape, &dealt);
+            let list = dealt.iter().position(|sequence| !sequence.is_empty()).expect("a member");
+            let position = s.random.below(dealt[list].len());
+            for forward in [true, false] {
+                let changes = second_sequence(shape, list, &dealt[list], position, free, forward);
+                let twice = altered(&words, &changes);
+                s.recover_from(&twice, ENOUGH);
+                s.recover(0);
+                for cell in [list, free, dealt[list][position]] {
+                    let change = s.alteration(shape, cell);
+                    s.recover_from(&altered(&twice, &[change]), ENOUGH);
+                    s.load(&twice);
+                }
+            }
+        }
+    }
+}
+
+/// Every list sound, with a fault, with two sequences or with none: the first that has a reason decides.
+pub fn several_reasons(s: &mut Script) {
+    let shape = Shape::new(3, 12, 2);
+    let lists = [vec![5, 3], vec![9], vec![7, 14, 4]];
+    let words = s.sound(shape, &lists);
+    for choice in 0..64 {
+        let mut changes = vec![];
+        for (list, sequence) in lists.iter().enumerate() {
+            match choice >> (2 * list) & 3 {
+                0 => {}
+                1 => changes.push((shape.cell(list) + 3, 7)),
+                2 => changes.extend(second_sequence(shape, list, sequence, 0, 10 + list, list != 1)),
+                _ => changes.extend([(shape.cell(list) + 1, 13), (shape.cell(list) + 2, 13)]),
+            }
+        }
+        for allowance in [0, ENOUGH] {
+            s.recover_from(&altered(&words, &changes), allowance);
+        }
+        changes.push((s.random.pick(&[2, 4, 5, 7]), 0));
+        s.recover_from(&altered(&words, &changes), ENOUGH);
+    }
+}
+
+/// Sound stores with some words of headers and nodes altered to values that may well stand there, and words that are
+/// nothing but such values.
+pub fn random_damage(s: &mut Script) {
+    for turn in 0..500 {
+        let (most, width) = if turn % 2 == 0 { (4, 1) } else { (9, 13) };
+        let shape = Shape::new(s.random.between(1, 3), s.random.between(1, most), width);
+        let used = s.random.between(0, shape.nodes);
+        let dealt = s.deal(shape, used);
+        let words = store_of(shape, &dealt, || 0);
+        s.load(&words);
+        let altered_words = if turn % 10 == 9 { 40 } else { s.random.between(1, 4) };
+        let changes: Vec<(usize, u16)> = (0..altered_words)
+            .map(|_| {
+                let cell = s.random.below(shape.lists + shape.nodes);
+                s.alteration(shape, cell)
+            })
+            .collect();
+        let allowance = s.random.pick(&[0, 1, 2, ENOUGH, ENOUGH, ENOUGH]);
+        s.recover_from(&altered(&words, &changes), allowance);
+        s.add(Check);
+    }
+}
+
+/// A fault in every list and some nodes that wrongly carry an identifier, at every allowance.
+pub fn many_stores(s: &mut Script) {
+    for (lists, nodes, width, used, carrying) in [(1, 3, 1, 1, 2), (3, 6, 8, 3, 2), (5, 9, 3, 6, 3), (8, 20, 2, 14, 6)] {
+        let shape = Shape::new(lists, nodes, width);
+        let dealt = s.deal(shape, used);
+        let sound = s.sound(shape, &dealt);
+        s.load(&sound);
+        let mut words = sound.clone();
+        for (list, sequence) in dealt.iter().enumerate() {
+            let cell = [&[list][..], sequence].concat()[s.random.below(sequence.len() + 1)];
+            let i = s.random.below(if cell == list { 4 } else { 3 });
+            words[shape.cell(cell) + i] ^= 0x4000;
+        }
+        for cell in shape.node_cells().filter(|cell| !dealt.concat().contains(cell)).take(carrying) {
+            words[shape.cell(cell)] = s.random.pick(&[1, 65_535, IDENTIFIER, IDENTIFIER + 7]);
+        }
+        s.recover_at_each(&words);
+        s.load(&words);
+        for _ in 0..lists + carrying + 1 {
+            s.recover(1);
+        }
+    }
+}
+
+/// One insert or delete on the sound store that is there, with an allowance; at most one word altered in each list that it
+/// does not name; recover calls with small allowances, and one with enough. It must end as `Course` says.
+fn course(s: &mut Script, shape: Shape, edit: &Edit, allowance: u16, most: usize) {
+    let sound = s.words.clone();
+    let lists = store::lists(&sound, shape).expect("a sound store");
+    let (named, central) = match *edit {
+        Insertion { list, ref record, .. } => (list, record.len() as u16 + 5),
+        Deletion { list, .. } => (list, 2),
+    };
+    let mut new = sound.clone();
+    edit.with(ENOUGH).run(&mut new);
+    let refused = new == sound;
+    s.add(edit.with(allowance));
+    let mut found = s.words.clone();
+    for (list, sequence) in lists.iter().enumerate().filter(|&(list, _)| list != named) {
+        if s.random.below(6) > 0 {
+            let cell = [&[list][..], sequence].concat()[s.random.below(sequence.len() + 1)];
+            let (at, value) = s.alteration(shape, cell);
+            found[at] = value;
+        }
+    }
+    s.load(&found);
+    let made = (!refused && allowance >= central).then(|| &new[..]);
+    let mut course = Course::new(&sound, named as u16, made, &found);
+    for _ in 0..s.random.between(0, most) {
+        let allowance = s.random.pick(&[0, 1, 1, 2, 3, 5]);
+        let answer = s.recover(allowance);
+        course.recovered(answer, allowance);
+    }
+    let answer = s.recover(ENOUGH);
+    assert!(matches!(answer, Answer::Done(_)), "the last recover call of a course is not done");
+    course.recovered(answer, ENOUGH);
+    course.ended(&s.words);
+    s.add(Check);
+    assert_eq!(store::check(&s.words), 0);
+}
+
+/// Courses: each call cut after every number of its stores, the next on what the last left; and a call that names no list.
+pub fn courses(s: &mut Script) {
+    for (lists, nodes, width, edits, most) in [
+        (1, 3, 1, 6, 1),
+        (2, 3, 1, 8, 1),
+        (2, 6, 6, 6, 3),
+        (3, 7, 5, 8, 3),
+        (4, 12, 2, 8, 3),
+        (8, 9, 3, 8, 4),
+        (8, 30, 13, 4, 4),
+        (5, 40, 1, 8, 3),
+        (8, 100, 1, 6, 4),
+    ] {
+        let shape = Shape::new(lists, nodes, width);
+        let dealt = s.deal(shape, nodes * 2 / 3);
+        let words = s.sound(shape, &dealt);
+        s.load(&words);
+        for turn in 0..edits {
+            let words = s.words.clone();
+            let dealt = store::lists(&words, shape).expect("a sound store");
+            let edit = random_edit(s, shape, &dealt, turn % 2 == 0);
+            for allowance in 0..=edit.whole() {
+                s.load(&words);
+                course(s, shape, &edit, allowance, most);
+            }
+        }
+        course(s, shape, &Deletion { list: lists, position: 0 }, ENOUGH, most);
+    }
+}
+
+/// The largest store: a fault in every list, as many stores as can be, one list of all nodes, links that never meet the
+/// header.
+pub fn largest(s: &mut Script) {
+    let shape = Shape::new(8, 2000, 13);
+    let dealt = s.deal(shape, 1990);
+    let words = store_of(shape, &dealt, || 0);
+    s.load(&words);
+    for turn in 0..3 {
+        let edit = random_edit(s, shape, &dealt, turn % 2 == 0);
+        for allowance in [edit.whole() - 3, edit.whole() - 1] {
+            s.load(&words);
+            course(s, shape, &edit, allowance, 2);
+        }
+    }
+    let (first, last) = (dealt[3][0], *dealt[3].last().expect("a member"));
+    let middle = dealt[3][dealt[3].len() / 2];
+    for changes in [
+        vec![(shape.cell(last) + 1, first as u16)],
+        vec![(shape.cell(last) + 1, first as u16), (shape.cell(first) + 2, last as u16)],
+        vec![(shape.cell(middle) + 1, middle as u16)],
+        vec![(shape.cell(middle) + 2, 2008), (shape.cell(middle), 0)],
+        vec![(shape.cell(last) + 1, 4)],
+    ] {
+        s.recover_from(&altered(&words, &changes), ENOUGH);
+        s.load(&words);
+    }
+    let mut all: Vec<usize> = shape.node_cells().collect();
+    s.random.shuffle(&mut all);
+    let one: Vec<Vec<usize>> = (0..8).map(|k| if k == 5 { all.clone() } else { vec![] }).collect();
+    let words = store_of(shape, &one, || 0);
+    s.load(&words);
+    for (cell, i, value) in [(all[1000], 1, 2008), (all[1999], 1, 8), (all[0], 2, 65_535), (5, 3, 1999), (all[7], 0, 0)] {
+        s.recover_from(&altered(&words, &[(shape.cell(cell) + i, value)]), ENOUGH);
+    }
+    // the headers say empty, each with a fault: every node is in no list
+    let mut empty = altered(&words, &[(shape.cell(5) + 1, 5), (shape.cell(5) + 2, 5), (shape.cell(5) + 3, 0)]);
+    for list in 0..8 {
+        empty[shape.cell(list) + list % 4] = 77;
+    }
+    s.recover_from(&empty, ENOUGH);
+    s.load(&empty);
+    for allowance in [2007, 0, ENOUGH, ENOUGH] {
+        s.recover(allowance);
+    }
+}
