@@ -212,14 +212,14 @@ fn erase(idents: &mut [u16], links: &[u16], l: Layout, k: u16)
     ensures { λ _. ⌜ now (idents .exit) ≡ erased (walked l (columns (now (links .entry)) (now (links .entry)) (now (links .entry))) k) (now (idents .entry)) ⌝ }
 {
     let mut y = links[k as usize];
-    let mut left = l.nodes;
-    while 0 < left {
+    let mut more = l.nodes;
+    while 0 < more {
         if !l.is_node(y) {
             return;
         }
         idents[y as usize] = 0;
         y = links[y as usize];
-        left -= 1;
+        more -= 1;
     }
 }
 
@@ -228,14 +228,14 @@ pub fn erase_all(idents: &mut [u16], forwards: &[u16], backs: &[u16], back: [boo
     requires { ⌜ Columns l (now idents) (now forwards) (now backs) ⌝ }
     ensures { λ _. ⌜ now (idents .exit) ≡ erasedFrom l (columns (now (idents .entry)) (now (forwards .entry)) (now (backs .entry))) (λ k. getD back k false) 0 (l .lists) (now (idents .entry)) ⌝ }
 {
-    let mut k: u16 = 0;
-    while k < l.lists {
-        if back[k as usize] {
-            erase(idents, backs, l, k);
+    let mut j: u16 = 0;
+    while j < l.lists {
+        if back[j as usize] {
+            erase(idents, backs, l, j);
         } else {
-            erase(idents, forwards, l, k);
+            erase(idents, forwards, l, j);
         }
-        k += 1;
+        j += 1;
     }
 }
 

@@ -37,7 +37,7 @@ returns c =
     let s = c .before .before .before .before .before .before .before .args in
     let t = c .before .before .before .loop in
     let o = answered-no (c .before .is-node .ensures) (c .if1 .taken) in
-    sym (erased-out (s .l) (s .links .now) (t .left) (t .y) (t .idents) o) ∙ t .inv .0
+    sym (erased-out (s .l) (s .links .now) (t .more) (t .y) (t .idents) o) ∙ t .inv .0
 
 -- the cell is a node
 node : (c : tie.Else1 Inv-loop μ-loop) → let s = c .before .before .before .before .before .before .before .args in
@@ -67,8 +67,8 @@ mul-y-2 c = omega (arith, cell c)
 shared-slice-read-y-2 : tie.Need-shared-slice-read-y-2 Inv-loop μ-loop
 shared-slice-read-y-2 c = omega (arith, cell (c .before))
 
-sub-left : tie.Need-sub-left Inv-loop μ-loop
-sub-left c = omega arith
+sub-more : tie.Need-sub-more Inv-loop μ-loop
+sub-more c = omega arith
 
 loop-less : tie.Need-loop-less Inv-loop μ-loop
 loop-less c = omega arith
@@ -77,7 +77,7 @@ loop-again : tie.Need-loop-again Inv-loop μ-loop
 loop-again c =
     let s = c .before .before .before .before .before .before .before .before .args in
     let t = c .before .before .before .before .loop in (
-      sym (erased-on (s .l) (s .links .now) (t .left) (t .y) (t .idents) (omega arith) (node (c .before))) ∙ t .inv .0,
+      sym (erased-on (s .l) (s .links .now) (t .more) (t .y) (t .idents) (omega arith) (node (c .before))) ∙ t .inv .0,
       simp length-set (t .inv .1),
     )
 
@@ -88,7 +88,7 @@ returns-2 : tie.Need-returns-2 Inv-loop μ-loop
 returns-2 c =
     let s = c .before .before .before .before .before .args in
     let t = c .before .loop in
-    sym (erased-none (s .l) (s .links .now) (t .left) (t .y) (t .idents) (omega arith)) ∙ t .inv .0
+    sym (erased-none (s .l) (s .links .now) (t .more) (t .y) (t .idents) (omega arith)) ∙ t .inv .0
 
 pub erase-spec : {M : Type 1} → statement M
 erase-spec =
@@ -108,7 +108,7 @@ erase-spec =
     cast-y
     mul-y-2
     shared-slice-read-y-2
-    sub-left
+    sub-more
     loop-less
     loop-again
     same-length-2

@@ -50,8 +50,8 @@ erase-requires c κs = omega arith
 erase-requires-2 : tie.Need-erase-requires-2 Inv-loop μ-loop
 erase-requires-2 c κs = omega arith
 
-add-k : tie.Need-add-k Inv-loop μ-loop
-add-k c = omega arith
+add-j : tie.Need-add-j Inv-loop μ-loop
+add-j c = omega arith
 
 loop-less : tie.Need-loop-less Inv-loop μ-loop
 loop-less c = omega arith
@@ -60,7 +60,7 @@ loop-less c = omega arith
 list-erased : (c : tie.Joined2 Inv-loop μ-loop) →
     let t = c .before .before .before in
     let s = start t in
-    c .if2 .idents ≡ erased (membersBy (s .args .l) (view s) (ways s (t .loop .k)) (t .loop .k)) (t .loop .idents)
+    c .if2 .idents ≡ erased (membersBy (s .args .l) (view s) (ways s (t .loop .j)) (t .loop .j)) (t .loop .idents)
 list-erased c =
     ⊎-elim (λ w. rw (w .0 .taken) (w .5 ∙ w .2 .ensures)) (λ w. rw (w .0 .left) (w .5 ∙ w .2 .ensures)) (c .if2 .came)
 
@@ -69,8 +69,8 @@ loop-again c =
     let t = c .before .before .before in
     let s = start t in
     rw (list-erased c) (
-      length-erased (membersBy (s .args .l) (view s) (ways s (t .loop .k)) (t .loop .k)) (t .loop .idents) ∙ t .loop .inv .0,
-      sym (erased-more (s .args .l) (view s) (ways s) (t .loop .k) (t .loop .idents) (omega arith)) ∙ t .loop .inv .1,
+      length-erased (membersBy (s .args .l) (view s) (ways s (t .loop .j)) (t .loop .j)) (t .loop .idents) ∙ t .loop .inv .0,
+      sym (erased-more (s .args .l) (view s) (ways s) (t .loop .j) (t .loop .idents) (omega arith)) ∙ t .loop .inv .1,
     )
 
 same-length : tie.Need-same-length Inv-loop μ-loop
@@ -80,7 +80,7 @@ returns : tie.Need-returns Inv-loop μ-loop
 returns c =
     let t = c .before .before in
     let s = start t in
-    sym (erased-all (s .args .l) (view s) (ways s) (t .loop .k) (t .loop .idents) (omega arith)) ∙ t .loop .inv .1
+    sym (erased-all (s .args .l) (view s) (ways s) (t .loop .j) (t .loop .idents) (omega arith)) ∙ t .loop .inv .1
 
 pub erase-all-spec : {M : Type 1} → statement M
 erase-all-spec =
@@ -93,7 +93,7 @@ erase-all-spec =
     array-read-if2
     erase-requires
     erase-requires-2
-    add-k
+    add-j
     loop-less
     loop-again
     same-length
