@@ -23,8 +23,8 @@ use Rattle.edits.proofs.Done.{delete-head}
 use Rattle.edits.proofs.Writes.{delete-spares}
 use Rattle.edits.proofs.Delete as D
 use Rattle.courses.specs.Course.{untouched}
-use Rattle.courses.proofs.CutInsert.{settled}
-use Rattle.courses.proofs.CutDelete as C
+use Rattle.courses.proofs.OwnInsert.{settled}
+use Rattle.courses.proofs.OwnDelete as C
 use Rattle.courses.proofs.Cut.{Cut}
 
 -- a node in no list but perhaps k has identifier 0 or that of k

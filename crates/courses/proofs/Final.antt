@@ -23,7 +23,7 @@ use Rattle.recovery.proofs.Slots.{Value, ident, forward, back, count, Slot, slo
 use Rattle.recovery.proofs.Step.{wrong-in}
 use Rattle.recovery.proofs.Suffix.{one-joined, joined-one}
 use Rattle.recovery.proofs.Whole.{whole-sound}
-use Rattle.recovery.proofs.Count.{plan-kinds}
+use Rattle.recovery.proofs.Count.{in-all-writes, plan-kinds}
 use Rattle.courses.proofs.Rival.{step-from, step-to, step-at}
 
 -- two stores in which list j has the sequence s hold the same words in its header and the same links in its members
@@ -63,10 +63,6 @@ same-links l w x j h s i i′ c f m k = by k
     by : (f < 3) ⊎ ((c ≡ j) × (f ≡ 3)) → getD x (cellAt l c + f) 0 ≡ getD w (cellAt l c + f) 0
     by (inl g) = word (ℕ-discrete f 0) (ℕ-discrete f 1) g
     by (inr e) = counted x b (e .0) (e .1) ∙ sym (counted w a (e .0) (e .1))
-
-in-all-writes : (P : Write → Type 0) (ps : List Write) → ((p : Write) → List·Memᴰ p ps → P p) → All P ps
-in-all-writes P [] h = tt
-in-all-writes P (p ∷ ps) h = (h p (List·Memᴰ·head refl), in-all-writes P ps (λ q m. h q (List·Memᴰ·tail m)))
 
 at-write : (P : Write → Type 0) (ps : List Write) → All P ps → {p : Write} → List·Memᴰ p ps → P p
 at-write P (q ∷ ps) h (List·Memᴰ·head e) = subst P (sym e) (h .0)

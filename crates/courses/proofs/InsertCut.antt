@@ -23,7 +23,7 @@ use Rattle.edits.specs.Edited.{insertAt}
 use Rattle.edits.proofs.Writes.{First, first-central, first-length, insert-spares, record-word}
 use Rattle.edits.proofs.Insert as I
 use Rattle.edits.proofs.Done.{insert-head}
-use Rattle.courses.proofs.CutInsert.{insert-before-central, insert-from-central}
+use Rattle.courses.proofs.OwnInsert.{insert-before-central, insert-from-central}
 use Rattle.courses.proofs.Cut.{Cut}
 
 -- stores that spare word a put no other value than v there

@@ -1,8 +1,8 @@
 pub mod Rival
 pub mod Other
 pub mod Own
-pub mod CutInsert
-pub mod CutDelete
+pub mod OwnInsert
+pub mod OwnDelete
 pub mod Found
 pub mod Final
 pub mod Cut

@@ -19,7 +19,7 @@ use Rattle.lists.proofs.Unique.{all-nodes}
 use Rattle.lists.proofs.Same.{ident-word, count-word}
 use Rattle.recovery.specs.Fits.{wrong, backwardOf, fewWrong, same, none, only, several, fitting, fitOf}
 use Rattle.recovery.specs.Plan.{joined, clears, storesFrom, fittingOf, refusalFrom}
-use Rattle.recovery.proofs.Candidates.{same-yes, same-refl, wrong-append, wrong-parts, few-fits, forward-candidate, back-candidate}
+use Rattle.recovery.proofs.Candidates.{same-yes, same-refl, wrong-append, wrong-parts, few-fits, forward-candidate, back-candidate, forward-nodes, back-nodes}
 use Rattle.mending.specs.declared.Faults.{Faults}
 use Rattle.mending.specs.declared.Faults.the-variants as F
 use Rattle.mending.specs.declared.Fitted.{Fitted}
@@ -365,16 +365,6 @@ module _ (l : Layout) (w : List ℕ) (k : ℕ) (h : k < l .lists) where
       (λ p. word-fault (viewOf l w .forward (p .source)) (p .source) 1 (p .target)) (steps k s k))
       (summed-onward l w k s) n b)
 
-  -- the candidates are nodes
-  forward-nodes : All (Node l) (sequenceOf l w k)
-  forward-nodes = all-nodes l (sequenceOf l w k) (trail-inside (viewOf l w .forward) (isNode l) (l .nodes) (viewOf l w .forward k))
-
-  back-nodes : All (Node l) (backwardOf l w k)
-  back-nodes =
-      all-nodes l (backwardOf l w k)
-      (all-reverse (λ x. isNode l x ≡ true) (trail (viewOf l w .back) (isNode l) (l .nodes) (viewOf l w .back k))
-      (trail-inside (viewOf l w .back) (isNode l) (l .nodes) (viewOf l w .back k)))
-
   -- a candidate that fits has at most one fault, which its mend mends; one that does not has many
   few-yes : (s : List ℕ) → fewWrong l w k s ≡ true → length (wrong w (asked l k s)) ≤ 1
   unfolding fewWrong
@@ -417,10 +407,10 @@ module _ (l : Layout) (w : List ℕ) (k : ℕ) (h : k < l .lists) where
                 λ d. true≢false (sym (same-refl (sequenceOf l w k)) ∙ ap (same (sequenceOf l w k)) d ∙ e) in
           let x = back-only (sequenceOf l w k) (few-yes (sequenceOf l w k) p)
                 (λ z. n (sym (back-candidate l w k h (sequenceOf l w k)
-                  (few-fits l w k (sequenceOf l w k) h forward-nodes (few-yes (sequenceOf l w k) p)) z))) in
+                  (few-fits l w k (sequenceOf l w k) h (forward-nodes l w k h) (few-yes (sequenceOf l w k) p)) z))) in
           let y = onward-only (backwardOf l w k) (few-yes (backwardOf l w k) q)
                 (λ z. n (forward-candidate l w k h (backwardOf l w k)
-                  (few-fits l w k (backwardOf l w k) h back-nodes (few-yes (backwardOf l w k) q)) z)) in
+                  (few-fits l w k (backwardOf l w k) h (back-nodes l w k h) (few-yes (backwardOf l w k) q)) z)) in
           subst (Told l w k)
           (sym (ap (λ (f : Faults). choose f (faultSum l w k (backwardOf l w k))) (x .2)
             ∙ ap (choose (F.One (x .0) 2 (x .1))) (y .2)))

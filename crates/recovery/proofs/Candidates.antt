@@ -200,11 +200,11 @@ module _ (l : Layout) (w : List ℕ) (k : ℕ) (h : k < l .lists) where
       by (inr a) (inl b) = inr (one r s g f (λ e. n (sym e)) b a)
       by (inr a) (inr b) = absurd (n (sym (back-candidate s f a) ∙ back-candidate r g b))
 
-  -- the decision
-  forward-nodes : All (Node l) (sequenceOf l w k)
+  -- the candidates are nodes
+  pub forward-nodes : All (Node l) (sequenceOf l w k)
   forward-nodes = all-nodes l (sequenceOf l w k) (trail-inside (viewOf l w .forward) (isNode l) (l .nodes) (viewOf l w .forward k))
 
-  back-nodes : All (Node l) (backwardOf l w k)
+  pub back-nodes : All (Node l) (backwardOf l w k)
   back-nodes =
       all-nodes l (backwardOf l w k)
       (all-reverse (λ x. isNode l x ≡ true) (trail (viewOf l w .back) (isNode l) (l .nodes) (viewOf l w .back k))

@@ -26,7 +26,7 @@ use Rattle.recovery.proofs.Slots.{Slot, slot}
 use Rattle.recovery.proofs.Step.{wrong-in, mend-own}
 use Rattle.recovery.proofs.Suffix.{isIn-in, one-joined, clear-skip, clear-here, Next, next}
 
-in-all-writes : (P : Write → Type 0) (ps : List Write) → ((p : Write) → List·Memᴰ p ps → P p) → All P ps
+pub in-all-writes : (P : Write → Type 0) (ps : List Write) → ((p : Write) → List·Memᴰ p ps → P p) → All P ps
 in-all-writes P [] h = tt
 in-all-writes P (p ∷ ps) h = (h p (List·Memᴰ·head refl), in-all-writes P ps (λ q m. h q (List·Memᴰ·tail m)))
 

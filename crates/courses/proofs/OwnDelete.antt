@@ -27,7 +27,7 @@ use Rattle.recovery.proofs.Candidates.{right-forward}
 use Rattle.courses.specs.Course.{Alteration, untouched, altered, Touches}
 use Rattle.courses.proofs.Other.{altered-fits, forwards-right}
 use Rattle.courses.proofs.Own.{Own}
-use Rattle.courses.proofs.CutInsert.{settled}
+use Rattle.courses.proofs.OwnInsert.{settled}
 
 module _ (l : Layout) (w : List ℕ) (exact : length w ≡ sizeOf l) (s : SoundLists l w) (k : ℕ) (hk : k < l .lists)
     (p : ℕ) (hp : p < length (s .sequence k)) where
