@@ -1,6 +1,6 @@
 -- Theorems about the calls' definitions: check says sound exactly of the sound stores; length and read speak of the sequences
 -- that a sound store has; a formatted store is sound and empty; insert and delete, done, leave what plain sequences would.
-use Prim.Native.Nat.{ℕ, _+_, _<_, _≤_}
+use Prim.Native.Nat.{ℕ, _+_, _<_}
 use mathlib.Core.Path.{_≡_, refl, ap, _∙_, sym, subst}
 use mathlib.Core.List.{List, [], _∷_, _++_}
 use mathlib.Core.Logic.{_↔_}
@@ -9,26 +9,23 @@ use lib.ListN.{length, getD}
 use borrow.Author.Tests.{lt-ltb}
 use native.Mathlib.Omega.{arith}
 use Rattle.layout.specs.declared.Layout.{Layout}
-use Rattle.layout.specs.declared.Opened.{Opened}
 use Rattle.layout.specs.declared.Opened.the-variants as O
-use Rattle.layout.specs.Words.{InRange, layoutOf, sizeOf, opened, afterOpen, ask, recordAt, formatted}
+use Rattle.layout.specs.Words.{InRange, layoutOf, sizeOf, opened, ask, formatted}
 use Rattle.layout.proofs.Laws.{opened-open, open-opened}
 use Rattle.lists.specs.Lists.{Sound}
-use Rattle.lists.specs.Decide.{viewOf, countIn, soundIn, soundOf, sequenceOf}
+use Rattle.lists.specs.Decide.{soundOf, sequenceOf}
 use Rattle.lists.proofs.Unique.{list-sequence}
 use Rattle.lists.proofs.Decided.{sound-lists, lists-sound}
 use Rattle.lists.proofs.Empty.{formatted-sound}
 use Rattle.requests.specs.declared.Site.{Site}
-use Rattle.requests.specs.declared.Sited.{Sited}
 use Rattle.requests.specs.declared.Sited.the-variants.{At, Refused}
 use Rattle.requests.specs.declared.Looked.{Looked}
 use Rattle.requests.specs.declared.Looked.the-variants as K
 use Rattle.requests.specs.declared.Request.the-variants.{Check, Whole, Member}
-use Rattle.requests.specs.Requests.{siteIn, siteOf, withSite, memberAt, lookOf, withLook}
+use Rattle.requests.specs.Requests.{siteIn, siteOf, memberAt, lookOf, withLook}
 use Rattle.requests.proofs.Laws.{look-at}
 use Rattle.edits.specs.Edited.{recordIn}
 use Rattle.edits.proofs.Done.{looked}
-use Rattle.axle_store.specs.declared.Checked.{Checked}
 use Rattle.axle_store.specs.declared.Checked.the-variants as C
 use Rattle.axle_store.specs.declared.Counted.the-variants as L
 use Rattle.axle_store.specs.Calls.{checkAnswer, lengthAnswer, readWords}

@@ -1,6 +1,6 @@
 -- The sites that a look gives lie in the store.
-use Prim.Native.Nat.{ℕ, zero, suc, _+_, _<_, _≤_}
-use mathlib.Core.Path.{_≡_, refl, ap, _∙_, sym, subst}
+use Prim.Native.Nat.{ℕ, _+_, _<_, _≤_}
+use mathlib.Core.Path.{_≡_, refl, sym, subst}
 use mathlib.Core.List.{List, [], _∷_, _++_, List·Memᴰ·head, List·Memᴰ·tail, Memᴰ·append-right}
 use native.Mathlib.Omega.{arith}
 use lib.ListN.{length, getD, length-append}
@@ -8,7 +8,7 @@ use Rattle.sequences.specs.Sequence.{_∈_, All}
 use Rattle.sequences.proofs.Members.{all-in, at-in, in-front}
 use Rattle.sequences.proofs.Trail.{trail-inside, trail-length}
 use Rattle.layout.specs.declared.Layout.{Layout}
-use Rattle.layout.specs.Words.{InRange, Node, isNode, cellCount, sizeOf, nodeWords, recordAt}
+use Rattle.layout.specs.Words.{Node, isNode, cellCount, sizeOf, recordAt}
 use Rattle.layout.proofs.Laws.{opened-open, node-fits}
 use Rattle.lists.specs.Decide.{viewOf, sequenceOf}
 use Rattle.lists.proofs.Unique.{all-nodes}

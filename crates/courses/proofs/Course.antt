@@ -1,29 +1,28 @@
 -- Demand 3: the theorem about a whole course of calls.
-use Prim.Native.Nat.{ℕ, zero, suc, _+_, _<_, _≤_}
+use Prim.Native.Nat.{ℕ, _+_, _<_, _≤_}
 use mathlib.Core.Path.{_≡_, refl, ap, _∙_, sym, subst}
 use mathlib.Core.List.{List, [], _∷_, _++_, append-nil, List·Memᴰ·tail}
-use mathlib.Core.Logic.{_⊎_, inl, inr, ⊎-elim}
+use mathlib.Core.Logic.{inl, inr}
 use native.Mathlib.Omega.{arith}
-use lib.ListN.{length, getD, drop}
+use lib.ListN.{length, getD}
 use lib.ListN.{drop-of-length-le}
 use Rattle.sequences.specs.Sequence.{_∈_, All}
 use Rattle.sequences.proofs.Members.{all-in}
-use Rattle.stores.specs.declared.Answer.{Answer}
 use Rattle.stores.specs.declared.Answer.the-variants as A
-use Rattle.stores.specs.Stores.{Write, Plan, stores, run, applied, answerOf, wordsAfter}
+use Rattle.stores.specs.Stores.{Write, Plan, stores, run, answerOf, wordsAfter}
 use Rattle.stores.proofs.Laws.{length-run, answer-done}
 use Rattle.layout.specs.declared.Layout.{Layout}
 use Rattle.layout.specs.declared.Opened.the-variants as O
-use Rattle.layout.specs.Words.{Node, sizeOf, cellAt, cellWords, layoutOf, opened}
+use Rattle.layout.specs.Words.{Node, layoutOf}
 use Rattle.layout.proofs.Laws.{open-opened}
 use Rattle.layout.proofs.Apart.{cell-behind}
 use Rattle.lists.specs.Lists.{Sound, IsList, SameCells}
 use Rattle.lists.proofs.Same.{same-sound}
 use Rattle.edits.specs.Edited.{replaced}
 use Rattle.edits.proofs.Edited.{replaced-own, replaced-other}
-use Rattle.recovery.specs.Plan.{joined, recoverStores, recoverPlan, Accepted, Kind, differing}
+use Rattle.recovery.specs.Plan.{recoverStores, recoverPlan, Accepted, Kind}
 use Rattle.recovery.proofs.Count.{plan-kinds, plan-differs}
-use Rattle.courses.specs.Course.{Edit, named, editPlan, allStores, needed, dueWords, Alteration, untouched, altered, Allowed, Touches, alteredBelow, found, wordsThrough, answersThrough, storesThrough, total, Course}
+use Rattle.courses.specs.Course.{Edit, named, editPlan, allStores, needed, dueWords, Alteration, untouched, altered, Allowed, Touches, found, wordsThrough, answersThrough, storesThrough, Course}
 use Rattle.courses.proofs.Cut.{Cut}
 use Rattle.courses.proofs.EditCut.{edit-cut}
 use Rattle.courses.proofs.Found.{altered-out, length-altered, kept, kept-outside, found-accepted}

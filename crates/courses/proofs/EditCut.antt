@@ -1,9 +1,8 @@
 -- Whatever an insert or delete is asked, what it leaves of a sound store is a cut of it.
-use Prim.Native.Nat.{ℕ, zero, suc, _+_, _<_, _≤_}
+use Prim.Native.Nat.{ℕ, _+_, _<_, _≤_}
 use mathlib.Core.Path.{_≡_, refl, ap, _∙_, sym, subst}
 use mathlib.Core.List.{List, [], _∷_, _++_, List·Memᴰ·head, Memᴰ·append-right}
 use mathlib.Core.Bool.{Bool, true, false, cond}
-use native.Mathlib.Omega.{arith}
 use lib.Dec.{ltb}
 use lib.ListN.{length, getD}
 use borrow.Author.Tests.{ltb-true, ltb-false}
@@ -19,7 +18,7 @@ use Rattle.requests.specs.declared.Sited.the-variants.{At}
 use Rattle.requests.specs.declared.Looked.{Looked}
 use Rattle.requests.specs.declared.Looked.the-variants as K
 use Rattle.requests.specs.declared.Request.the-variants.{Member, Gap}
-use Rattle.requests.specs.Requests.{around, siteOf, lookOf}
+use Rattle.requests.specs.Requests.{around, lookOf}
 use Rattle.edits.specs.Edits.{insertWrites, deleteWrites, insertCentral, deleteCentral}
 use Rattle.edits.specs.Edited.{FirstFree}
 use Rattle.edits.proofs.Free.{around-nodes}

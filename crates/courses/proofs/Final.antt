@@ -1,14 +1,14 @@
 -- What the whole plan leaves of an accepted store: the words of each list as its sequence asks them, and the rest as it was.
-use Prim.Native.Nat.{ℕ, zero, suc, _+_, _-_, _<_, _≤_}
-use mathlib.Core.Path.{_≡_, refl, ap, _∙_, sym, subst}
-use mathlib.Core.List.{List, [], _∷_, _++_, List·Memᴰ, List·Memᴰ·head, List·Memᴰ·tail}
-use mathlib.Core.Logic.{_⊎_, inl, inr, ⊎-elim}
+use Prim.Native.Nat.{ℕ, _+_, _-_, _<_, _≤_}
+use mathlib.Core.Path.{_≡_, ap, _∙_, sym, subst}
+use mathlib.Core.List.{List, _∷_, List·Memᴰ, List·Memᴰ·head, List·Memᴰ·tail}
+use mathlib.Core.Logic.{_⊎_, inl, inr}
 use native.Mathlib.Decide.{ℕ-discrete, decLt}
 use native.Mathlib.Omega.{arith}
 use lib.ListN.{length, getD}
 use Rattle.sequences.specs.Sequence.{_∈_, All, Step, steps}
 use Rattle.sequences.proofs.Members.{all-in, in-behind}
-use Rattle.stores.specs.Stores.{Write, write, run, Spares}
+use Rattle.stores.specs.Stores.{Write, run, Spares}
 use Rattle.stores.proofs.Laws.{run-out}
 use Rattle.layout.specs.declared.Layout.{Layout}
 use Rattle.layout.specs.Words.{firstNode, Node, sizeOf, cellAt, cellWords, identAt, identOf}
@@ -17,11 +17,10 @@ use Rattle.lists.specs.Lists.{asked, IsList, SoundLists, SameCells}
 use Rattle.lists.specs.Decide.{viewOf, countIn}
 use Rattle.lists.proofs.Agree.{Holds, agrees-holds}
 use Rattle.lists.proofs.Same.{ident-word, count-word}
-use Rattle.recovery.specs.Fits.{wrong, Fits}
 use Rattle.recovery.specs.Plan.{joined, recoverStores, Accepted, Kind, mend, clear}
-use Rattle.recovery.proofs.Slots.{Value, ident, forward, back, count, Slot, slot}
+use Rattle.recovery.proofs.Slots.{Value, ident, forward, back, count, slot}
 use Rattle.recovery.proofs.Step.{wrong-in}
-use Rattle.recovery.proofs.Suffix.{one-joined, joined-one}
+use Rattle.recovery.proofs.Suffix.{one-joined}
 use Rattle.recovery.proofs.Whole.{whole-sound}
 use Rattle.recovery.proofs.Count.{in-all-writes, plan-kinds}
 use Rattle.courses.proofs.Rival.{step-from, step-to, step-at}

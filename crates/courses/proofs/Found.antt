@@ -1,20 +1,20 @@
 -- The found store is accepted: every list but the one named with its old sequence, that one by the central store.
-use Prim.Native.Nat.{ℕ, zero, suc, _+_, _-_, _<_, _≤_}
+use Prim.Native.Nat.{ℕ, zero, suc, _+_, _-_, _<_}
 use mathlib.Core.Path.{_≡_, refl, ap, _∙_, sym, subst}
-use mathlib.Core.List.{List, [], _∷_, _++_, List·Memᴰ·head, List·Memᴰ·tail}
+use mathlib.Core.List.{List, _∷_, List·Memᴰ·head, List·Memᴰ·tail}
 use mathlib.Core.Bool.{Bool, true, false, cond}
 use mathlib.Core.Logic.{_⊎_, inl, inr, ⊎-elim}
-use native.Mathlib.Decide.{ℕ-discrete, decLt}
+use native.Mathlib.Decide.{ℕ-discrete}
 use native.Mathlib.Omega.{arith}
 use native.Mathlib.Nat.{eq-or-lt-of-le, le-of-suc-le-suc}
 use lib.Dec.{eqb}
-use lib.ListN.{length, getD, set, length-set}
+use lib.ListN.{length, getD, length-set}
 use lib.Seq.{getD-set-other}
-use borrow.Author.Tests.{eq-eqb, ne-eqb, eqb-true, eqb-false}
+use borrow.Author.Tests.{eqb-false}
 use Rattle.sequences.specs.Sequence.{_∈_, All, Forward, Backward}
-use Rattle.sequences.proofs.Members.{all-in, member?}
+use Rattle.sequences.proofs.Members.{member?}
 use Rattle.layout.specs.declared.Layout.{Layout}
-use Rattle.layout.specs.Words.{firstNode, Node, sizeOf, cellAt, cellWords, identAt, identOf}
+use Rattle.layout.specs.Words.{Node, cellAt, cellWords, identAt, identOf}
 use Rattle.layout.proofs.Apart.{cells-apart, words-apart, links-words, words-header}
 use Rattle.lists.specs.Lists.{IsList, SoundLists, SameCells}
 use Rattle.lists.specs.Decide.{viewOf}

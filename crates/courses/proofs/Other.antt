@@ -1,20 +1,20 @@
 -- A list with one altered word: its sequence fits, and no other does.
-use Prim.Native.Nat.{ℕ, zero, suc, _+_, _<_, _≤_}
+use Prim.Native.Nat.{ℕ, _+_, _<_, _≤_}
 use mathlib.Core.Path.{_≡_, refl, ap, _∙_, sym, subst}
 use mathlib.Core.List.{List, [], _∷_, _++_, map, reverse, reverse-reverse, List·Memᴰ, List·Memᴰ·head, List·Memᴰ·tail}
 use mathlib.Core.Bool.{Bool, true, false}
-use mathlib.Core.Logic.{_⊎_, inl, inr, ⊎-elim}
+use mathlib.Core.Logic.{_⊎_, ⊎-elim}
 use native.Mathlib.Decide.{ℕ-discrete}
 use native.Mathlib.Omega.{arith}
 use lib.Dec.{eqb}
 use lib.ListN.{length, getD, length-reverse}
 use borrow.Author.Tests.{eqb-true, eqb-false}
 use Rattle.sequences.specs.Sequence.{_∈_, All, Different, Step, steps, Forward, Backward}
-use Rattle.sequences.proofs.Members.{all-in, in-front, in-behind}
+use Rattle.sequences.proofs.Members.{all-in, in-front}
 use Rattle.sequences.proofs.Reversed.{backward-forward, all-reverse, reverse-in, in-reverse, different-reverse}
 use Rattle.stores.specs.Stores.{Write, write}
 use Rattle.layout.specs.declared.Layout.{Layout}
-use Rattle.layout.specs.Words.{Node, isNode, sizeOf, cellAt, cellWords, identAt, forwardAt, backAt, countAt, identOf}
+use Rattle.layout.specs.Words.{Node, isNode, cellAt, cellWords, identAt, forwardAt, backAt, countAt, identOf}
 use Rattle.layout.proofs.Apart.{links-words, words-header}
 use Rattle.lists.specs.Lists.{asked, identsAsked, forwardsAsked, backsAsked, countAsked, IsList}
 use Rattle.lists.specs.Decide.{viewOf, countIn}
@@ -22,8 +22,8 @@ use Rattle.lists.proofs.Agree.{Holds, agrees-holds}
 use Rattle.lists.proofs.Unique.{header-out, nodes-all}
 use Rattle.lists.proofs.Same.{ident-word, count-word}
 use Rattle.recovery.specs.Fits.{wrong, Fits}
-use Rattle.recovery.proofs.Candidates.{sequence-dec, wrong-right, wrong-wrong, wrong-parts, right-forward, right-backward, Whole, Rivals, rivals}
-use Rattle.recovery.proofs.Step.{ring-cells, all-right}
+use Rattle.recovery.proofs.Candidates.{sequence-dec, wrong-right, wrong-wrong, wrong-parts, right-forward, right-backward, Whole, rivals}
+use Rattle.recovery.proofs.Step.{ring-cells}
 use Rattle.recovery.proofs.Slots.{step-source, step-target}
 use Rattle.recovery.proofs.Disjoint.{no-paths}
 use Rattle.courses.specs.Course.{Alteration, untouched, altered, Touches}

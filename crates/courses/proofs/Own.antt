@@ -1,23 +1,23 @@
 -- The list that a cut call names: by its central store its old or its new sequence fits, and no other.
-use Prim.Native.Nat.{ℕ, zero, suc, _+_, _-_, _<_, _≤_}
-use mathlib.Core.Path.{_≡_, refl, ap, _∙_, sym, subst}
-use mathlib.Core.List.{List, [], _∷_, _++_, append-assoc, List·Memᴰ·head, List·Memᴰ·tail}
+use Prim.Native.Nat.{ℕ, _-_, _<_}
+use mathlib.Core.Path.{_≡_, refl, ap, _∙_, sym}
+use mathlib.Core.List.{List, _∷_, List·Memᴰ·head, List·Memᴰ·tail}
 use mathlib.Core.Logic.{_⊎_, inl, inr, ⊎-elim}
 use native.Mathlib.Omega.{arith}
 use lib.ListN.{length, getD}
-use Rattle.sequences.specs.Sequence.{_∈_, All, Different, Forward, Backward}
+use Rattle.sequences.specs.Sequence.{_∈_, All, Forward, Backward}
 use Rattle.sequences.proofs.Reversed.{backs-trail, backs-different}
 use Rattle.sequences.proofs.Splice.{forward-same, backward-same}
 use Rattle.sequences.proofs.Members.{in-front}
 use Rattle.layout.specs.declared.Layout.{Layout}
-use Rattle.layout.specs.Words.{Node, isNode, cellAt, cellWords}
+use Rattle.layout.specs.Words.{Node, isNode}
 use Rattle.layout.proofs.Apart.{links-words}
 use Rattle.lists.specs.Lists.{SameCells}
 use Rattle.lists.specs.Decide.{viewOf, countIn, sequenceOf}
 use Rattle.lists.proofs.Unique.{header-out, nodes-all, nodes-few}
 use Rattle.lists.proofs.Same.{count-word}
 use Rattle.layout.proofs.Apart.{words-header}
-use Rattle.recovery.specs.Fits.{wrong, Fits, backwardOf}
+use Rattle.recovery.specs.Fits.{Fits, backwardOf}
 use Rattle.recovery.proofs.Candidates.{sequence-dec, forward-right, forward-candidate, candidates, rivals}
 use Rattle.recovery.proofs.Step.{fits-same}
 

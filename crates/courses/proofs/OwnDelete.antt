@@ -1,19 +1,18 @@
 -- A delete cut after m stores: before the central store the list named has its old sequence, from it on the new one.
 use Prim.Native.Nat.{ℕ, zero, suc, _+_, _-_, _<_, _≤_}
-use mathlib.Core.Path.{_≡_, refl, ap, _∙_, sym, subst}
-use mathlib.Core.List.{List, [], _∷_, _++_, List·Memᴰ·head, List·Memᴰ·tail}
-use mathlib.Core.Logic.{_⊎_, inl, inr, ⊎-elim}
+use mathlib.Core.Path.{_≡_, refl, ap, _∙_, sym}
+use mathlib.Core.List.{List, [], _∷_, _++_, List·Memᴰ·head}
+use mathlib.Core.Logic.{inr}
 use native.Mathlib.Decide.{ℕ-discrete}
 use native.Mathlib.Omega.{arith}
-use lib.ListN.{length, getD, set, take, drop}
+use lib.ListN.{length, getD, set}
 use lib.Seq.{getD-set-other}
-use Rattle.sequences.specs.Sequence.{_∈_, All, Forward, Backward}
-use Rattle.sequences.proofs.Members.{all-in, in-front, in-all}
+use Rattle.sequences.specs.Sequence.{_∈_}
 use Rattle.sequences.proofs.Splice.{backward-same}
-use Rattle.stores.specs.Stores.{Write, write, store, run, applied, Spares}
-use Rattle.stores.proofs.Laws.{run-out, applied-none, applied-all}
+use Rattle.stores.specs.Stores.{Write, write, run, applied, Spares}
+use Rattle.stores.proofs.Laws.{run-out, applied-all}
 use Rattle.layout.specs.declared.Layout.{Layout}
-use Rattle.layout.specs.Words.{Node, cellCount, sizeOf, cellAt, cellWords, identAt, forwardAt, backAt, countAt}
+use Rattle.layout.specs.Words.{sizeOf, cellAt, cellWords, identAt, forwardAt, backAt, countAt}
 use Rattle.layout.proofs.Apart.{words-apart, links-words, words-header}
 use Rattle.lists.specs.Lists.{IsList, SoundLists}
 use Rattle.lists.specs.Decide.{viewOf, countIn}
@@ -24,7 +23,7 @@ use Rattle.edits.specs.Edits.{deleteWrites, deleteCentral}
 use Rattle.edits.specs.Edited.{deleteAt}
 use Rattle.edits.proofs.Delete as D
 use Rattle.recovery.proofs.Candidates.{right-forward}
-use Rattle.courses.specs.Course.{Alteration, untouched, altered, Touches}
+use Rattle.courses.specs.Course.{untouched, altered}
 use Rattle.courses.proofs.Other.{altered-fits, forwards-right}
 use Rattle.courses.proofs.Own.{Own}
 use Rattle.courses.proofs.OwnInsert.{settled}

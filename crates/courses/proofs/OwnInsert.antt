@@ -1,13 +1,13 @@
 -- An insert cut after m stores: before the central store the list named has its old sequence, from it on the new one.
-use Prim.Native.Nat.{ℕ, zero, suc, _+_, _-_, _<_, _≤_}
+use Prim.Native.Nat.{ℕ, _+_, _-_, _<_, _≤_}
 use mathlib.Core.Path.{_≡_, refl, ap, _∙_, sym, subst}
-use mathlib.Core.List.{List, [], _∷_, _++_, append-assoc, List·Memᴰ·head, List·Memᴰ·tail}
-use mathlib.Core.Logic.{_⊎_, inl, inr, ⊎-elim}
-use native.Mathlib.Decide.{ℕ-discrete, decLe}
+use mathlib.Core.List.{List, [], _∷_, _++_, append-assoc, List·Memᴰ·head}
+use mathlib.Core.Logic.{inl, inr}
+use native.Mathlib.Decide.{ℕ-discrete}
 use native.Mathlib.Omega.{arith}
 use lib.ListN.{length, getD, take, length-append}
-use lib.Seq.{take-append-le, take-append-add, take-all, getD-set-other}
-use Rattle.sequences.specs.Sequence.{_∈_, All, Forward, Backward}
+use lib.Seq.{take-append-le, take-append-add, getD-set-other}
+use Rattle.sequences.specs.Sequence.{_∈_}
 use Rattle.sequences.proofs.Members.{all-take, in-front, all-append}
 use Rattle.sequences.proofs.Splice.{backward-same}
 use Rattle.stores.specs.Stores.{Write, write, store, run, applied, Spares}

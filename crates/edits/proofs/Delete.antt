@@ -1,5 +1,5 @@
 -- Demand 2 of delete: the lists after its stores are those that deleting from the plain sequence gives.
-use Prim.Native.Nat.{ℕ, zero, suc, _+_, _-_, _<_, _≤_}
+use Prim.Native.Nat.{ℕ, suc, _+_, _-_, _<_}
 use mathlib.Core.Path.{_≡_, refl, ap, _∙_, sym, subst}
 use mathlib.Core.List.{List, [], _∷_, _++_, append-assoc, List·Memᴰ·head, List·Memᴰ·tail, List·Memᴰ·append-cases, Memᴰ·append-left, Memᴰ·append-right}
 use mathlib.Core.Logic.{_⊎_, inl, inr, ⊎-elim}
@@ -7,13 +7,13 @@ use native.Mathlib.Omega.{arith}
 use native.Mathlib.Numerals.{add-one}
 use lib.ListN.{length, getD, take, drop, length-append, List·getD-append}
 use lib.Seq.{split-at}
-use Rattle.sequences.specs.Sequence.{_∈_, All, Different, Forward, Backward, lastOf, firstOf}
-use Rattle.sequences.proofs.Members.{all-in, in-all, at-in, in-front, in-behind, different-at, in-with, different-without, out-without}
+use Rattle.sequences.specs.Sequence.{_∈_, Different, Forward, Backward, lastOf, firstOf}
+use Rattle.sequences.proofs.Members.{all-in, in-all, at-in, in-front, different-at, in-with, different-without, out-without}
 use Rattle.sequences.proofs.Splice.{last-at, first-at, cut-forward, cut-backward}
 use Rattle.stores.specs.Stores.{run, Spares}
 use Rattle.stores.proofs.Laws.{run-out, length-run}
 use Rattle.layout.specs.declared.Layout.{Layout}
-use Rattle.layout.specs.Words.{firstNode, cellCount, Node, sizeOf, cellAt, cellWords, identAt, forwardAt, backAt, identOf}
+use Rattle.layout.specs.Words.{cellCount, Node, sizeOf, cellAt, cellWords, identAt, forwardAt, backAt, identOf}
 use Rattle.layout.proofs.Apart.{links-words}
 use Rattle.lists.specs.Lists.{IsList, SoundLists, SameCells}
 use Rattle.lists.specs.Decide.{viewOf}

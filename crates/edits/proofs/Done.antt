@@ -1,9 +1,9 @@
 -- Demand 2: insert and delete, planned on a sound store and done, leave what plain sequences would; insert refuses with 10 only
 -- where no node is free.
-use Prim.Native.Nat.{ℕ, zero, suc, _+_, _-_, _<_, _≤_}
+use Prim.Native.Nat.{ℕ, _+_, _-_, _<_, _≤_}
 use mathlib.Core.Path.{_≡_, refl, ap, _∙_, sym, subst}
 use mathlib.Core.List.{List, [], _∷_, _++_, List·Memᴰ·head, Memᴰ·append-right}
-use mathlib.Core.Bool.{Bool, true, false, cond}
+use mathlib.Core.Bool.{Bool, true, false}
 use native.Mathlib.Omega.{arith}
 use lib.Dec.{eqb, leb, ltb}
 use lib.ListN.{length, getD}
@@ -15,11 +15,11 @@ use Rattle.stores.proofs.Laws.{run-out, length-run, row-spares}
 use Rattle.layout.specs.declared.Layout.{Layout}
 use Rattle.layout.specs.declared.Opened.{Opened}
 use Rattle.layout.specs.declared.Opened.the-variants as O
-use Rattle.layout.specs.Words.{ask, afterOpen, opened, firstNode, cellCount, isNode, Node, layoutOf, nodeAt, recordAt, identAt}
+use Rattle.layout.specs.Words.{ask, afterOpen, opened, isNode, Node, layoutOf, nodeAt, recordAt, identAt}
 use Rattle.layout.proofs.Laws.{opened-open, is-node}
 use Rattle.layout.proofs.Apart.{cell-behind}
 use Rattle.lists.specs.Lists.{Sound, SoundLists, SameCells}
-use Rattle.lists.specs.Decide.{viewOf, countIn, soundIn, soundOf, sequenceOf}
+use Rattle.lists.specs.Decide.{viewOf, soundOf, sequenceOf}
 use Rattle.lists.proofs.Unique.{list-sequence}
 use Rattle.lists.proofs.Same.{same-sound, same-layout}
 use Rattle.requests.specs.declared.Free.{Free}
@@ -27,7 +27,6 @@ use Rattle.requests.specs.declared.Free.the-variants.{Cell, Full}
 use Rattle.requests.specs.declared.Site.{Site}
 use Rattle.requests.specs.declared.Sited.{Sited}
 use Rattle.requests.specs.declared.Sited.the-variants.{At, Refused}
-use Rattle.requests.specs.declared.Looked.{Looked}
 use Rattle.requests.specs.declared.Looked.the-variants as K
 use Rattle.requests.specs.declared.Request.{Request}
 use Rattle.requests.specs.declared.Request.the-variants.{Member, Gap}

@@ -1,23 +1,23 @@
 -- Demand 2 of insert: the lists after its stores are those that inserting into the plain sequence gives.
-use Prim.Native.Nat.{ℕ, zero, suc, _+_, _-_, _<_, _≤_}
+use Prim.Native.Nat.{ℕ, _+_, _-_, _<_, _≤_}
 use mathlib.Core.Path.{_≡_, refl, ap, _∙_, sym, subst}
 use mathlib.Core.List.{List, [], _∷_, _++_, append-assoc, List·Memᴰ·head, List·Memᴰ·tail, List·Memᴰ·append-cases, Memᴰ·append-left, Memᴰ·append-right}
 use mathlib.Core.Logic.{_⊎_, inl, inr, ⊎-elim}
 use native.Mathlib.Omega.{arith}
 use lib.ListN.{length, getD, take, drop, take-append-drop, length-append}
 use Rattle.sequences.specs.Sequence.{_∈_, All, Different, Forward, Backward, lastOf, firstOf}
-use Rattle.sequences.proofs.Members.{all-in, in-all, at-in, in-front, in-behind}
+use Rattle.sequences.proofs.Members.{all-in, in-all, at-in, in-front}
 use Rattle.sequences.proofs.Splice.{last-at, first-at, splice-forward, splice-backward}
 use Rattle.stores.specs.Stores.{run, Spares}
 use Rattle.stores.proofs.Laws.{run-out, length-run}
 use Rattle.layout.specs.declared.Layout.{Layout}
-use Rattle.layout.specs.Words.{firstNode, cellCount, Node, sizeOf, cellAt, cellWords, identAt, forwardAt, backAt, identOf}
+use Rattle.layout.specs.Words.{cellCount, Node, sizeOf, cellAt, cellWords, identAt, forwardAt, backAt, identOf}
 use Rattle.layout.proofs.Apart.{links-words}
 use Rattle.lists.specs.Lists.{IsList, SoundLists, SameCells}
 use Rattle.lists.specs.Decide.{viewOf}
 use Rattle.lists.proofs.Agree.{agrees-holds}
 use Rattle.lists.proofs.Unique.{member-ident, ring-list}
-use Rattle.lists.proofs.Same.{ident-word, header-apart, ring-different, ring-different-behind, ring-cell, list-same, lists-apart}
+use Rattle.lists.proofs.Same.{ident-word, header-apart, ring-different, ring-different-behind, ring-cell, lists-apart}
 use Rattle.requests.specs.declared.Site.{Site}
 use Rattle.edits.specs.Edits.{insertWrites}
 use Rattle.edits.specs.Edited.{insertAt, replaced, recordIn}

@@ -1,18 +1,16 @@
 -- What the words of the cells are after the stores of an insert or a delete, and which words stay.
-use Prim.Native.Nat.{ℕ, suc, zero, _+_, _-_, _≤_, _<_, min}
-use mathlib.Core.Path.{_≡_, refl, ap, _∙_, sym, subst}
+use Prim.Native.Nat.{ℕ, _+_, _-_, _≤_, _<_, min}
+use mathlib.Core.Path.{_≡_, ap, _∙_, sym, subst}
 use mathlib.Core.List.{List, [], _∷_, _++_, append-assoc}
 use native.Mathlib.Omega.{arith}
-use native.Mathlib.Nat.{add-zero}
-use lib.ListN.{length, getD, take, drop, length-take, length-drop, length-append}
+use lib.ListN.{length, getD, drop, length-take, length-drop, length-append}
 use lib.Seq.{ext-getD, getD-take, getD-drop, length-take-le}
-use Rattle.sequences.specs.Sequence.{All}
 use Rattle.sequences.proofs.Members.{all-append}
 use Rattle.stores.specs.Stores.{Write, write, run, Spares, inRow}
 use Rattle.stores.proofs.Laws.{run-append, length-run, run-out, run-in, row-spares, row-at, length-row}
 use Rattle.layout.specs.declared.Layout.{Layout}
-use Rattle.layout.specs.Words.{firstNode, cellCount, headerAt, cellAt, cellWords, nodeAt, nodeWords, sizeOf, Node, identAt, forwardAt, backAt, countAt, recordAt, identOf, linkWords}
-use Rattle.layout.proofs.Laws.{cell-header, cell-node, node-fits}
+use Rattle.layout.specs.Words.{cellCount, cellAt, cellWords, sizeOf, Node, identAt, forwardAt, backAt, countAt, recordAt, identOf}
+use Rattle.layout.proofs.Laws.{cell-node, node-fits}
 use Rattle.layout.proofs.Apart.{words-apart, words-header, words-node, links-words, word-fits}
 use Rattle.lists.proofs.Same.{ident-word, count-word}
 use Rattle.requests.specs.declared.Site.{Site}

@@ -1,8 +1,8 @@
 -- A turn round a list that finds everything right is agreement with all that is asked.
 use Prim.Native.Nat.{ℕ}
-use mathlib.Core.Path.{_≡_, refl, ap, _∙_, sym}
-use mathlib.Core.List.{List, [], _∷_, _++_, map}
-use mathlib.Core.Bool.{Bool, true, false, _&&_, and-eq-true-iff}
+use mathlib.Core.Path.{_≡_}
+use mathlib.Core.List.{List, [], _∷_, map}
+use mathlib.Core.Bool.{Bool, true, _&&_, and-eq-true-iff}
 use lib.Dec.{eqb}
 use lib.ListN.{length, getD}
 use borrow.Author.Tests.{eq-eqb, eqb-true}
@@ -10,7 +10,7 @@ use Rattle.sequences.specs.Sequence.{All, Step, steps, Forward, Backward}
 use Rattle.sequences.proofs.Members.{all-append, append-all}
 use Rattle.stores.specs.Stores.{Write, write}
 use Rattle.layout.specs.declared.Layout.{Layout}
-use Rattle.layout.specs.Words.{identAt, forwardAt, backAt, countAt, identOf}
+use Rattle.layout.specs.Words.{identAt, forwardAt, backAt, identOf}
 use Rattle.lists.specs.Lists.{asked, Agrees}
 use Rattle.lists.specs.Decide.{View, viewOf, countIn, turn, holds}
 

@@ -1,19 +1,19 @@
 -- What is decided is what the definition says: `soundOf` is true exactly if the lists are sound.
 use Prim.Native.Nat.{ℕ, zero, suc, _+_, _<_, _≤_}
 use mathlib.Core.Path.{_≡_, refl, ap, _∙_, sym, subst}
-use mathlib.Core.List.{List, [], _∷_, _++_, List·Memᴰ, List·Memᴰ·head, List·Memᴰ·tail, List·Memᴰ·append-cases, Memᴰ·append-left, Memᴰ·append-right}
-use mathlib.Core.Bool.{Bool, true, false, _&&_, and-eq-true-iff}
+use mathlib.Core.List.{List, _∷_, List·Memᴰ·head, List·Memᴰ·tail, List·Memᴰ·append-cases, Memᴰ·append-left, Memᴰ·append-right}
+use mathlib.Core.Bool.{Bool, true, false, and-eq-true-iff}
 use mathlib.Core.Logic.{_⊎_, inl, inr, ⊎-elim}
 use native.Mathlib.Omega.{arith}
 use native.Mathlib.Nat.{eq-or-lt-of-le, le-of-suc-le-suc}
 use lib.ListN.{length, getD}
 use lib.Dec.{eqb}
-use borrow.Author.Tests.{eq-eqb, ne-eqb, eqb-true, eqb-false}
-use Rattle.sequences.specs.Sequence.{_∈_, All, Different}
+use borrow.Author.Tests.{eq-eqb, eqb-true, eqb-false}
+use Rattle.sequences.specs.Sequence.{_∈_, Different}
 use Rattle.sequences.proofs.Members.{all-in, member?, different-append}
 use Rattle.sequences.proofs.Pigeonhole.{pigeonhole, pigeonhole-less}
 use Rattle.layout.specs.declared.Layout.{Layout}
-use Rattle.layout.specs.Words.{firstNode, Node, isNode, identOf, identAt}
+use Rattle.layout.specs.Words.{firstNode, Node, identAt}
 use Rattle.lists.specs.Lists.{IsList, SoundLists}
 use Rattle.lists.specs.Decide.{View, viewOf, countIn, sequenceIn, sequenceOf, holds, allHold, members, used, soundIn, soundOf}
 use Rattle.lists.proofs.Unique.{list-sequence, holds-list, list-holds, member-ident, lists-disjoint}

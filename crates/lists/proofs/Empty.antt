@@ -1,17 +1,15 @@
 -- A formatted store is sound, and all its lists are empty.
-use Prim.Native.Nat.{ℕ, zero, suc, _+_, _*_, _-_, _<_, _≤_}
+use Prim.Native.Nat.{ℕ, _+_, _*_, _-_, _<_, _≤_}
 use mathlib.Core.Path.{_≡_, refl, ap, _∙_, sym}
-use mathlib.Core.List.{List, [], _∷_}
-use mathlib.Core.Bool.{true}
+use mathlib.Core.List.{[], _∷_}
 use native.Mathlib.Omega.{arith}
 use native.Mathlib.Nat.{add-zero}
-use lib.ListN.{length, getD}
+use lib.ListN.{getD}
 use Rattle.sequences.specs.Sequence.{steps}
 use Rattle.layout.specs.declared.Layout.{Layout}
-use Rattle.layout.specs.Words.{firstNode, headWords, headerWords, nodeWords, headerAt, nodeAt, cellAt, Node, InRange, layoutOf, marked, identAt, identOf, formatted}
+use Rattle.layout.specs.Words.{headWords, headerWords, nodeAt, cellAt, InRange, layoutOf, marked, identOf, formatted}
 use Rattle.layout.proofs.Laws.{cell-header, cell-node, length-formatted, formatted-word, formatted-header, formatted-node}
 use Rattle.lists.specs.Lists.{IsList, SoundLists, Sound}
-use Rattle.lists.specs.Decide.{viewOf, countIn}
 use Rattle.lists.proofs.Agree.{holds-agrees}
 
 -- word j of a cell that is a header

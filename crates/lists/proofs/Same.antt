@@ -1,21 +1,20 @@
 -- A list, and the soundness of a store, depend only on the words of the cells concerned.
-use Prim.Native.Nat.{ℕ, zero, suc, _+_, _<_, _≤_}
+use Prim.Native.Nat.{ℕ, _+_, _<_}
 use mathlib.Core.Path.{_≡_, refl, ap, _∙_, sym, subst, subst⁻¹}
-use mathlib.Core.List.{List, [], _∷_, _++_, List·Memᴰ·head, List·Memᴰ·tail, List·Memᴰ·append-cases}
-use mathlib.Core.Logic.{⊎-elim}
+use mathlib.Core.List.{List, [], _∷_, _++_, List·Memᴰ·head, List·Memᴰ·tail}
 use native.Mathlib.Omega.{arith}
 use native.Mathlib.Nat.{add-zero}
 use lib.ListN.{length, getD}
 use Rattle.sequences.specs.Sequence.{_∈_, All, Different}
-use Rattle.sequences.proofs.Members.{all-in, in-all, different-append, in-front, in-behind}
+use Rattle.sequences.proofs.Members.{all-in, in-all, different-append, in-front}
 use Rattle.sequences.proofs.Splice.{forward-same, backward-same}
 use Rattle.layout.specs.declared.Layout.{Layout}
-use Rattle.layout.specs.Words.{firstNode, cellCount, Node, InRange, marked, layoutOf, sizeOf, cellAt, cellWords, identAt, countAt, identOf}
+use Rattle.layout.specs.Words.{cellCount, Node, InRange, marked, layoutOf, sizeOf, cellAt, identAt, countAt, identOf}
 use Rattle.layout.proofs.Laws.{cell-header}
 use Rattle.layout.proofs.Apart.{links-words, words-header}
 use Rattle.lists.specs.Lists.{IsList, SoundLists, Sound, SameCells}
-use Rattle.lists.specs.Decide.{viewOf, countIn}
-use Rattle.lists.proofs.Agree.{Turn, Holds, agrees-holds, holds-agrees}
+use Rattle.lists.specs.Decide.{viewOf}
+use Rattle.lists.proofs.Agree.{agrees-holds, holds-agrees}
 use Rattle.lists.proofs.Unique.{member-ident}
 
 -- addresses as words of a cell

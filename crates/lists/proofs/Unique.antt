@@ -1,22 +1,21 @@
 -- The sequence of a list is the only one, and no two lists share a cell.
-use Prim.Native.Nat.{ℕ, zero, suc, _+_, _<_, _≤_}
-use mathlib.Core.Path.{_≡_, refl, ap, _∙_, sym, subst}
-use mathlib.Core.List.{List, [], _∷_}
-use mathlib.Core.Bool.{Bool, true, false}
+use Prim.Native.Nat.{ℕ, _+_, _<_, _≤_}
+use mathlib.Core.Path.{_≡_, _∙_, sym}
+use mathlib.Core.List.{List}
+use mathlib.Core.Bool.{true, false}
 use native.Mathlib.Omega.{arith}
 use lib.ListN.{length, getD}
-use lib.Dec.{leb}
 use borrow.Author.Tests.{lt-leb}
-use Rattle.sequences.specs.Sequence.{_∈_, All, Different, range, trail}
+use Rattle.sequences.specs.Sequence.{_∈_, All, Different, range}
 use Rattle.sequences.proofs.Members.{all-in, in-all}
 use Rattle.sequences.proofs.Pigeonhole.{pigeonhole, length-range, in-range}
 use Rattle.sequences.proofs.Trail.{trail-inside, leads-trail, leads-different}
 use Rattle.layout.specs.declared.Layout.{Layout}
 use Rattle.layout.specs.Words.{firstNode, Node, isNode, identOf, identAt}
 use Rattle.layout.proofs.Laws.{is-node, node-is}
-use Rattle.lists.specs.Lists.{IsList, asked, Agrees}
-use Rattle.lists.specs.Decide.{View, viewOf, countIn, sequenceIn, sequenceOf, holds}
-use Rattle.lists.proofs.Agree.{Turn, Holds, holds-true, true-holds, agrees-holds, holds-agrees}
+use Rattle.lists.specs.Lists.{IsList}
+use Rattle.lists.specs.Decide.{viewOf, countIn, sequenceOf, holds}
+use Rattle.lists.proofs.Agree.{Holds, holds-true, true-holds, agrees-holds, holds-agrees}
 
 -- a header is no node
 pub header-out : (l : Layout) (k : ℕ) → k < l .lists → isNode l k ≡ false

@@ -1,7 +1,6 @@
 -- Soundness as it is decided: the forward links give the only sequence that can be a list's, a turn round it tests what is
 -- asked, and the nodes with an identifier are as many as the lists' members.
 use Prim.Native.Nat.{ℕ, zero, suc, _+_}
-use mathlib.Core.Path.{_≡_}
 use mathlib.Core.List.{List, [], _∷_, _++_}
 use mathlib.Core.Bool.{Bool, true, false, _&&_}
 use lib.Dec.{eqb}

@@ -7,15 +7,13 @@ use native.Mathlib.Omega.{arith}
 use lib.Dec.{eqb}
 use lib.ListN.{length, getD, length-append, length-reverse}
 use borrow.Author.Tests.{eqb-true, leb-true, leb-false}
-use Rattle.sequences.specs.Sequence.{_∈_, All, Step, steps, trail}
-use Rattle.sequences.proofs.Trail.{trail-inside}
-use Rattle.sequences.proofs.Reversed.{all-reverse, in-reverse, reverse-in}
+use Rattle.sequences.specs.Sequence.{_∈_, Step, steps}
+use Rattle.sequences.proofs.Reversed.{in-reverse, reverse-in}
 use Rattle.stores.specs.Stores.{Write, write}
 use Rattle.layout.specs.declared.Layout.{Layout}
-use Rattle.layout.specs.Words.{firstNode, Node, isNode, cellAt, identAt, forwardAt, backAt, countAt, identOf}
+use Rattle.layout.specs.Words.{firstNode, cellAt, identAt, forwardAt, backAt, countAt, identOf}
 use Rattle.lists.specs.Lists.{asked, identsAsked, forwardsAsked, backsAsked, countAsked}
 use Rattle.lists.specs.Decide.{View, viewOf, countIn, sequenceOf}
-use Rattle.lists.proofs.Unique.{all-nodes}
 use Rattle.lists.proofs.Same.{ident-word, count-word}
 use Rattle.recovery.specs.Fits.{wrong, backwardOf, fewWrong, same, none, only, several, fitting, fitOf}
 use Rattle.recovery.specs.Plan.{joined, clears, storesFrom, fittingOf, refusalFrom}

@@ -1,25 +1,25 @@
 -- What the columns told is the plan of recovery, and two runs in a row make its stores.
 use Prim.Native.Nat.{ℕ, zero, suc, _+_, _-_, _<_, _≤_}
 use mathlib.Core.Path.{_≡_, refl, ap, ap₂, _∙_, sym, subst}
-use mathlib.Core.List.{List, [], _∷_, _++_}
+use mathlib.Core.List.{List, _++_}
 use mathlib.Core.Bool.{Bool, true, false, cond}
 use native.Mathlib.Omega.{arith}
 use native.Mathlib.Nat.{eq-or-lt-of-le}
-use mathlib.Core.Logic.{_⊎_, inl, inr, ⊎-elim}
+use mathlib.Core.Logic.{_⊎_, ⊎-elim}
 use lib.Dec.{eqb, ltb}
 use lib.ListN.{length, getD, take, length-append}
 use lib.Seq.{take-append-le, take-append-add}
 use borrow.Author.Tests.{eq-eqb, ne-eqb, eqb-true, lt-ltb, ltb-false}
 use Rattle.sequences.specs.Sequence.{_∈_}
 use Rattle.stores.specs.declared.Answer.the-variants as A
-use Rattle.stores.specs.Stores.{Write, Plan, refuse, stores, run, applied, answerOf, writesIn}
+use Rattle.stores.specs.Stores.{Write, refuse, stores, run, applied, answerOf, writesIn}
 use Rattle.stores.proofs.Laws.{run-append}
 use Rattle.layout.specs.declared.Layout.{Layout}
 use Rattle.layout.specs.Words.{firstNode}
 use Rattle.lists.specs.Decide.{View, viewOf, countIn}
 use Rattle.survey.specs.Survey.{columns, Loaded}
 use Rattle.survey.proofs.Laws.{loaded-view}
-use Rattle.recovery.specs.Plan.{joined, clears, recoverStores, fittingOf, refusalFrom, recoverOf}
+use Rattle.recovery.specs.Plan.{joined, clears, fittingOf, refusalFrom, recoverOf}
 use Rattle.mending.specs.declared.Mends.{Mends}
 use Rattle.mending.specs.Mending.{fitIn, mendOf, numberOf, faultIn, isBackward, refusalIn, mendsIn, erasedFrom, clearsIn, clearAnswer, MendsOf, membersBy, erased}
 use Rattle.mending.proofs.AllLists.{length-erased}

@@ -1,20 +1,20 @@
 -- The only candidates are the forward and the back walk; a sequence of nodes with at most one wrong word has different members;
 -- and the decision is the document's: none fits, exactly one, or more.
-use Prim.Native.Nat.{ℕ, zero, suc, _+_, _<_, _≤_}
+use Prim.Native.Nat.{ℕ, _+_, _<_, _≤_}
 use mathlib.Core.Path.{_≡_, refl, ap, _∙_, sym, subst}
-use mathlib.Core.List.{List, [], _∷_, _++_, map}
-use mathlib.Core.Bool.{Bool, true, false, _&&_, and-eq-true-iff, true≢false, false≢true}
+use mathlib.Core.List.{List, [], _∷_, _++_}
+use mathlib.Core.Bool.{Bool, true, false, and-eq-true-iff, true≢false, false≢true}
 use mathlib.Core.Logic.{_⊎_, inl, inr, ⊎-elim}
 use native.Mathlib.Omega.{arith}
-use lib.Dec.{eqb, leb}
+use lib.Dec.{eqb}
 use lib.ListN.{length, getD, length-append}
-use borrow.Author.Tests.{eq-eqb, ne-eqb, eqb-true, eqb-false, le-leb, leb-true, leb-false}
+use borrow.Author.Tests.{eq-eqb, ne-eqb, eqb-true, eqb-false, leb-true, leb-false}
 use Rattle.sequences.specs.Sequence.{All, Different, Step, steps, Forward, Backward, trail}
 use Rattle.sequences.proofs.Trail.{trail-inside, leads-trail, leads-different}
 use Rattle.sequences.proofs.Reversed.{all-reverse, backs-trail, backs-different}
 use Rattle.stores.specs.Stores.{Write, write}
 use Rattle.layout.specs.declared.Layout.{Layout}
-use Rattle.layout.specs.Words.{Node, isNode, identOf, identAt, forwardAt, backAt, countAt}
+use Rattle.layout.specs.Words.{Node, isNode, identOf, identAt, forwardAt, backAt}
 use Rattle.lists.specs.Lists.{asked, Agrees, identsAsked, forwardsAsked, backsAsked, countAsked}
 use Rattle.lists.specs.Decide.{viewOf, countIn, sequenceOf}
 use Rattle.lists.proofs.Agree.{all-map, map-all}

@@ -1,25 +1,25 @@
 -- No word is stored twice, and each store changes its word: the stores are as many as the words that differ in the end.
 use Prim.Native.Nat.{ℕ, zero, suc, _+_, _<_, _≤_}
 use mathlib.Core.Path.{_≡_, refl, ap, _∙_, sym, subst}
-use mathlib.Core.List.{List, [], _∷_, _++_, List·Memᴰ, List·Memᴰ·head, List·Memᴰ·tail}
-use mathlib.Core.Bool.{Bool, true, false, _||_, cond}
-use mathlib.Core.Logic.{_⊎_, inl, inr, ⊎-elim}
+use mathlib.Core.List.{List, [], _∷_, List·Memᴰ, List·Memᴰ·head, List·Memᴰ·tail}
+use mathlib.Core.Bool.{Bool, true, false}
+use mathlib.Core.Logic.{_⊎_, inl, inr}
 use native.Mathlib.Decide.{ℕ-discrete}
 use native.Mathlib.Omega.{arith}
 use lib.Dec.{eqb}
 use lib.ListN.{length, getD, set, length-set}
 use lib.Seq.{getD-set-same}
-use borrow.Author.Tests.{eq-eqb, ne-eqb, eqb-true, eqb-false}
+use borrow.Author.Tests.{eq-eqb, ne-eqb, eqb-false}
 use Rattle.sequences.specs.Sequence.{_∈_, All}
 use Rattle.sequences.proofs.Members.{all-in, all-append}
-use Rattle.stores.specs.Stores.{Write, write, store, run, Spares}
+use Rattle.stores.specs.Stores.{Write, store, run, Spares}
 use Rattle.stores.proofs.Laws.{run-out, length-run}
 use Rattle.layout.specs.declared.Layout.{Layout}
 use Rattle.layout.specs.Words.{firstNode, Node, sizeOf, cellAt, cellWords, identAt}
 use Rattle.layout.proofs.Apart.{cells-apart, links-words}
 use Rattle.lists.specs.Lists.{asked}
 use Rattle.lists.proofs.Same.{ident-word}
-use Rattle.recovery.specs.Fits.{wrong, Fits}
+use Rattle.recovery.specs.Fits.{wrong}
 use Rattle.recovery.specs.Plan.{joined, isIn, clears, storesFrom, recoverStores, Accepted, differing, Kind, mend, clear}
 use Rattle.recovery.proofs.Disjoint.{fits-disjoint}
 use Rattle.recovery.proofs.Slots.{Slot, slot}

@@ -1,20 +1,17 @@
 -- Sequences that fit two lists share no cell: a shared cell would cost three wrong words, and two sequences that fit have two at
 -- most.
 use Prim.Native.Nat.{ℕ, zero, suc, _+_, _<_, _≤_}
-use mathlib.Core.Path.{_≡_, refl, ap, _∙_, sym, subst}
-use mathlib.Core.List.{List, [], _∷_, reverse}
-use mathlib.Core.Bool.{Bool, true, false}
+use mathlib.Core.Path.{_≡_, refl, _∙_, sym}
+use mathlib.Core.List.{List, reverse}
 use native.Mathlib.Omega.{arith}
-use lib.Dec.{eqb}
 use lib.ListN.{length, getD}
-use borrow.Author.Tests.{eqb-true, eqb-false}
-use Rattle.sequences.specs.Sequence.{_∈_, All, Forward, Backward}
+use Rattle.sequences.specs.Sequence.{_∈_, All, Forward}
 use Rattle.sequences.proofs.Members.{all-in}
 use Rattle.sequences.proofs.Trail.{leads-from, leads-end}
 use Rattle.sequences.proofs.Reversed.{backward-forward, all-reverse, reverse-in}
 use Rattle.layout.specs.declared.Layout.{Layout}
 use Rattle.layout.specs.Words.{Node, isNode, identOf, identAt}
-use Rattle.lists.specs.Lists.{asked, identsAsked, forwardsAsked, backsAsked, countAsked}
+use Rattle.lists.specs.Lists.{identsAsked, forwardsAsked, backsAsked}
 use Rattle.lists.specs.Decide.{viewOf}
 use Rattle.lists.proofs.Unique.{header-out, nodes-all}
 use Rattle.recovery.specs.Fits.{wrong, Fits}

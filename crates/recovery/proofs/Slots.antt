@@ -1,25 +1,19 @@
 -- What is asked of a list goes to words of its cells, to each word one value.
-use Prim.Native.Nat.{ℕ, zero, suc, _+_, _<_, _≤_}
+use Prim.Native.Nat.{ℕ, _+_, _<_}
 use mathlib.Core.Path.{_≡_, refl, ap, _∙_, sym, subst}
 use mathlib.Core.List.{List, [], _∷_, _++_, map, List·Memᴰ, List·Memᴰ·head, List·Memᴰ·tail, List·Memᴰ·append-cases}
-use mathlib.Core.Bool.{Bool, true, false}
-use mathlib.Core.Logic.{_⊎_, inl, inr, ⊎-elim}
+use mathlib.Core.Logic.{_⊎_, ⊎-elim}
 use native.Mathlib.Decide.{ℕ-discrete}
 use native.Mathlib.Omega.{arith}
-use lib.Dec.{eqb}
-use lib.ListN.{length, getD, set}
-use lib.Seq.{getD-set-same, getD-set-other}
-use borrow.Author.Tests.{eqb-true, eqb-false}
-use Rattle.sequences.specs.Sequence.{_∈_, All, Different, Step, steps}
+use lib.ListN.{length}
+use Rattle.sequences.specs.Sequence.{_∈_, Different, Step, steps}
 use Rattle.sequences.proofs.Members.{in-front}
 use Rattle.stores.specs.Stores.{Write, write}
 use Rattle.layout.specs.declared.Layout.{Layout}
-use Rattle.layout.specs.Words.{cellAt, cellWords, identAt, forwardAt, backAt, countAt, identOf}
+use Rattle.layout.specs.Words.{cellAt, cellWords, identAt, forwardAt, backAt, identOf}
 use Rattle.layout.proofs.Apart.{words-apart, cells-apart, links-words, words-header}
-use Rattle.lists.specs.Lists.{asked, identsAsked, forwardsAsked, backsAsked, countAsked, Agrees, SameCells}
+use Rattle.lists.specs.Lists.{asked, identsAsked, forwardsAsked, backsAsked, countAsked}
 use Rattle.lists.proofs.Same.{ident-word, count-word}
-use Rattle.recovery.specs.Fits.{wrong}
-use Rattle.recovery.proofs.Candidates.{wrong-right, wrong-wrong}
 
 -- a member of an image
 map-in {ℓ ℓ′} : {A : Type ℓ} {B : Type ℓ′} (f : A → B) (xs : List A) {y : B} → List·Memᴰ y (map f xs) → (x : A) × List·Memᴰ x xs × (y ≡ f x)

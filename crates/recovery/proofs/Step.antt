@@ -1,9 +1,9 @@
 -- One store of recovery: the lists keep their sequences, and what is left of the plan is the rest.
-use Prim.Native.Nat.{ℕ, zero, suc, _+_, _<_, _≤_}
+use Prim.Native.Nat.{ℕ, _+_, _<_, _≤_}
 use mathlib.Core.Path.{_≡_, refl, ap, _∙_, sym, subst}
 use mathlib.Core.List.{List, [], _∷_, _++_, List·Memᴰ, List·Memᴰ·head, List·Memᴰ·tail, List·Memᴰ·eq-of-singleton}
 use mathlib.Core.Bool.{Bool, true, false}
-use mathlib.Core.Logic.{_⊎_, inl, inr, ⊎-elim}
+use mathlib.Core.Logic.{_⊎_, ⊎-elim}
 use native.Mathlib.Decide.{ℕ-discrete}
 use native.Mathlib.Omega.{arith}
 use lib.Dec.{eqb}
@@ -12,14 +12,14 @@ use lib.Seq.{getD-set-same, getD-set-other}
 use borrow.Author.Tests.{eqb-true, eqb-false}
 use Rattle.sequences.specs.Sequence.{_∈_, All, Different}
 use Rattle.sequences.proofs.Members.{all-in, different-append}
-use Rattle.stores.specs.Stores.{Write, write, store}
+use Rattle.stores.specs.Stores.{Write, store}
 use Rattle.layout.specs.declared.Layout.{Layout}
 use Rattle.layout.specs.Words.{Node, cellCount, sizeOf, cellAt, cellWords, identAt, identOf}
 use Rattle.layout.proofs.Apart.{cells-apart, word-fits}
-use Rattle.lists.specs.Lists.{asked, identsAsked, forwardsAsked, backsAsked, Agrees, SameCells}
+use Rattle.lists.specs.Lists.{asked, SameCells}
 use Rattle.recovery.specs.Fits.{wrong, Fits}
 use Rattle.recovery.specs.Plan.{Accepted}
-use Rattle.recovery.proofs.Candidates.{sequence-dec, wrong-right, wrong-wrong, agrees-wrong, wrong-agrees, wrong-parts, right-idents, few-fits, forward-candidate, back-candidate, candidates, Rivals, rivals}
+use Rattle.recovery.proofs.Candidates.{sequence-dec, wrong-right, wrong-wrong, wrong-parts, right-idents, forward-candidate, back-candidate, candidates, rivals}
 use Rattle.recovery.proofs.Disjoint.{fits-disjoint}
 use Rattle.recovery.proofs.Slots.{Slot, slot, slots-agree}
 

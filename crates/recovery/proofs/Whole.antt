@@ -1,23 +1,23 @@
 -- A store that recovery accepts: what its plan is, that a whole run leaves it sound, and that a sound store needs no store.
 use Prim.Native.Nat.{ℕ, zero, suc, _+_, _<_, _≤_}
 use mathlib.Core.Path.{_≡_, refl, ap, ap₂, _∙_, sym, subst}
-use mathlib.Core.List.{List, [], _∷_, _++_, List·Memᴰ·head, List·Memᴰ·tail}
+use mathlib.Core.List.{List, [], _∷_, _++_}
 use mathlib.Core.Bool.{Bool, true, false, cond, _||_, or-true}
 use mathlib.Core.Logic.{_⊎_, inl, inr, ⊎-elim}
 use native.Mathlib.Omega.{arith}
-use native.Mathlib.Nat.{eq-or-lt-of-le, le-of-suc-le-suc}
+use native.Mathlib.Nat.{eq-or-lt-of-le}
 use lib.Dec.{eqb}
-use lib.ListN.{length, getD, drop, length-append}
+use lib.ListN.{length, getD, length-append}
 use lib.Seq.{drop-length}
 use borrow.Author.Tests.{eq-eqb, eqb-true}
-use Rattle.sequences.specs.Sequence.{_∈_, All}
+use Rattle.sequences.specs.Sequence.{_∈_}
 use Rattle.sequences.proofs.Members.{member?}
 use Rattle.stores.specs.Stores.{Write, write, run, applied, stores}
 use Rattle.stores.proofs.Laws.{applied-all}
 use Rattle.layout.specs.declared.Layout.{Layout}
 use Rattle.layout.specs.declared.Opened.the-variants as O
-use Rattle.layout.specs.Words.{firstNode, Node, sizeOf, identAt, opened}
-use Rattle.lists.specs.Lists.{asked, IsList, SoundLists}
+use Rattle.layout.specs.Words.{firstNode, sizeOf, identAt, opened}
+use Rattle.lists.specs.Lists.{asked, SoundLists}
 use Rattle.recovery.specs.Fits.{wrong, Fits, Fit, none, only, several, fitOf}
 use Rattle.recovery.specs.Plan.{joined, isIn, clears, storesFrom, recoverStores, onlyOf, fittingOf, fitNumber, refusalFrom, recoverOf, recoverPlan, Accepted}
 use Rattle.recovery.proofs.Candidates.{agrees-wrong, wrong-agrees, Decided, decided}

@@ -1,11 +1,10 @@
 -- A cell spliced into a sequence, or cut out of it: two links change, and the links lead through the new sequence.
-use Prim.Native.Nat.{ℕ, zero, suc, _+_, _<_, _≤_}
-use mathlib.Core.Path.{_≡_, refl, ap, _∙_, sym, subst}
-use mathlib.Core.List.{List, [], _∷_, _++_, List·Memᴰ, List·Memᴰ·head, List·Memᴰ·tail, Memᴰ·append-left, Memᴰ·append-right, List·Memᴰ·append-cases}
-use mathlib.Core.Logic.{_⊎_, inl, inr, ⊎-elim}
+use Prim.Native.Nat.{ℕ, zero, suc, _+_, _≤_}
+use mathlib.Core.Path.{_≡_, refl, _∙_, sym, subst}
+use mathlib.Core.List.{List, [], _∷_, _++_, List·Memᴰ·head, List·Memᴰ·tail, Memᴰ·append-left, Memᴰ·append-right}
 use native.Mathlib.Omega.{arith}
 use lib.ListN.{length, getD, take, drop}
-use Rattle.sequences.specs.Sequence.{_∈_, All, Different, Step, steps, Forward, Backward, lastOf, firstOf}
+use Rattle.sequences.specs.Sequence.{_∈_, Different, steps, Forward, Backward, lastOf, firstOf}
 
 -- links that agree on the cells of a path lead along it too
 pub forward-same : (f f′ : ℕ → ℕ) (x : ℕ) (s : List ℕ) (z : ℕ) → ((y : ℕ) → y ∈ (x ∷ s) → f′ y ≡ f y) → Forward f x s z → Forward f′ x s z

@@ -1,12 +1,11 @@
 -- Links that lead through a sequence: the trail finds it, so there is only one, and its members are different.
-use Prim.Native.Nat.{ℕ, zero, suc, _+_, _<_, _≤_}
+use Prim.Native.Nat.{ℕ, zero, suc, _<_, _≤_}
 use mathlib.Core.Path.{_≡_, refl, ap, _∙_, sym, subst}
-use mathlib.Core.List.{List, [], _∷_, _++_, List·Memᴰ, List·Memᴰ·head, List·Memᴰ·tail}
+use mathlib.Core.List.{List, [], _∷_, List·Memᴰ·head, List·Memᴰ·tail}
 use mathlib.Core.Bool.{Bool, true, false, true≢false}
 use native.Mathlib.Omega.{arith}
 use lib.ListN.{length, getD}
-use Rattle.sequences.specs.Sequence.{_∈_, All, Different, Step, steps, Forward, trail}
-use Rattle.sequences.proofs.Members.{in-all}
+use Rattle.sequences.specs.Sequence.{_∈_, All, Different, steps, Forward, trail}
 
 module _ (link : ℕ → ℕ) (inside : ℕ → Bool) where
   -- one step of the trail

@@ -2,13 +2,11 @@
 use Prim.Native.Nat.{ℕ, suc, zero, _+_, _-_, _≤_, _<_}
 use mathlib.Core.Path.{_≡_, refl, ap, ap₂, _∙_, sym, subst}
 use mathlib.Core.List.{List, [], _∷_, _++_}
-use mathlib.Core.Bool.{true, false, cond}
 use mathlib.Core.Logic.{_⊎_, inl, inr}
 use native.Mathlib.Decide.{ℕ-discrete, decLt}
 use native.Mathlib.Omega.{arith}
 use native.Mathlib.Numerals.{add-one}
 use native.Mathlib.Nat.{add-zero}
-use lib.Dec.{ltb}
 use lib.ListN.{length, getD, set, take, drop, length-set, length-append, take-append-drop}
 use lib.Seq.{take-suc, take-all, take-take, take-suc-set, length-take-le, set-out, getD-set-same, getD-set-other}
 use borrow.Author.Tests.{lt-ltb, le-ltb}

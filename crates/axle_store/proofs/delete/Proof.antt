@@ -1,9 +1,8 @@
 -- `delete` runs the stores of its plan.
 use borrow.Author.Needs.{needs}
 use mathlib.Core.Path.{_≡_, sym, _∙_}
-use lib.ListN.{length}
 use Rattle.requests.specs.declared.Looked.the-variants as K
-use Rattle.requests.specs.declared.Request.the-variants.{Member, Gap}
+use Rattle.requests.specs.declared.Request.the-variants.{Member}
 use Rattle.requests.specs.Requests.{lookOf}
 use Rattle.axle_store.proofs.Laws.{held-self, plan-refused, plan-run}
 use Rattle.axle_store.proofs.Cases.{delete-refused, delete-at}

@@ -3,7 +3,7 @@ use borrow.Author.Needs.{needs}
 use mathlib.Core.Path.{_≡_, sym, _∙_}
 use lib.ListN.{length}
 use Rattle.requests.specs.declared.Looked.the-variants as K
-use Rattle.requests.specs.declared.Request.the-variants.{Member, Gap}
+use Rattle.requests.specs.declared.Request.the-variants.{Gap}
 use Rattle.requests.specs.Requests.{lookOf}
 use Rattle.axle_store.proofs.Laws.{held-self, plan-refused, plan-run}
 use Rattle.axle_store.proofs.Cases.{insert-refused, insert-at}

@@ -2,12 +2,10 @@
 use borrow.Author.Needs.{needs}
 use Prim.Native.Nat.{ℕ, _+_, _*_, _-_, _≤_}
 use mathlib.Core.Path.{_≡_, refl, ap, sym, _∙_}
-use mathlib.Core.List.{List}
 use native.Mathlib.Omega.{arith}
 use native.Mathlib.Nat.{add-sub-cancel-left}
 use lib.ListN.{length, take, drop}
-use Rattle.layout.specs.Words.{recordAt, nodeAt}
-use Rattle.edits.specs.Edits.{Placed}
+use Rattle.layout.specs.Words.{recordAt}
 use Rattle.requests.specs.declared.Looked.the-variants as K
 use Rattle.requests.specs.declared.Request.the-variants.{Member}
 use Rattle.requests.specs.Requests.{lookOf}

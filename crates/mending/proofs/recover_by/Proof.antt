@@ -1,12 +1,12 @@
 -- `mending::recover_by` meets its contract. What all lists tell is the plan of recovery.
 use borrow.Author.Needs.{needs}
 use Prim.Native.Nat.{ℕ}
-use mathlib.Core.Path.{_≡_, refl, sym, _∙_, ap, subst}
+use mathlib.Core.Path.{sym, _∙_, ap, subst}
 use mathlib.Core.Bool.{false}
 use mathlib.Core.List.{List, _++_}
 use native.Mathlib.Omega.{arith}
 use lib.ListN.{length, getD}
-use Rattle.stores.specs.Stores.{Write, Plan, Held, stores, answerOf, applied, wordsAfter, writesIn}
+use Rattle.stores.specs.Stores.{Write, Plan, Held, stores, answerOf, wordsAfter, writesIn}
 use Rattle.layout.specs.Words.{sizeOf, firstNode}
 use Rattle.mending.specs.Mending.{clearsIn}
 use Rattle.mending.proofs.Recovered.{recover-refused, recover-stores, length-from}

@@ -1,6 +1,5 @@
 -- `mending::recover_with` meets its contract. The columns and the counts that are read are those of the words.
 use borrow.Author.Needs.{needs}
-use native.Mathlib.Omega.{arith}
 use Rattle.mending.proofs.recover_with.Statement.{statement}
 use Rattle.mending.proofs.recover_with.Tie as tie
 

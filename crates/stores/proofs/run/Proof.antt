@@ -1,5 +1,5 @@
 -- `run` steps through the stores: after i turns the words are those after the first i.
-use Prim.Native.Nat.{ℕ, _+_, _-_, _≤_, _<_}
+use Prim.Native.Nat.{ℕ, _-_, _≤_, _<_}
 use mathlib.Core.Path.{_≡_, refl, ap, _∙_, sym, subst}
 use mathlib.Core.List.{List}
 use native.Mathlib.Omega.{arith}
