@@ -1,10 +1,10 @@
 -- Words that are overwritten from the front, and rows of stores that carry out a plan.
-use Prim.Native.Nat.{ℕ, suc, _+_, _<_, _≤_}
+use Prim.Native.Nat.{ℕ, suc, _+_, _<_}
 use mathlib.Core.Path.{_≡_, refl, ap, _∙_, sym, subst}
 use mathlib.Core.List.{List, _++_, append-nil}
 use native.Mathlib.Omega.{arith}
 use native.Mathlib.Numerals.{add-one}
-use lib.ListN.{length, getD, set, take, drop, length-append, length-drop}
+use lib.ListN.{length, getD, set, take, drop}
 use Rattle.stores.specs.declared.Answer.{Answer}
 use Rattle.stores.specs.declared.Answer.the-variants as A
 use Rattle.stores.specs.declared.Rows.{Rows}
@@ -22,10 +22,6 @@ over-next f w i h k =
     ∙ sym (append-snoc (take i f) (getD f i 0) (drop (suc i) w))
     ∙ ap (λ (t : List ℕ). t ++ drop (suc i) w) (sym (take-suc f i 0 h))
     ∙ ap (over f w) (sym (add-one i))
-
-pub length-over : (f w : List ℕ) (i : ℕ) → i ≤ length f → length f ≡ length w → length (over f w i) ≡ length w
-length-over f w i h e =
-    omega (arith, length-append (take i f) (drop i w), length-take-le i f h, length-drop i w)
 
 -- all of them
 pub over-all : (f w : List ℕ) (i : ℕ) → i ≡ length f → length f ≡ length w → over f w i ≡ f

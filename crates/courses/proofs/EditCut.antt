@@ -25,9 +25,9 @@ use Rattle.edits.proofs.Free.{around-nodes}
 use Rattle.edits.proofs.Done.{gap-facts, member-facts, its-layout, its-site, its-sequence}
 use Rattle.axle_store.proofs.Cases.{insert-refused, insert-at, delete-refused, delete-at}
 use Rattle.courses.specs.Course.{Edit, insert, delete, named, editPlan, central, allStores}
-use Rattle.courses.proofs.Cut.{Cut}
-use Rattle.courses.proofs.InsertCut.{insert-cut-before, insert-cut-after}
-use Rattle.courses.proofs.DeleteCut.{none-cut, delete-cut-before, delete-cut-after}
+use Rattle.courses.proofs.Cut.{Cut, none-cut}
+use Rattle.courses.proofs.CutInsert.{insert-cut-before, insert-cut-after}
+use Rattle.courses.proofs.CutDelete.{delete-cut-before, delete-cut-after}
 
 -- the words that plan p for list k leaves after m stores, if its central store is number z
 abbrev pub CutBy : (w : List ℕ) → Sound w → ℕ → ℕ → ℕ → Plan → Type 0

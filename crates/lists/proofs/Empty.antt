@@ -7,8 +7,8 @@ use native.Mathlib.Nat.{add-zero}
 use lib.ListN.{getD}
 use Rattle.sequences.specs.Sequence.{steps}
 use Rattle.layout.specs.declared.Layout.{Layout}
-use Rattle.layout.specs.Words.{headWords, headerWords, nodeAt, cellAt, InRange, layoutOf, marked, identOf, formatted}
-use Rattle.layout.proofs.Laws.{cell-header, cell-node, length-formatted, formatted-word, formatted-header, formatted-node}
+use Rattle.layout.specs.Words.{headWords, headerWords, nodeAt, cellAt, InRange, marked, identOf, formatted}
+use Rattle.layout.proofs.Laws.{cell-header, cell-node, length-formatted, formatted-header, formatted-node}
 use Rattle.lists.specs.Lists.{IsList, SoundLists, Sound}
 use Rattle.lists.proofs.Agree.{holds-agrees}
 
@@ -45,14 +45,6 @@ formatted-lists l =
       sequence = λ _. [];
       lists = formatted-list l;
       outside = λ i n _. formatted-node l (cellAt l i) (omega (arith, cell-node l i (n .low), node-behind l i))
-    }
-
-pub layout-formatted : (l : Layout) → layoutOf (formatted l) ≡ l
-layout-formatted l =
-    λ i. record {
-      lists = formatted-word l 4 (omega arith) i;
-      nodes = formatted-word l 5 (omega arith) i;
-      width = formatted-word l 6 (omega arith) i
     }
 
 pub formatted-sound : (l : Layout) → InRange l → Sound (formatted l)

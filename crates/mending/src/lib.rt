@@ -172,7 +172,7 @@ fn mended(rows: Rows, l: Layout, f: Faults) -> Rows
 }
 
 // The mends of all lists, from list 0 on: does a sequence fit, and only one?
-pub fn all_mends(
+fn all_mends(
     idents: &[u16],
     forwards: &[u16],
     backs: &[u16],
@@ -224,7 +224,7 @@ fn erase(idents: &mut [u16], links: &[u16], l: Layout, k: u16)
 }
 
 // The identifiers with 0 at every member of every list, each by the links that it goes by.
-pub fn erase_all(idents: &mut [u16], forwards: &[u16], backs: &[u16], back: [bool; 8], l: Layout)
+fn erase_all(idents: &mut [u16], forwards: &[u16], backs: &[u16], back: [bool; 8], l: Layout)
     requires { ⌜ Columns l (now idents) (now forwards) (now backs) ⌝ }
     ensures { λ _. ⌜ now (idents .exit) ≡ erasedFrom l (columns (now (idents .entry)) (now (forwards .entry)) (now (backs .entry))) (λ k. getD back k false) 0 (l .lists) (now (idents .entry)) ⌝ }
 {
@@ -250,7 +250,7 @@ fn clear_step(words: &mut [u16], l: Layout, i: u16)
 
 // Writes 0 to the identifier of each node whose entry is not 0, lowest cell first, up to the allowance; made stores were made
 // before.
-pub fn clear(words: &mut [u16], l: Layout, idents: &[u16], made: u16, allowance: u16) -> Answer
+fn clear(words: &mut [u16], l: Layout, idents: &[u16], made: u16, allowance: u16) -> Answer
     requires { ⌜ InRange l × (length (now words) ≡ sizeOf l) × (length (now idents) ≡ cellCount l) × (made ≤ allowance) × (made ≤ 8) ⌝ }
     ensures answer { λ r. ⌜ r ≡ clearAnswer made (length (clearsIn l (now (idents .entry)) (firstNode l) (l .nodes))) allowance ⌝ }
     ensures words { λ _. ⌜ now (words .exit) ≡ applied (clearsIn l (now (idents .entry)) (firstNode l) (l .nodes)) (allowance - made) (now (words .entry)) ⌝ }

@@ -110,10 +110,6 @@ module _ (l : Layout) (w : List ℕ) (k : ℕ) (s : List ℕ) where
   forward-right h =
       ap length (agrees-wrong w (forwardsAsked l k s) (map-all Right (λ (p : Step). write (forwardAt l (p .source)) (p .target)) (steps k s k) h))
 
-  pub backward-right : Backward (viewOf l w .back) k s k → length (wrong w (backsAsked l k s)) ≡ 0
-  backward-right h =
-      ap length (agrees-wrong w (backsAsked l k s) (map-all Right (λ (p : Step). write (backAt l (p .target)) (p .source)) (steps k s k) h))
-
   pub right-idents : length (wrong w (identsAsked l k s)) ≡ 0 → (getD w (identAt l k) 0 ≡ identOf k) × All (λ c. getD w (identAt l c) 0 ≡ identOf k) s
   right-idents e =
       let r = all-map Right (λ c. write (identAt l c) (identOf k)) (k ∷ s) (wrong-agrees w (identsAsked l k s) e) in

@@ -17,7 +17,7 @@ use Rattle.sequences.proofs.Trail.{trail-on, trail-out, trail-none, trail-lengt
 use Rattle.layout.specs.declared.Layout.{Layout}
 use Rattle.layout.specs.Words.{firstNode, cellCount, isNode, nodeWords, nodeAt, cellAt, identOf, sizeOf, InRange, Laid}
 use Rattle.layout.proofs.Laws.{cell-node, is-node}
-use Rattle.lists.specs.Decide.{View, viewOf, countIn, sequenceIn, turn, holds, allHold, members, used, soundIn, sequenceOf, soundOf}
+use Rattle.lists.specs.Decide.{View, viewOf, countIn, sequenceIn, turn, holds, allHold, members, used, soundIn, soundOf}
 use Rattle.lists.proofs.Decided.{all-hold-at}
 use Rattle.survey.specs.declared.Round.the-variants.{Members, Broken}
 use Rattle.survey.specs.Survey.{columns, Loaded, ringIn}
@@ -338,11 +338,6 @@ pub sound-loaded : (l : Layout) (w i f b : List ℕ) (count : ℕ → ℕ) {r : 
 unfolding soundIn
 sound-loaded l w i f b count h c e =
     e ∙ rw (loaded-view l w i f b h, all-hold-same l (viewOf l w) count (countIn w) (l .lists) c)
-
--- and the sequence of a list is that of the words
-pub sequence-loaded : (l : Layout) (w i f b : List ℕ) (k : ℕ) → Loaded l w i f b
-    → sequenceIn l (columns f f f) k ≡ sequenceOf l w k
-sequence-loaded l w i f b k h = ap (λ (v : View). sequenceIn l v k) (loaded-view l w i f b h)
 
 -- the cell in front of a position of list k: its link is the cell at the position, and it is a cell of the store
 module _ (l : Layout) (v : View) (k : ℕ) where

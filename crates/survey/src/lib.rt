@@ -82,7 +82,7 @@ pub fn all_counts(words: &[u16], l: Layout) -> [u16; 8]
 }
 
 // One turn round list k.
-pub fn ring(idents: &[u16], forwards: &[u16], backs: &[u16], l: Layout, k: u16) -> Round
+fn ring(idents: &[u16], forwards: &[u16], backs: &[u16], l: Layout, k: u16) -> Round
     requires { ⌜ Columns l (now idents) (now forwards) (now backs) × (k < l .lists) ⌝ }
     ensures { λ r. ⌜ r ≡ ringIn l (columns (now (idents .entry)) (now (forwards .entry)) (now (backs .entry))) k ⌝ }
 {
@@ -117,7 +117,7 @@ pub fn ring(idents: &[u16], forwards: &[u16], backs: &[u16], l: Layout, k: u16) 
 }
 
 // The number of nodes whose identifier is not 0.
-pub fn used_nodes(idents: &[u16], l: Layout) -> u16
+fn used_nodes(idents: &[u16], l: Layout) -> u16
     requires { ⌜ InRange l × (length (now idents) ≡ cellCount l) ⌝ }
     ensures { λ r. ⌜ r ≡ length (used (columns (now (idents .entry)) (now (idents .entry)) (now (idents .entry))) (firstNode l) (l .nodes)) ⌝ }
 {
