@@ -13,6 +13,13 @@
 //                                     prints 'insert k p c m a = ANSWER', then the words or their checksum
 //     9 k p a         delete          prints 'delete k p a = ANSWER', then the same
 //     10 a            recover         prints 'recover a = ANSWER', then the same
+//     11 k p c v b w n u1 .. un       all courses of one call on the store, which is left as it is (at most 64 words)
+//                                     prints 'courses k p c v b w n = DIGEST'
+//
+// The courses of operation 11: the delete at position p of list k, if c is 0, else the insert of the record v there from cell c on;
+// cut after 0 to 7 stores; then word b altered to w, and each word from 8 on, one at a time, to each of u1 .. un; then a recovery
+// cut after any number of the stores that a whole one makes, a second one cut after any number of the rest, and a whole one. The
+// digest depends on every answer and on the words that each course leaves.
 //
 // An ANSWER is 'done', 'stopped' or 'refused' and its number. Words outside the store are not stored. An unknown operation, an
 // entry that is cut short or a record that is too long ends the run with the line 'bad script'. The last line is 'end'.
@@ -59,15 +66,28 @@ fn wide(x: u16) -> u64
     x as u64
 }
 
-// A number that depends on every word and its place.
-fn checksum(words: &[u16]) -> u64 {
-    let mut sum: u64 = 0;
+// A number that depends on x and on all that the sum depends on.
+fn mixed(sum: u64, x: u16) -> u64 {
+    (sum % 4294967291 * 65599 + wide(x)) % 4294967291
+}
+
+// The sum, mixed with every word in order.
+fn mixed_words(sum: u64, words: &[u16]) -> u64 {
+    let mut sum = sum;
     let mut i: usize = 0;
     while i < words.len() {
-        sum = (sum * 65599 + wide(words[i])) % 4294967291;
+        sum = mixed(sum, words[i]);
         i += 1;
     }
     sum
+}
+
+fn mixed_answer(sum: u64, answer: Answer) -> u64 {
+    match answer {
+        Answer::Done(n) => mixed(mixed(sum, 1), n),
+        Answer::Stopped(n) => mixed(mixed(sum, 2), n),
+        Answer::Refused(n) => mixed(mixed(sum, 3), n),
+    }
 }
 
 // The words of a small store, the checksum of a larger one.
@@ -78,7 +98,7 @@ fn print_store(words: &[u16]) {
         return;
     }
     printing::text(b"checksum = ");
-    io::print_decimal(STDOUT_FILENO, checksum(words));
+    io::print_decimal(STDOUT_FILENO, mixed_words(0, words));
     printing::text(b"\n");
 }
 
@@ -242,6 +262,142 @@ fn recover(words: &mut [u16], allowance: u16) {
     print_answer(answer, words);
 }
 
+// Word i, 0 past the end.
+fn word_of(words: &[u16], i: usize) -> u16 {
+    if words.len() <= i {
+        return 0;
+    }
+    words[i]
+}
+
+// The words become a copy of others.
+fn copy(words: &mut [u16], others: &[u16]) {
+    let mut i: usize = 0;
+    while i < words.len() {
+        words[i] = word_of(others, i);
+        i += 1;
+    }
+}
+
+// The stores that a whole recovery of the words makes, 0 if it is refused.
+fn needed(words: &mut [u16]) -> u16 {
+    match axle_store::recover(words, 65535) {
+        Answer::Done(n) => n,
+        _ => 0,
+    }
+}
+
+// The end of a course: recoveries cut after a and after b stores, and a whole one.
+fn recoveries(found: &[u16], words: &mut [u16], a: u16, b: u16, sum: u64) -> u64 {
+    copy(words, found);
+    let first = mixed_answer(sum, axle_store::recover(words, a));
+    let second = mixed_answer(first, axle_store::recover(words, b));
+    let last = mixed_answer(second, axle_store::recover(words, 65535));
+    mixed_words(last, words)
+}
+
+// A first recovery cut after a stores, a second one after any number up to `left`.
+fn second_cuts(found: &[u16], words: &mut [u16], a: u16, left: u16, sum: u64) -> u64 {
+    let mut sum = sum;
+    let mut b: u16 = 0;
+    while b < left {
+        sum = recoveries(found, words, a, b, sum);
+        b += 1;
+    }
+    recoveries(found, words, a, left, sum)
+}
+
+// All recoveries of the words found.
+fn all_recoveries(found: &[u16], words: &mut [u16], sum: u64) -> u64 {
+    copy(words, found);
+    let whole = needed(words);
+    let mut sum = sum;
+    let mut a: u16 = 0;
+    while a < whole {
+        sum = second_cuts(found, words, a, whole - a, sum);
+        a += 1;
+    }
+    second_cuts(found, words, whole, 0, sum)
+}
+
+// The call of operation 11.
+fn edit(words: &mut [u16], entry: &[u8], allowance: u16) -> Answer {
+    let list = word(entry, 1);
+    let position = word(entry, 2);
+    let start = word(entry, 3);
+    if start == 0 {
+        return axle_store::delete(words, list, position, allowance);
+    }
+    let rec = [word(entry, 4)];
+    axle_store::insert(words, list, position, start, &rec, allowance)
+}
+
+// The call cut after some stores, word b altered, and word `at`.
+fn find(store: &[u16], entry: &[u8], found: &mut [u16], allowance: u16, at: usize, value: u16) -> Answer {
+    copy(found, store);
+    let answer = edit(found, entry, allowance);
+    put(found, word(entry, 5) as usize, word(entry, 6));
+    put(found, at, value);
+    answer
+}
+
+// Word `at` altered to each of the values.
+fn courses_at(store: &[u16], entry: &[u8], found: &mut [u16], words: &mut [u16], allowance: u16, at: usize, sum: u64) -> u64 {
+    let mut sum = sum;
+    let n = word(entry, 7);
+    let mut i: u16 = 0;
+    while i < n {
+        let value = word(entry, 8 + i as usize);
+        sum = mixed_answer(sum, find(store, entry, found, allowance, at, value));
+        sum = all_recoveries(found, words, sum);
+        i += 1;
+    }
+    sum
+}
+
+// Each word of the cells altered.
+fn courses_cut(store: &[u16], entry: &[u8], found: &mut [u16], words: &mut [u16], allowance: u16, sum: u64) -> u64 {
+    let mut sum = sum;
+    let mut at: usize = 8;
+    while at < store.len() {
+        sum = courses_at(store, entry, found, words, allowance, at, sum);
+        at += 1;
+    }
+    sum
+}
+
+// The call cut after each number of its stores.
+fn all_courses(store: &[u16], entry: &[u8], found: &mut [u16], words: &mut [u16]) -> u64 {
+    let mut sum: u64 = 0;
+    let mut allowance: u16 = 0;
+    while allowance < 8 {
+        sum = courses_cut(store, entry, found, words, allowance, sum);
+        allowance += 1;
+    }
+    sum
+}
+
+// Operation 11.
+fn courses(store: &[u16], entry: &[u8]) {
+    let n = store.len();
+    if 64 < n {
+        return;
+    }
+    printing::text(b"courses");
+    printing::spaced(word(entry, 1));
+    printing::spaced(word(entry, 2));
+    printing::spaced(word(entry, 3));
+    printing::spaced(word(entry, 4));
+    printing::spaced(word(entry, 5));
+    printing::spaced(word(entry, 6));
+    printing::spaced(word(entry, 7));
+    printing::text(b" = ");
+    let mut found = record_buffer();
+    let mut words = record_buffer();
+    io::print_decimal(STDOUT_FILENO, all_courses(store, entry, &mut found[..n], &mut words[..n]));
+    printing::text(b"\n");
+}
+
 // The number of words of an insert's entry whose record has m words, 0 if that is too many.
 fn insert_words(m: u16) -> usize {
     if 64 < m { 0 } else { 6 + m as usize }
@@ -257,6 +413,7 @@ fn entry_words(script: &[u8]) -> usize {
         6 | 10 => 2,
         8 => insert_words(word(script, 4)),
         9 => 4,
+        11 => 8 + word(script, 7) as usize,
         _ => 0,
     }
 }
@@ -286,6 +443,7 @@ fn perform(entry: &[u8], words: &mut [u16]) {
         8 => insert(words, entry),
         9 => delete(words, word(entry, 1), word(entry, 2), word(entry, 3)),
         10 => recover(words, word(entry, 1)),
+        11 => courses(words, entry),
         _ => {}
     }
 }

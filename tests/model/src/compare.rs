@@ -32,6 +32,8 @@ pub fn compare(expected: &[Line], output: &str) -> Report {
             numbers.insert(number);
         }
     }
+    let (courses, demanded) = expected.iter().fold((0, 0), |(a, b), line| (a + line.courses, b + line.demanded));
+    report.text.push(format!("{courses} courses in all, {demanded} of them as demanded"));
     for (call, required) in ANSWERS {
         let (lines, numbers) = seen.remove(call).unwrap_or_default();
         report.text.push(format!("{call}: {lines} lines, answers {numbers:?}"));
@@ -72,12 +74,12 @@ mod tests {
         lines.len() - compare(lines, output).passed.min(lines.len())
     }
 
-    /// The answers that the sample does not give are all that fails: 128 of 134.
+    /// The answers that the sample does not give are all that fails: 129 of 135.
     #[test]
     fn right_output() {
         let (lines, output) = sample();
         let report = compare(&lines, &output);
-        assert_eq!((report.passed, report.failed), (lines.len() + 6, 128));
+        assert_eq!((report.passed, report.failed), (lines.len() + 6, 129));
         assert!(report.text.contains(&"check: 1 lines, answers {0}".to_string()));
         assert!(report.text.contains(&"insert done: 1 lines, answers {7}".to_string()));
     }

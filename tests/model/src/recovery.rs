@@ -79,26 +79,33 @@ fn orphans(words: &[u16], shape: Shape, lists: &[Vec<usize>]) -> Vec<usize> {
     shape.node_cells().filter(|i| !members.contains(i) && words[shape.cell(*i)] != 0).collect()
 }
 
-/// Recover. Done, it leaves a sound store of the sequences that fit.
-pub fn recover(words: &mut [u16], allowance: u16) -> Answer {
-    let (shape, sequences) = match fitting_lists(words) {
-        Err(number) => return Answer::Refused(number),
-        Ok(fitting) => fitting,
-    };
+/// The stores of recover in their order, or the number of the refusal. All made, they leave a sound store of the sequences
+/// that fit.
+pub(crate) fn recover_plan(words: &[u16]) -> Result<Vec<WordStore>, u16> {
+    let (shape, sequences) = fitting_lists(words)?;
     let mut stores: Vec<WordStore> = vec![];
     for (list, sequence) in sequences.iter().enumerate() {
         stores.extend(differing(words, shape, list, sequence));
     }
     stores.extend(orphans(words, shape, &sequences).into_iter().map(|cell| (shape.cell(cell), 0)));
+    let (_, left) = make(words, &stores, stores.len() as u16);
+    assert_eq!(lists(&left, shape), Some(sequences), "recover does not leave a sound store");
+    Ok(stores)
+}
+
+/// Recover.
+pub fn recover(words: &mut [u16], allowance: u16) -> Answer {
+    let stores = match recover_plan(words) {
+        Err(number) => return Answer::Refused(number),
+        Ok(stores) => stores,
+    };
     let (answer, left) = make(words, &stores, allowance);
-    if let Answer::Done(_) = answer {
-        assert_eq!(lists(&left, shape), Some(sequences), "recover does not leave a sound store");
-    }
     words.copy_from_slice(&left);
     answer
 }
 
 /// A course: an insert or delete on a sound store, alterations in the lists that it does not name, then recover calls.
+#[derive(Clone)]
 pub struct Course {
     /// The store that the recover calls find.
     found: Vec<u16>,

@@ -1,5 +1,6 @@
 //! Scripts of the program `cases`: the operations, and the lines that a run must print.
 
+use crate::courses::{self, Call, Courses, Digest};
 use crate::recovery;
 use crate::store::{self, Answer};
 
@@ -21,6 +22,7 @@ pub enum Operation {
     Insert { list: u16, position: u16, start: u16, record: Vec<u16>, allowance: u16 },
     Delete { list: u16, position: u16, allowance: u16 },
     Recover { allowance: u16 },
+    AllCourses(Courses),
 }
 
 use Operation::*;
@@ -40,6 +42,9 @@ impl Operation {
             }
             Delete { list, position, allowance } => vec![9, list, position, allowance],
             Recover { allowance } => vec![10, allowance],
+            AllCourses(Courses { call: Call { list, position, start, record }, other: (at, value), ref values }) => {
+                [&[11, list, position, start, record, at, value, values.len() as u16], &values[..]].concat()
+            }
         }
     }
 
@@ -59,6 +64,11 @@ impl Operation {
             }
             [9, list, position, allowance, ..] => Delete { list, position, allowance },
             [10, allowance, ..] => Recover { allowance },
+            [11, list, position, start, record, at, value, n, ref rest @ ..] => AllCourses(Courses {
+                call: Call { list, position, start, record },
+                other: (at, value),
+                values: rest.get(..n.into())?.to_vec(),
+            }),
             _ => return None,
         })
     }
@@ -110,6 +120,12 @@ impl Operation {
                 let answer = recovery::recover(words, allowance);
                 vec![Line::ended(&RECOVER, answer, allowance, format!("recover {allowance}")), words_line(words)]
             }
+            AllCourses(_) if words.len() > courses::MOST_WORDS => vec![],
+            AllCourses(ref courses) => {
+                let told = courses.run(words);
+                let text = format!("courses{} = {}", spaced(&self.words()[1..8]), told.digest.0);
+                vec![Line { courses: told.courses, demanded: told.demanded, ..Line::answer("courses", 0, text) }]
+            }
         }
     }
 }
@@ -128,25 +144,30 @@ fn words_line(words: &[u16]) -> Line {
     if words.len() <= 64 {
         Line::plain(format!("words ={}", spaced(words)))
     } else {
-        let sum = words.iter().fold(0u64, |sum, &w| (sum * 65_599 + u64::from(w)) % 4_294_967_291);
-        Line::plain(format!("checksum = {sum}"))
+        let mut sum = Digest::default();
+        sum.mix_all(words);
+        Line::plain(format!("checksum = {}", sum.0))
     }
 }
 
-/// A line that is printed. Of a call: its name, how it ended if it stores, and the number of its answer.
-#[derive(Clone, Debug, PartialEq, Eq)]
+/// A line that is printed.
+#[derive(Clone, Debug, Default, PartialEq, Eq)]
 pub struct Line {
     pub text: String,
+    /// Of a call: its name, how it ended if it stores, and the number of its answer.
     pub answer: Option<(&'static str, u16)>,
+    /// The number of courses that the line stands for, and of those that must end as a course of calls does.
+    pub courses: usize,
+    pub demanded: usize,
 }
 
 impl Line {
     fn plain(text: String) -> Line {
-        Line { text, answer: None }
+        Line { text, ..Line::default() }
     }
 
     fn answer(call: &'static str, number: u16, text: String) -> Line {
-        Line { text, answer: Some((call, number)) }
+        Line { text, answer: Some((call, number)), ..Line::default() }
     }
 
     /// Of a call that stores; the names are those of its ends.
@@ -166,7 +187,7 @@ const DELETE: [&str; 4] = ["delete done", "delete stopped", "delete refused with
 const RECOVER: [&str; 4] = ["recover done", "recover stopped", "recover refused with 0", "recover refused"];
 
 /// The answer numbers that each call can give; of the numbers of recover's stores, those of small stores and the most.
-pub const ANSWERS: [(&str, &[u16]); 16] = [
+pub const ANSWERS: [(&str, &[u16]); 17] = [
     ("format", &[0, 3, 4]),
     ("check", &[0, 1, 2, 3, 4, 6]),
     ("length", &[0, 1, 2, 3, 4, 5, 6]),
@@ -183,6 +204,7 @@ pub const ANSWERS: [(&str, &[u16]); 16] = [
     (RECOVER[1], &[0, 1, 2, 3, 4, 5, 6, 7, 8, 9, 10, 11, 12, 13, 2007]),
     (RECOVER[2], &[1, 2, 3, 4, 11, 12]),
     (RECOVER[3], &[1, 2, 3, 4, 11, 12]),
+    ("courses", &[0]),
 ];
 
 /// The lines that a run of the script must print. A word of it is two bytes, low byte first.
@@ -229,6 +251,11 @@ mod tests {
             Insert { list: 2, position: 4, start: 5, record: vec![7; LONGEST], allowance: 6 },
             Delete { list: 2, position: 4, allowance: 6 },
             Recover { allowance: 6 },
+            AllCourses(Courses {
+                call: Call { list: 1, position: 2, start: 3, record: 4 },
+                other: (5, 6),
+                values: vec![7, 8],
+            }),
         ];
         for operation in all {
             let words = operation.words();

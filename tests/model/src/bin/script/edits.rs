@@ -173,7 +173,7 @@ pub fn smallest_stores(s: &mut Script) {
 }
 
 /// Every choice of the lists' sequences.
-fn all_lists(lists: usize, cells: &[usize]) -> Vec<Vec<Vec<usize>>> {
+pub fn all_lists(lists: usize, cells: &[usize]) -> Vec<Vec<Vec<usize>>> {
     if lists == 0 {
         return vec![vec![]];
     }

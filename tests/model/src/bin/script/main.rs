@@ -578,6 +578,8 @@ fn main() -> std::io::Result<()> {
         recoveries::random_damage,
         recoveries::many_stores,
         recoveries::courses,
+        recoveries::every_course_of_small_stores,
+        recoveries::large_courses,
         recoveries::largest,
     ] {
         part(&mut script);

@@ -1,7 +1,8 @@
 //! The parts of the script that recover.
 
-use crate::edits::{formatted, random_edit, Edit, Edit::*, ENOUGH};
+use crate::edits::{all_lists, formatted, random_edit, Edit, Edit::*, ENOUGH};
 use crate::{altered, values_for, Script};
+use model::courses::{Call, Courses};
 use model::recovery::{recover, Course};
 use model::script::Operation::*;
 use model::store::{self, store_of, Answer, Shape, IDENTIFIER};
@@ -329,6 +330,78 @@ pub fn courses(s: &mut Script) {
             }
         }
         course(s, shape, &Deletion { list: lists, position: 0 }, ENOUGH, most);
+    }
+}
+
+/// The values that a word of a cell is altered to: every cell number and one beyond, every identifier, 65,535.
+fn adversarial(shape: Shape) -> Vec<u16> {
+    let cells = 0..=(shape.lists + shape.nodes) as u16;
+    let identifiers = (0..shape.lists as u16).map(|k| IDENTIFIER + k);
+    cells.chain(identifiers).chain([65_535]).collect()
+}
+
+/// Every insert and delete that the store allows, and those just beyond, with all their courses. A second word is altered too.
+fn every_course(s: &mut Script, shape: Shape, lists: &[Vec<usize>], starts: &[usize], other: (usize, u16)) {
+    let values = adversarial(shape);
+    let mut calls = vec![];
+    for (list, sequence) in lists.iter().enumerate() {
+        for position in 0..=sequence.len() {
+            calls.push((list, position, 0));
+            calls.extend(starts.iter().map(|&start| (list, position, start)));
+        }
+    }
+    for (list, position, start) in calls {
+        let call = Call { list: list as u16, position: position as u16, start: start as u16, record: 77 };
+        s.add(AllCourses(Courses { call, other: (other.0 as u16, other.1), values: values.clone() }));
+    }
+}
+
+/// No word of a small store.
+const NOWHERE: (usize, u16) = (65_535, 0);
+
+/// All courses of all calls on small stores: on all sound stores of one and of two lists over two nodes; on some of two and three
+/// lists over three nodes, with alterations in both other lists.
+pub fn every_course_of_small_stores(s: &mut Script) {
+    for lists in [1, 2] {
+        let shape = Shape::new(lists, 2, 1);
+        let nodes: Vec<usize> = shape.node_cells().collect();
+        for sequences in all_lists(lists, &nodes) {
+            s.load(&store_of(shape, &sequences, || 0));
+            every_course(s, shape, &sequences, &nodes, NOWHERE);
+        }
+    }
+    let shape = Shape::new(2, 3, 1);
+    for sequences in
+        [vec![vec![], vec![3, 2]], vec![vec![4], vec![2]], vec![vec![3, 4], vec![2]], vec![vec![4, 2, 3], vec![]]]
+    {
+        let words = s.sound(shape, &sequences);
+        s.load(&words);
+        every_course(s, shape, &sequences, &[3], NOWHERE);
+    }
+    let shape = Shape::new(3, 3, 1);
+    let sequences = [vec![4], vec![], vec![5]];
+    let words = s.sound(shape, &sequences);
+    s.load(&words);
+    for (cell, i, value) in [(0, 1, 3), (4, 2, 5), (4, 0, 0), (1, 3, 1), (1, 1, 3), (2, 2, 4), (5, 1, 3), (5, 0, IDENTIFIER)]
+    {
+        every_course(s, shape, &sequences, &[3], (shape.cell(cell) + i, value));
+    }
+}
+
+/// Random courses on large stores, each on what the last left.
+pub fn large_courses(s: &mut Script) {
+    for (lists, nodes, width, used, courses) in
+        [(1, 300, 13, 200, 20), (3, 700, 2, 698, 20), (5, 1000, 1, 500, 20), (8, 2000, 1, 1999, 30)]
+    {
+        let shape = Shape::new(lists, nodes, width);
+        let dealt = s.deal(shape, used);
+        s.load(&store_of(shape, &dealt, || 0));
+        for turn in 0..courses {
+            let dealt = store::lists(&s.words, shape).expect("a sound store");
+            let edit = random_edit(s, shape, &dealt, turn % 2 == 0);
+            let allowance = s.random.below(usize::from(edit.whole()) + 2) as u16;
+            course(s, shape, &edit, allowance, 5);
+        }
     }
 }
 

@@ -1,0 +1,217 @@
+//! All courses of one call on a small store: every cut of the call, every word of the cells altered to each of some values, every
+//! cut of a first and of a second recovery, then a whole one.
+
+use crate::recovery::{recover_plan, Course};
+use crate::store::{self, delete, insert, make, open, Answer, WordStore};
+use std::collections::HashMap;
+
+/// Larger stores are not tried.
+pub const MOST_WORDS: usize = 64;
+
+/// Every insert of a record of one word, and every delete, is done after so many stores.
+const MOST_STORES: u16 = 7;
+
+const ENOUGH: u16 = 65_535;
+
+/// A number that depends on all that was mixed into it, and on the order.
+#[derive(Clone, Copy, Debug, Default, PartialEq, Eq)]
+pub struct Digest(pub u64);
+
+impl Digest {
+    fn mix(&mut self, word: u16) {
+        self.0 = (self.0 * 65_599 + u64::from(word)) % 4_294_967_291;
+    }
+
+    pub fn mix_all(&mut self, words: &[u16]) {
+        words.iter().for_each(|&word| self.mix(word));
+    }
+
+    fn mix_answer(&mut self, answer: Answer) {
+        self.mix_all(&match answer {
+            Answer::Done(n) => [1, n],
+            Answer::Stopped(n) => [2, n],
+            Answer::Refused(n) => [3, n],
+        });
+    }
+}
+
+/// A delete if the starting cell is 0, else an insert of a record of one word.
+#[derive(Clone, Copy, Debug, PartialEq, Eq)]
+pub struct Call {
+    pub list: u16,
+    pub position: u16,
+    pub start: u16,
+    pub record: u16,
+}
+
+impl Call {
+    fn run(self, words: &mut [u16], allowance: u16) -> Answer {
+        match self.start {
+            0 => delete(words, self.list, self.position, allowance),
+            start => insert(words, self.list, self.position, start, &[self.record], allowance),
+        }
+    }
+
+    fn central(self) -> u16 {
+        if self.start == 0 {
+            2
+        } else {
+            6
+        }
+    }
+}
+
+/// A call, a word that is altered in each course, and the values that every other word is altered to.
+#[derive(Clone, Debug, PartialEq, Eq)]
+pub struct Courses {
+    pub call: Call,
+    pub other: (u16, u16),
+    pub values: Vec<u16>,
+}
+
+/// What a run tells: the digest of all answers and final words, the number of courses, and how many of them must end as a course
+/// of calls does.
+#[derive(Default)]
+pub struct Told {
+    pub digest: Digest,
+    pub courses: usize,
+    pub demanded: usize,
+}
+
+/// The plans of recovery that were found so far.
+type Plans = HashMap<Vec<u16>, Result<Vec<WordStore>, u16>>;
+
+fn recover(plans: &mut Plans, words: &mut Vec<u16>, allowance: u16) -> Answer {
+    let plan = plans.entry(words.clone()).or_insert_with_key(|words| recover_plan(words));
+    match plan {
+        Err(number) => Answer::Refused(*number),
+        Ok(stores) => {
+            let (answer, left) = make(words, stores, allowance);
+            *words = left;
+            answer
+        }
+    }
+}
+
+/// The words that may be altered in each list, one of each: the header's four, and a member's identifier, forward and back.
+fn alterable(words: &[u16]) -> Option<Vec<Vec<usize>>> {
+    let shape = open(words).ok()?;
+    let lists = store::lists(words, shape)?;
+    let of = |(k, sequence): (usize, &Vec<usize>)| {
+        let header = (0..4).map(|i| shape.cell(k) + i);
+        let members = sequence.iter().flat_map(|&cell| (0..3).map(move |i| shape.cell(cell) + i));
+        header.chain(members).collect()
+    };
+    Some(lists.iter().enumerate().map(of).collect())
+}
+
+impl Courses {
+    /// The course from the words found, if the alterations are those that a course may have.
+    fn course(
+        &self,
+        sound: &[u16],
+        lists: &[Vec<usize>],
+        cut: &[u16],
+        found: &[u16],
+        answer: Answer,
+        allowance: u16,
+    ) -> Option<Course> {
+        let altered: Vec<usize> = (0..cut.len()).filter(|&i| cut[i] != found[i]).collect();
+        let list_of = |at: usize| lists.iter().position(|places| places.contains(&at));
+        let hit: Option<Vec<usize>> = altered.into_iter().map(list_of).collect();
+        let hit = hit?;
+        let named = usize::from(self.call.list);
+        let twice = (1..hit.len()).any(|i| hit[..i].contains(&hit[i]));
+        if twice || hit.contains(&named) {
+            return None;
+        }
+        let mut new = sound.to_vec();
+        self.call.run(&mut new, ENOUGH);
+        let refused = matches!(answer, Answer::Refused(_));
+        let made = (!refused && allowance >= self.call.central()).then_some(&new[..]);
+        Some(Course::new(sound, self.call.list, made, found))
+    }
+
+    /// All courses on the words, which stay as they are.
+    pub fn run(&self, words: &[u16]) -> Told {
+        let mut told = Told::default();
+        let mut plans = Plans::new();
+        let lists = alterable(words);
+        for allowance in 0..=MOST_STORES {
+            let mut cut = words.to_vec();
+            let answer = self.call.run(&mut cut, allowance);
+            for at in 8..words.len() {
+                for &value in &self.values {
+                    let mut found = cut.clone();
+                    if let Some(word) = found.get_mut(usize::from(self.other.0)) {
+                        *word = self.other.1;
+                    }
+                    found[at] = value;
+                    told.digest.mix_answer(answer);
+                    let course = lists.as_ref().and_then(|lists| self.course(words, lists, &cut, &found, answer, allowance));
+                    recoveries(&mut told, &mut plans, &found, course);
+                }
+            }
+        }
+        told
+    }
+}
+
+/// Every cut of a first and of a second recovery, and a whole one.
+fn recoveries(told: &mut Told, plans: &mut Plans, found: &[u16], course: Option<Course>) {
+    let whole = match recover(plans, &mut found.to_vec(), ENOUGH) {
+        Answer::Done(n) => n,
+        _ => 0,
+    };
+    for first in 0..=whole {
+        for second in 0..=whole - first {
+            let mut words = found.to_vec();
+            let mut course = course.clone();
+            for allowance in [first, second, ENOUGH] {
+                let answer = recover(plans, &mut words, allowance);
+                told.digest.mix_answer(answer);
+                if let Some(course) = &mut course {
+                    course.recovered(answer, allowance);
+                }
+            }
+            told.digest.mix_all(&words);
+            told.courses += 1;
+            if let Some(course) = course {
+                course.ended(&words);
+                told.demanded += 1;
+            }
+        }
+    }
+}
+
+#[cfg(test)]
+mod tests {
+    use super::*;
+    use crate::store::{store_of, Shape};
+
+    /// Of a list of one node the delete is cut in five ways; the other list is empty. In all courses with an alteration in the other
+    /// list alone none is refused.
+    #[test]
+    fn counted() {
+        let shape = Shape::new(2, 1, 1);
+        let words = store_of(shape, &[vec![2], vec![]], || 0);
+        let call = Call { list: 0, position: 0, start: 0, record: 0 };
+        let none = Courses { call, other: (65_535, 0), values: vec![] }.run(&words);
+        assert_eq!((none.digest, none.courses), (Digest(0), 0));
+        let told = Courses { call, other: (65_535, 0), values: vec![9] }.run(&words);
+        assert!(told.demanded >= 4 * 8 && told.demanded < told.courses, "{} of {}", told.demanded, told.courses);
+        let same = Courses { call, other: (7, 0), values: vec![9] }.run(&words);
+        assert_eq!((same.digest, same.courses), (told.digest, told.courses));
+        let other = Courses { call, other: (14, 77), values: vec![9] }.run(&words);
+        assert_ne!(other.digest, told.digest);
+    }
+
+    #[test]
+    fn digests() {
+        let mut a = Digest::default();
+        a.mix_all(&[1, 2]);
+        let mut b = Digest::default();
+        b.mix_all(&[2, 1]);
+        assert_eq!((a.0, b.0), (65_601, 131_199));
+    }
+}
