@@ -1,0 +1,33 @@
+-- A store in byte form: "a word is two bytes, low byte first".
+use Prim.Native.Nat.{ℕ, _+_, _*_, _/_, _%_, _<_}
+use mathlib.Core.Path.{_≡_}
+use mathlib.Core.List.{List, [], _∷_}
+use lib.Dec.{eqb}
+use lib.ListN.{length, take}
+use Rattle.sequences.specs.Sequence.{All}
+use Rattle.stores.specs.Stores.{Write, write, run, Plan, refuse, stores}
+
+-- the words of the bytes; an odd byte at the end is of none
+unfoldable pub wordsIn : List ℕ → List ℕ
+wordsIn [] = []
+wordsIn (low ∷ []) = []
+wordsIn (low ∷ high ∷ bytes) = (low + 256 * high) ∷ wordsIn bytes
+
+-- "The stores are made in the lent bytes, in the same order, low byte before high"
+unfoldable pub byteWrites : List Write → List Write
+byteWrites [] = []
+byteWrites (p ∷ ps) = write (2 * p .at) (p .value % 256) ∷ write (2 * p .at + 1) (p .value / 256) ∷ byteWrites ps
+
+-- the bytes after the first m word stores
+abbrev pub appliedBytes : List Write → ℕ → List ℕ → List ℕ
+appliedBytes ps m b = run (byteWrites (take m ps)) b
+
+-- "A refusal is its number, no store made."
+abbrev pub bytesAfter : Plan → ℕ → List ℕ → List ℕ
+bytesAfter (refuse n) m b = b
+bytesAfter (stores ps) m b = appliedBytes ps m b
+
+-- every store of the plan goes to a word of a store of n words
+abbrev pub Inside : ℕ → Plan → Type 0
+Inside n (refuse r) = Unit {0}
+Inside n (stores ps) = All (λ (p : Write). p .at < n) ps

@@ -1,0 +1,72 @@
+// The byte form of a store: a word is two bytes, low byte first. A word is read as its two bytes, and a word store is made as two
+// byte stores, low byte before high, in the order of the words' stores.
+use stores::Answer;
+use stores::Rows;
+ghost use mathlib.Core.Path.{_≡_};
+ghost use Prim.Native.Nat.{_+_, _*_, _<_, _≤_};
+ghost use mathlib.Core.List.{[], _∷_};
+ghost use lib.ListN.{length, getD};
+ghost use Rattle.stores.specs.Stores.{write, stores, answerOf, run, writesOf, writesIn, Planned, Held};
+ghost use Rattle.byte_form.specs.Bytes.{wordsIn, byteWrites, appliedBytes};
+
+// The word of two bytes.
+fn joined(low: u8, high: u8) -> u16
+    ensures { λ r. ⌜ r ≡ low + 256 * high ⌝ }
+{
+    low as u16 + 256 * (high as u16)
+}
+
+// Word i.
+pub fn word(bytes: &[u8], i: usize) -> u16
+    requires { ⌜ i < length (wordsIn (now bytes)) ⌝ }
+    ensures { λ r. ⌜ r ≡ getD (wordsIn (now (bytes .entry))) i 0 ⌝ }
+{
+    joined(bytes[2 * i], bytes[2 * i + 1])
+}
+
+// Word i becomes v.
+pub fn put(bytes: &mut [u8], i: usize, v: u16)
+    requires { ⌜ i < length (wordsIn (now bytes)) ⌝ }
+    ensures { λ _. ⌜ now (bytes .exit) ≡ run (byteWrites (write i v ∷ [])) (now (bytes .entry)) ⌝ }
+{
+    bytes[2 * i] = (v % 256) as u8;
+    bytes[2 * i + 1] = (v / 256) as u8;
+}
+
+// Makes store i of the plan, and nothing else.
+fn step(bytes: &mut [u8], at: &[u16], values: &[u16], i: usize)
+    requires { ⌜ Planned (length (wordsIn (now bytes))) (now at) (now values) × (i < length (now at)) ⌝ }
+    ensures { λ _. ⌜ now (bytes .exit) ≡ run (byteWrites (getD (writesOf (now (at .entry)) (now (values .entry))) i (write 0 0) ∷ [])) (now (bytes .entry)) ⌝ }
+{
+    put(bytes, at[i] as usize, values[i]);
+}
+
+// Makes the stores of the plan, up to the allowance.
+pub fn run(bytes: &mut [u8], at: &[u16], values: &[u16], allowance: u16) -> Answer
+    requires { ⌜ Planned (length (wordsIn (now bytes))) (now at) (now values) × (length (now at) < 65536) ⌝ }
+    ensures answer { λ r. ⌜ r ≡ answerOf (stores (writesOf (now (at .entry)) (now (values .entry)))) allowance ⌝ }
+    ensures bytes { λ _. ⌜ now (bytes .exit) ≡ appliedBytes (writesOf (now (at .entry)) (now (values .entry))) allowance (now (bytes .entry)) ⌝ }
+{
+    let whole = at.len() as u16;
+    let mut i: u16 = 0;
+    while i < whole {
+        if i == allowance {
+            return Answer::Stopped(i);
+        }
+        step(bytes, at, values, i as usize);
+        i += 1;
+    }
+    Answer::Done(i)
+}
+
+// Makes the stores of the rows, up to the allowance.
+pub fn run_rows(bytes: &mut [u8], rows: Rows, allowance: u16) -> Answer
+    requires { ⌜ Held (length (wordsIn (now bytes))) rows (writesIn rows) ⌝ }
+    ensures answer { λ r. ⌜ r ≡ answerOf (stores (writesIn rows)) allowance ⌝ }
+    ensures bytes { λ _. ⌜ now (bytes .exit) ≡ appliedBytes (writesIn rows) allowance (now (bytes .entry)) ⌝ }
+{
+    let n = rows.len;
+    let at = rows.at;
+    let values = rows.values;
+    run(bytes, &at[..n], &values[..n], allowance)
+}
