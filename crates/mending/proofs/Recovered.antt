@@ -1,19 +1,16 @@
--- What the columns told is the plan of recovery, and two runs in a row make its stores.
-use Prim.Native.Nat.{ℕ, zero, suc, _+_, _-_, _<_, _≤_}
+-- What the columns told is the plan of recovery.
+use Prim.Native.Nat.{ℕ, zero, suc, _+_, _<_, _≤_}
 use mathlib.Core.Path.{_≡_, refl, ap, ap₂, _∙_, sym, subst}
 use mathlib.Core.List.{List, _++_}
 use mathlib.Core.Bool.{Bool, true, false, cond}
 use native.Mathlib.Omega.{arith}
 use native.Mathlib.Nat.{eq-or-lt-of-le}
-use mathlib.Core.Logic.{_⊎_, ⊎-elim}
-use lib.Dec.{eqb, ltb}
-use lib.ListN.{length, getD, take, length-append}
-use lib.Seq.{take-append-le, take-append-add}
-use borrow.Author.Tests.{eq-eqb, ne-eqb, eqb-true, lt-ltb, ltb-false}
+use mathlib.Core.Logic.{⊎-elim}
+use lib.Dec.{eqb}
+use lib.ListN.{length, getD}
+use borrow.Author.Tests.{eq-eqb, ne-eqb, eqb-true}
 use Rattle.sequences.specs.Sequence.{_∈_}
-use Rattle.stores.specs.declared.Answer.the-variants as A
-use Rattle.stores.specs.Stores.{Write, refuse, stores, run, applied, answerOf, writesIn}
-use Rattle.stores.proofs.Laws.{run-append}
+use Rattle.stores.specs.Stores.{Write, refuse, stores, writesIn}
 use Rattle.layout.specs.declared.Layout.{Layout}
 use Rattle.layout.specs.Words.{firstNode}
 use Rattle.lists.specs.Decide.{View, viewOf, countIn}
@@ -21,7 +18,7 @@ use Rattle.survey.specs.Survey.{columns, Loaded}
 use Rattle.survey.proofs.Laws.{loaded-view}
 use Rattle.recovery.specs.Plan.{joined, clears, fittingOf, refusalFrom, recoverOf}
 use Rattle.mending.specs.declared.Mends.{Mends}
-use Rattle.mending.specs.Mending.{fitIn, mendOf, numberOf, faultIn, isBackward, refusalIn, mendsIn, erasedFrom, clearsIn, clearAnswer, MendsOf, membersBy, erased}
+use Rattle.mending.specs.Mending.{fitIn, mendOf, numberOf, faultIn, isBackward, refusalIn, mendsIn, erasedFrom, clearsIn, MendsOf, membersBy, erased}
 use Rattle.mending.proofs.AllLists.{length-erased}
 use Rattle.mending.proofs.Cleared.{cleared-told}
 use Rattle.mending.proofs.Fitting.{refusal-told, mends-told, members-told}
@@ -100,32 +97,6 @@ module _ (l : Layout) (w idents forwards backs : List ℕ) (loaded : Loaded l w 
           ∙ cleared-told l w idents v (λ k. getD (m .back) k false) (fittingOf l w) (λ c _. loaded .idents c)
             (λ k h. subst (λ (b : Bool). (c : ℕ) → (c ∈ membersBy l v b k → c ∈ fittingOf l w k) × (c ∈ fittingOf l w k → c ∈ membersBy l v b k)) (sym (back k h))
               (members-told l w k h (none-refused l v (countIn w) 0 (l .lists) none k (omega arith) (omega arith))))
-
--- a run of the first stores that is cut: so is a run of all
-pub first-stopped : (ps qs : List Write) (m : ℕ) (w : List ℕ) → m < length ps
-    → (A.Stopped m ≡ answerOf (stores (ps ++ qs)) m) × (applied ps m w ≡ applied (ps ++ qs) m w)
-first-stopped ps qs m w h =
-    (rw (lt-ltb m (length (ps ++ qs)) (omega (arith, length-append ps qs))), ap (λ (rs : List Write). run rs w) (sym (take-append-le m ps qs (omega arith))))
-
--- a run of the first stores that is done, and then one of the rest
-pub first-done : (ps qs : List Write) (m : ℕ) (w : List ℕ) → length ps ≤ m
-    → (clearAnswer (length ps) (length qs) m ≡ answerOf (stores (ps ++ qs)) m) × (applied qs (m - length ps) (run ps w) ≡ applied (ps ++ qs) m w)
-first-done ps qs m w h =
-    (ap (λ (n : ℕ). cond (ltb m n) (A.Stopped m) (A.Done n)) (sym (length-append ps qs)),
-    sym (ap (λ (rs : List Write). run rs w)
-      (ap (λ (n : ℕ). take n (ps ++ qs)) e ∙ take-append-add ps qs (m - length ps))
-      ∙ run-append ps (take (m - length ps) qs) w))
-  where
-    e : m ≡ length ps + (m - length ps)
-    e = omega arith
-
--- a run that is done made all its stores
-pub done-whole : (ps : List Write) (m n : ℕ) → A.Done n ≡ answerOf (stores ps) m → (n ≡ length ps) × (length ps ≤ m)
-done-whole ps m n = by (ltb m (length ps)) refl
-  where
-    by : (b : Bool) → ltb m (length ps) ≡ b → A.Done n ≡ cond b (A.Stopped m) (A.Done (length ps)) → (n ≡ length ps) × (length ps ≤ m)
-    by true z e = let y : _≡_ {A = ℕ} 0 1 = cc in absurd (omega arith)
-    by false z e = (cc, ltb-false m (length ps) z)
 
 -- a column with members erased has its length
 pub length-from : (l : Layout) (v : View) (back : ℕ → Bool) (k n : ℕ) (xs : List ℕ) → length (erasedFrom l v back k n xs) ≡ length xs

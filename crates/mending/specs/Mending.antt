@@ -3,18 +3,18 @@ use Prim.Native.Nat.{ℕ, zero, suc, _+_, _<_, _≤_}
 use mathlib.Core.Path.{_≡_}
 use mathlib.Core.List.{List, [], _∷_, _++_}
 use mathlib.Core.Bool.{Bool, true, false, cond}
-use lib.Dec.{eqb, ltb}
-use lib.ListN.{length, getD, set}
-use Rattle.sequences.specs.Sequence.{trail}
-use Rattle.stores.specs.declared.Answer.{Answer}
-use Rattle.stores.specs.declared.Answer.the-variants as A
-use Rattle.stores.specs.Stores.{Write, write, Held}
+use lib.Dec.{eqb}
+use lib.ListN.{length, getD, set, take}
+use Rattle.sequences.specs.Sequence.{All, trail}
+use Rattle.stores.specs.Stores.{Write, write, writesOf, Held, Plan, refuse, stores}
 use Rattle.layout.specs.declared.Layout.{Layout}
-use Rattle.layout.specs.Words.{isNode, identAt, cellAt, identOf, sizeOf}
-use Rattle.lists.specs.Decide.{View}
+use Rattle.layout.specs.Words.{isNode, identAt, cellAt, identOf, cellCount, sizeOf}
+use Rattle.lists.specs.Decide.{View, countIn}
+use Rattle.survey.specs.Survey.{Loaded}
 use Rattle.mending.specs.declared.Faults.{Faults}
 use Rattle.mending.specs.declared.Faults.the-variants as F
 use Rattle.mending.specs.declared.Mends.{Mends}
+use Rattle.mending.specs.declared.Finding.{Finding}
 use Rattle.mending.specs.declared.Fitted.{Fitted}
 use Rattle.mending.specs.declared.Fitted.the-variants as G
 
@@ -129,9 +129,26 @@ clearsIn l idents a zero = []
 clearsIn l idents a (suc n) =
     cond (eqb (getD idents a 0) 0) (clearsIn l idents (suc a) n) (write (identAt l a) 0 ∷ clearsIn l idents (suc a) n)
 
--- the answer of clears behind m stores that were made: stopped if they do not all fit into the allowance
-abbrev pub clearAnswer : ℕ → ℕ → ℕ → Answer
-clearAnswer m n allowance = cond (ltb allowance (m + n)) (A.Stopped allowance) (A.Done (m + n))
+-- the first n stores of two columns, addresses and values
+abbrev pub listed : ℕ → List ℕ → List ℕ → List Write
+listed n at values = writesOf (take n at) (take n values)
+
+-- n stores are listed in two columns, those of ps, and go to words of the store
+pub record Listed (l : Layout) (at values : List ℕ) (n : ℕ) (ps : List Write) : Type 0 where
+  pub addresses : length at ≡ cellCount l
+  pub contents : length values ≡ cellCount l
+  pub few : n ≤ cellCount l
+  pub same : listed n at values ≡ ps
+  pub inside : All (λ (p : Write). p .at < sizeOf l) ps
+
+-- what recovery comes to, with its stores in two columns
+abbrev pub planOf : Finding → List ℕ → List ℕ → Plan
+planOf f at values = cond (eqb (f .refusal) 0) (stores (listed (f .stores) at values)) (refuse (f .refusal))
+
+-- the columns and the counts tell the words
+pub record Told (l : Layout) (w idents forwards backs counts : List ℕ) : Type 0 where
+  pub loaded : Loaded l w idents forwards backs
+  pub counted : (k : ℕ) → k < l .lists → getD counts k 0 ≡ countIn w k
 
 -- a fault of a cell of the store
 abbrev pub FaultFits : Layout → Faults → Type 0
@@ -143,5 +160,5 @@ FaultFits l F.Many = Unit {0}
 pub record MendsOf (l : Layout) (v : View) (count : ℕ → ℕ) (m : Mends) : Type 0 where
   pub refusal : m .refusal ≡ refusalIn l v count 0 (l .lists)
   pub rows : m .refusal ≡ 0 → Held (sizeOf l) (m .rows) (mendsIn l v count 0 (l .lists))
-  pub few : m .refusal ≡ 0 → m .rows .len ≤ 8
+  pub few : m .refusal ≡ 0 → m .rows .len ≤ l .lists
   pub back : m .refusal ≡ 0 → (k : ℕ) → k < l .lists → getD (m .back) k false ≡ isBackward (fitIn l v k (count k))

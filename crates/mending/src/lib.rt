@@ -1,20 +1,20 @@
 // Recovery by correction. Only two sequences can fit a list: what the forward links lead through, and what the back links do. Each
 // is walked once and its wrong words are summed up as none, one or many; no sequence is kept. If exactly one fits each list, its
-// wrong word is stored, list 0 first, and then 0 to each identifier of a node in no list.
+// wrong word is to be stored, list 0 first, and then 0 to each identifier of a node in no list. These stores are listed before the first
+// is made.
 use layout::Layout;
 use stores::Answer;
 use stores::Rows;
 ghost use mathlib.Core.Path.{_≡_};
-ghost use Prim.Native.Nat.{ℕ, _+_, _-_, _<_, _≤_};
-ghost use mathlib.Core.List.{_++_};
+ghost use Prim.Native.Nat.{ℕ, _+_, _<_, _≤_};
+ghost use mathlib.Core.List.{List, _++_};
 ghost use mathlib.Core.Bool.{false};
 ghost use lib.ListN.{length, getD};
-ghost use Rattle.stores.specs.Stores.{applied, writesIn, Held, stores, answerOf, wordsAfter, store, write};
-ghost use Rattle.layout.specs.Words.{Laid, InRange, cellCount, firstNode, sizeOf, identAt};
-ghost use Rattle.survey.specs.Survey.{columns, Columns, Loaded};
-ghost use Rattle.lists.specs.Decide.{countIn};
+ghost use Rattle.stores.specs.Stores.{writesIn, Held, answerOf, wordsAfter};
+ghost use Rattle.layout.specs.Words.{Laid, InRange, cellCount, firstNode, sizeOf};
+ghost use Rattle.survey.specs.Survey.{columns, Columns};
 ghost use Rattle.recovery.specs.Plan.{recoverOf};
-ghost use Rattle.mending.specs.Mending.{plus, fault, walkFaults, choose, fitIn, mendOf, numberOf, faultIn, isBackward, FaultFits, MendsOf, walked, erased, erasedFrom, clearsIn, clearAnswer};
+ghost use Rattle.mending.specs.Mending.{plus, fault, walkFaults, choose, fitIn, mendOf, numberOf, faultIn, isBackward, FaultFits, MendsOf, walked, erased, erasedFrom, clearsIn, listed, Listed, Told, planOf};
 
 // The wrong words of a sequence: word f of cell c is to hold v.
 pub enum Faults {
@@ -37,6 +37,12 @@ pub struct Mends {
     pub refusal: u16,
     pub back: [bool; 8],
     pub rows: Rows,
+}
+
+// What recovery comes to: the number of the refusal, 0 for none, and the number of stores.
+pub struct Finding {
+    pub refusal: u16,
+    pub stores: usize,
 }
 
 impl Faults {
@@ -239,75 +245,80 @@ fn erase_all(idents: &mut [u16], forwards: &[u16], backs: &[u16], back: [bool; 8
     }
 }
 
-// Writes 0 to the identifier of node i, and nothing else.
-fn clear_step(words: &mut [u16], l: Layout, i: u16)
-    requires { ⌜ InRange l × (length (now words) ≡ sizeOf l) × (i < cellCount l) ⌝ }
-    ensures { λ _. ⌜ now (words .exit) ≡ store (now (words .entry)) (write (identAt l i) 0) ⌝ }
+// Lists the stores of the rows in two columns, addresses and values.
+fn list_mends(rows: Rows, l: Layout, at: &mut [u16], values: &mut [u16])
+    requires { ⌜ Held (sizeOf l) rows (writesIn rows) × (rows .len ≤ cellCount l) × (length (now at) ≡ cellCount l) × (length (now values) ≡ cellCount l) ⌝ }
+    ensures { λ _. ⌜ Listed l (now (at .exit)) (now (values .exit)) (rows .len) (writesIn rows) ⌝ }
 {
-    let a = l.cell(i);
-    words[a] = 0;
+    let n = rows.len;
+    let from = rows.at;
+    let with = rows.values;
+    let mut i: usize = 0;
+    while i < n {
+        at[i] = from[i];
+        values[i] = with[i];
+        i += 1;
+    }
 }
 
-// Writes 0 to the identifier of each node whose entry is not 0, lowest cell first, up to the allowance; made stores were made
-// before.
-fn clear(words: &mut [u16], l: Layout, idents: &[u16], made: u16, allowance: u16) -> Answer
-    requires { ⌜ InRange l × (length (now words) ≡ sizeOf l) × (length (now idents) ≡ cellCount l) × (made ≤ allowance) × (made ≤ 8) ⌝ }
-    ensures answer { λ r. ⌜ r ≡ clearAnswer made (length (clearsIn l (now (idents .entry)) (firstNode l) (l .nodes))) allowance ⌝ }
-    ensures words { λ _. ⌜ now (words .exit) ≡ applied (clearsIn l (now (idents .entry)) (firstNode l) (l .nodes)) (allowance - made) (now (words .entry)) ⌝ }
+// Lists, behind the first n stores, a store of 0 to the identifier of each node whose entry is not 0, lowest cell first.
+fn list_clears(idents: &[u16], l: Layout, at: &mut [u16], values: &mut [u16], n: usize) -> usize
+    requires { ⌜ InRange l × (length (now idents) ≡ cellCount l) × (n ≤ l .lists) × Listed l (now at) (now values) n (listed n (now at) (now values)) ⌝ }
+    ensures { λ r. ⌜ Listed l (now (at .exit)) (now (values .exit)) r (listed n (now (at .entry)) (now (values .entry)) ++ clearsIn l (now (idents .entry)) (firstNode l) (l .nodes)) ⌝ }
 {
-    let mut n = made;
+    let mut n = n;
     let mut i = l.first_node();
     let end = l.cell_count();
     while i < end {
         if idents[i as usize] != 0 {
-            if n == allowance {
-                return Answer::Stopped(n);
-            }
-            clear_step(words, l, i);
+            at[n] = l.cell(i) as u16;
+            values[n] = 0;
             n += 1;
         }
         i += 1;
     }
-    Answer::Done(n)
+    n
 }
 
-// Makes the stores of the rows and then the clears, up to the allowance.
-fn mend_and_clear(words: &mut [u16], l: Layout, rows: Rows, idents: &[u16], allowance: u16) -> Answer
-    requires { ⌜ Laid l (now words) × (length (now idents) ≡ cellCount l) × Held (sizeOf l) rows (writesIn rows) × (rows .len ≤ 8) ⌝ }
-    ensures answer { λ r. ⌜ r ≡ answerOf (stores (writesIn rows ++ clearsIn l (now (idents .entry)) (firstNode l) (l .nodes))) allowance ⌝ }
-    ensures words { λ _. ⌜ now (words .exit) ≡ applied (writesIn rows ++ clearsIn l (now (idents .entry)) (firstNode l) (l .nodes)) allowance (now (words .entry)) ⌝ }
-{
-    let Answer::Done(made) = stores::run_rows(words, rows, allowance) else {
-        return Answer::Stopped(allowance);
-    };
-    clear(words, l, idents, made, allowance)
-}
-
-// Recovers a store of this layout by its columns and counts. All is decided before the first store.
-fn recover_by(
-    words: &mut [u16],
-    l: Layout,
-    idents: &mut [u16],
-    forwards: &[u16],
-    backs: &[u16],
-    counts: [u16; 8],
-    allowance: u16,
-) -> Answer
-    requires { ⌜ Laid l (now words) × Columns l (now idents) (now forwards) (now backs) × Loaded l (now words) (now idents) (now forwards) (now backs) × ((k : ℕ) → k < l .lists → getD counts k 0 ≡ countIn (now words) k) ⌝ }
-    ensures answer { λ r. ⌜ r ≡ answerOf (recoverOf l (now (words .entry))) allowance ⌝ }
-    ensures words { λ _. ⌜ now (words .exit) ≡ wordsAfter (recoverOf l (now (words .entry))) allowance (now (words .entry)) ⌝ }
+// Decides recovery by the columns and the counts. The stores are listed in the columns of links: addresses in the forward one, values
+// in the back one.
+pub fn plan(idents: &mut [u16], forwards: &mut [u16], backs: &mut [u16], counts: [u16; 8], l: Layout) -> Finding
+    requires { ⌜ Columns l (now idents) (now forwards) (now backs) ⌝ }
+    ensures { λ r. ⌜ ((w : List ℕ) → Told l w (now (idents .entry)) (now (forwards .entry)) (now (backs .entry)) counts → recoverOf l w ≡ planOf r (now (forwards .exit)) (now (backs .exit))) ⌝ }
+    ensures rows { λ r. ⌜ Listed l (now (forwards .exit)) (now (backs .exit)) (r .stores) (listed (r .stores) (now (forwards .exit)) (now (backs .exit))) ⌝ }
 {
     let m = all_mends(idents, forwards, backs, counts, l);
     if m.refusal != 0 {
-        return Answer::Refused(m.refusal);
+        return Finding {
+            refusal: m.refusal,
+            stores: 0,
+        };
     }
     let back = m.back;
     erase_all(idents, forwards, backs, back, l);
     let rows = m.rows;
-    mend_and_clear(words, l, rows, idents, allowance)
+    let n = rows.len;
+    list_mends(rows, l, forwards, backs);
+    Finding {
+        refusal: 0,
+        stores: list_clears(idents, l, forwards, backs, n),
+    }
 }
 
-// The same of the lent words, which are read into the columns.
+// Makes the stores that were found, up to the allowance.
+fn make(words: &mut [u16], f: Finding, l: Layout, at: &[u16], values: &[u16], allowance: u16) -> Answer
+    requires { ⌜ InRange l × (length (now words) ≡ sizeOf l) × Listed l (now at) (now values) (f .stores) (listed (f .stores) (now at) (now values)) ⌝ }
+    ensures answer { λ r. ⌜ r ≡ answerOf (planOf f (now (at .entry)) (now (values .entry))) allowance ⌝ }
+    ensures words { λ _. ⌜ now (words .exit) ≡ wordsAfter (planOf f (now (at .entry)) (now (values .entry))) allowance (now (words .entry)) ⌝ }
+{
+    if f.refusal != 0 {
+        return Answer::Refused(f.refusal);
+    }
+    let n = f.stores;
+    stores::run(words, &at[..n], &values[..n], allowance)
+}
+
+// Recovers a store of this layout, with the columns to read its cells into.
 fn recover_with(
     words: &mut [u16],
     l: Layout,
@@ -322,7 +333,8 @@ fn recover_with(
 {
     survey::load(words, l, idents, forwards, backs);
     let counts = survey::all_counts(words, l);
-    recover_by(words, l, idents, forwards, backs, counts, allowance)
+    let f = plan(idents, forwards, backs, counts, l);
+    make(words, f, l, forwards, backs, allowance)
 }
 
 // Recovers a store of this layout.

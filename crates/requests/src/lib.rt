@@ -122,7 +122,7 @@ fn gap(idents: &[u16], forwards: &[u16], l: Layout, k: u16, n: u16, p: u16, star
 }
 
 // The site that a request gets, by the columns and the counts.
-fn site_by(idents: &[u16], forwards: &[u16], backs: &[u16], counts: [u16; 8], l: Layout, q: Request) -> Sited
+pub fn site_by(idents: &[u16], forwards: &[u16], backs: &[u16], counts: [u16; 8], l: Layout, q: Request) -> Sited
     requires { ⌜ Columns l (now idents) (now forwards) (now backs) ⌝ }
     ensures { λ r. ⌜ r ≡ siteIn l (columns (now (idents .entry)) (now (forwards .entry)) (now (backs .entry))) (λ k. getD counts k 0) q ⌝ }
 {

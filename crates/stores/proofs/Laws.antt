@@ -161,16 +161,17 @@ pub held-length : (n : ℕ) (r : Rows) (ps : List Write) → Held n r ps → (le
 held-length n r ps h =
     (length-take-le (r .len) (r .at) (omega (arith, h .at, h .len, h .few)), length-take-le (r .len) (r .values) (omega (arith, h .values, h .len, h .few)))
 
-pub held-planned : (n : ℕ) (r : Rows) (ps : List Write) → Held n r ps → Planned n (take (r .len) (r .at)) (take (r .len) (r .values))
-held-planned n r ps h =
-    let l = held-length n r ps h in
-    let e : length (take (r .len) (r .at)) ≡ length (take (r .len) (r .values)) = l .0 ∙ sym (l .1) in
+pub rows-planned : (n : ℕ) (at vs : List ℕ) → length at ≡ length vs → All (λ (p : Write). p .at < n) (writesOf at vs) → Planned n at vs
+rows-planned n at vs e h =
     record {
       rows = e;
       inside =
         λ i k.
-        subst (λ (p : Write). p .at < n) (writes-at (take (r .len) (r .at)) (take (r .len) (r .values)) i e k)
-        (all-nth (λ (p : Write). p .at < n) (writesIn r) i (write 0 0)
-          (subst (All (λ (p : Write). p .at < n)) (sym (h .same)) (h .inside))
-          (omega (arith, length-writes (take (r .len) (r .at)) (take (r .len) (r .values)) e)))
+        subst (λ (p : Write). p .at < n) (writes-at at vs i e k)
+        (all-nth (λ (p : Write). p .at < n) (writesOf at vs) i (write 0 0) h (omega (arith, length-writes at vs e)))
     }
+
+pub held-planned : (n : ℕ) (r : Rows) (ps : List Write) → Held n r ps → Planned n (take (r .len) (r .at)) (take (r .len) (r .values))
+held-planned n r ps h =
+    let l = held-length n r ps h in
+    rows-planned n _ _ (l .0 ∙ sym (l .1)) (subst (All (λ (p : Write). p .at < n)) (sym (h .same)) (h .inside))

@@ -1,0 +1,102 @@
+// The questions of a call, put to a store in byte form. The cells are read from the bytes into the columns of crate survey; all else is
+// decided there, as for lent words.
+use layout::Layout;
+use layout::Opened;
+use requests::Looked;
+use requests::Request;
+use requests::Sited;
+ghost use mathlib.Core.Path.{_≡_};
+ghost use Prim.Native.Nat.{ℕ, _<_, _≤_};
+ghost use lib.ListN.{length, getD};
+ghost use Rattle.byte_form.specs.Bytes.{wordsIn};
+ghost use Rattle.layout.specs.Words.{Laid, opened, countAt};
+ghost use Rattle.survey.specs.Survey.{Columns, Loaded};
+ghost use Rattle.requests.specs.Requests.{siteOf, lookOf};
+
+// The first eight words.
+fn head(bytes: &[u8]) -> [u16; 8]
+    requires { ⌜ 8 ≤ length (wordsIn (now bytes)) ⌝ }
+    ensures { λ r. ⌜ (8 ≡ length r) × ((i : ℕ) → i < 8 → getD r i 0 ≡ getD (wordsIn (now (bytes .entry))) i 0) ⌝ }
+{
+    let mut r = [0u16; 8];
+    let mut i: usize = 0;
+    while i < Layout::HEAD_WORDS {
+        r[i] = byte_form::word(bytes, i);
+        i += 1;
+    }
+    r
+}
+
+// Questions 1 to 4.
+pub fn open(bytes: &[u8]) -> Opened
+    ensures { λ r. ⌜ r ≡ opened (wordsIn (now (bytes .entry))) ⌝ }
+{
+    let n = bytes.len() / 2;
+    if n < Layout::HEAD_WORDS {
+        return Opened::Refused(1);
+    }
+    layout::open_with(n, head(bytes))
+}
+
+// Reads each cell into the columns.
+pub fn load(bytes: &[u8], l: Layout, idents: &mut [u16], forwards: &mut [u16], backs: &mut [u16])
+    requires { ⌜ Laid l (wordsIn (now bytes)) × Columns l (now idents) (now forwards) (now backs) ⌝ }
+    ensures { λ _. ⌜ Loaded l (wordsIn (now (bytes .entry))) (now (idents .exit)) (now (forwards .exit)) (now (backs .exit)) ⌝ }
+{
+    let n = l.cell_count();
+    let mut i: u16 = 0;
+    while i < n {
+        let a = l.cell(i);
+        idents[i as usize] = byte_form::word(bytes, a);
+        forwards[i as usize] = byte_form::word(bytes, a + Layout::FORWARD);
+        backs[i as usize] = byte_form::word(bytes, a + Layout::BACK);
+        i += 1;
+    }
+}
+
+// The counts of all lists.
+pub fn all_counts(bytes: &[u8], l: Layout) -> [u16; 8]
+    requires { ⌜ Laid l (wordsIn (now bytes)) ⌝ }
+    ensures { λ r. ⌜ (8 ≡ length r) × ((k : ℕ) → k < l .lists → getD r k 0 ≡ getD (wordsIn (now (bytes .entry))) (countAt k) 0) ⌝ }
+{
+    let mut r = [0u16; 8];
+    let mut k: u16 = 0;
+    while k < l.lists {
+        r[k as usize] = byte_form::word(bytes, Layout::header(k) + Layout::COUNT);
+        k += 1;
+    }
+    r
+}
+
+// The site that a request gets, with the columns to read the cells into.
+fn site_in(bytes: &[u8], l: Layout, q: Request, idents: &mut [u16], forwards: &mut [u16], backs: &mut [u16]) -> Sited
+    requires { ⌜ Laid l (wordsIn (now bytes)) × Columns l (now idents) (now forwards) (now backs) ⌝ }
+    ensures { λ r. ⌜ r ≡ siteOf l (wordsIn (now (bytes .entry))) q ⌝ }
+{
+    load(bytes, l, idents, forwards, backs);
+    requests::site_by(idents, forwards, backs, all_counts(bytes, l), l, q)
+}
+
+fn site_of(bytes: &[u8], l: Layout, q: Request) -> Sited
+    requires { ⌜ Laid l (wordsIn (now bytes)) ⌝ }
+    ensures { λ r. ⌜ r ≡ siteOf l (wordsIn (now (bytes .entry))) q ⌝ }
+{
+    let n = l.cell_count() as usize;
+    let mut idents = survey::column();
+    let mut forwards = survey::column();
+    let mut backs = survey::column();
+    site_in(bytes, l, q, &mut idents[..n], &mut forwards[..n], &mut backs[..n])
+}
+
+// All questions of a call.
+pub fn look(bytes: &[u8], q: Request) -> Looked
+    ensures { λ r. ⌜ r ≡ lookOf (wordsIn (now (bytes .entry))) q ⌝ }
+{
+    match open(bytes) {
+        Opened::Refused(n) => Looked::Refused(n),
+        Opened::Open(l) => match site_of(bytes, l, q) {
+            Sited::Refused(n) => Looked::Refused(n),
+            Sited::At(t) => Looked::At(l, t),
+        },
+    }
+}
