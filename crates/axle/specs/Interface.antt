@@ -1,0 +1,69 @@
+-- The calls from C: the word calls' answers and plans, of "the words of these bytes". "There an answer is one 32-bit number."
+use Prim.Native.Nat.{ℕ, _+_, _%_}
+use mathlib.Core.List.{List, []}
+use lib.Dec.{eqb}
+use lib.ListN.{length}
+use Rattle.stores.specs.declared.Answer.{Answer}
+use Rattle.stores.specs.declared.Answer.the-variants as A
+use Rattle.stores.specs.Stores.{Plan, refuse, stores, run, inRow}
+use Rattle.byte_form.specs.Bytes.{wordsIn, byteWrites}
+use Rattle.layout.specs.declared.Layout.{Layout}
+use Rattle.layout.specs.Words.{ask, inRange, sizeOf, formatted}
+use Rattle.recovery.specs.Plan.{recoverPlan}
+use Rattle.axle_store.specs.declared.Counted.{Counted}
+use Rattle.axle_store.specs.declared.Counted.the-variants as L
+use Rattle.axle_store.specs.Answers.{checkedNumber}
+use Rattle.axle_store.specs.Calls.{checkAnswer, lengthAnswer, insertPlan, deletePlan}
+
+-- "A store of odd byte length is answered 4 before all else": else what the call says of the words
+abbrev pub evenly {ℓ} : {A : Type ℓ} → List ℕ → A → (List ℕ → A) → A
+evenly bytes refusal call = ask (eqb (length bytes % 2) 0) refusal (call (wordsIn bytes))
+
+-- "a record of odd byte length is answered 9 in its turn": it counts as a record of no words, and P is at least 1
+unfoldable pub recordIn : List ℕ → List ℕ
+recordIn bytes = evenly bytes [] (λ w. w)
+
+-- "a refusal's number, ..; 65,536 plus the length or the number of stores done; 131,072 plus the number where stopped"
+abbrev pub codeOf : Answer → ℕ
+codeOf (A.Done n) = 65536 + n
+codeOf (A.Stopped n) = 131072 + n
+codeOf (A.Refused n) = n
+
+abbrev pub countedCode : Counted → ℕ
+countedCode (L.Length n) = 65536 + n
+countedCode (L.Refused n) = n
+
+-- "with 0 for check's sound and for format done"
+unfoldable pub checkCode : List ℕ → ℕ
+checkCode bytes = evenly bytes 4 (λ w. checkedNumber (checkAnswer w))
+
+unfoldable pub lengthCode : List ℕ → ℕ → ℕ
+lengthCode bytes k = evenly bytes 4 (λ w. countedCode (lengthAnswer w k))
+
+-- format as a list of stores: every word of the formatted store, from the front
+unfoldable pub formatPlan : Layout → List ℕ → Plan
+formatPlan l w =
+    ask (inRange l) (refuse 3)
+    (ask (eqb (length w) (sizeOf l)) (refuse 4)
+    (stores (inRow 0 (formatted l))))
+
+abbrev pub wholeCode : Plan → ℕ
+wholeCode (refuse n) = n
+wholeCode (stores ps) = 0
+
+abbrev pub wholeBytes : Plan → List ℕ → List ℕ
+wholeBytes (refuse n) bytes = bytes
+wholeBytes (stores ps) bytes = run (byteWrites ps) bytes
+
+-- the plans of the calls on bytes
+unfoldable pub byteFormat : Layout → List ℕ → Plan
+byteFormat l bytes = evenly bytes (refuse 4) (formatPlan l)
+
+unfoldable pub byteInsert : List ℕ → ℕ → ℕ → ℕ → List ℕ → Plan
+byteInsert bytes k p c rec = evenly bytes (refuse 4) (λ w. insertPlan w k p c (recordIn rec))
+
+unfoldable pub byteDelete : List ℕ → ℕ → ℕ → Plan
+byteDelete bytes k p = evenly bytes (refuse 4) (λ w. deletePlan w k p)
+
+unfoldable pub byteRecover : List ℕ → Plan
+byteRecover bytes = evenly bytes (refuse 4) recoverPlan

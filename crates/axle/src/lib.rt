@@ -1,0 +1,244 @@
+// The C interface (include/axle.h): the calls on a store in byte form. Each asks and answers as the call of crate axle_store does on the
+// words of the bytes; the stores are made in the lent bytes, in the same order.
+use layout::Layout;
+use layout::Opened;
+use mending::Finding;
+use requests::Looked;
+use requests::Request;
+use stores::Answer;
+ghost use mathlib.Core.Path.{_≡_};
+ghost use Prim.Native.Nat.{_+_, _≤_};
+ghost use lib.ListN.{length, take};
+ghost use Rattle.stores.specs.Stores.{answerOf};
+ghost use Rattle.byte_form.specs.Bytes.{wordsIn, bytesAfter};
+ghost use Rattle.layout.specs.Words.{InRange, Laid, sizeOf};
+ghost use Rattle.survey.specs.Survey.{Columns};
+ghost use Rattle.recovery.specs.Plan.{recoverOf, recoverPlan};
+ghost use Rattle.mending.specs.Mending.{listed, Listed, planOf};
+ghost use Rattle.axle_store.specs.Calls.{insertPlan, deletePlan};
+ghost use Rattle.axle.specs.Interface.{recordIn, codeOf, checkCode, lengthCode, formatPlan, wholeCode, wholeBytes, byteFormat, byteInsert, byteDelete, byteRecover};
+
+// The number of an answer.
+fn code(answer: Answer) -> u32
+    ensures { λ r. ⌜ r ≡ codeOf answer ⌝ }
+{
+    match answer {
+        Answer::Done(n) => 65536 + n as u32,
+        Answer::Stopped(n) => 131072 + n as u32,
+        Answer::Refused(n) => n as u32,
+    }
+}
+
+// Writes the words of a formatted store.
+fn fill(bytes: &mut [u8], l: Layout)
+    requires { ⌜ Laid l (wordsIn (now bytes)) ⌝ }
+    ensures { λ _. ⌜ now (bytes .exit) ≡ wholeBytes (formatPlan l (wordsIn (now (bytes .entry)))) (now (bytes .entry)) ⌝ }
+{
+    let n = l.size();
+    let mut i: usize = 0;
+    while i < n {
+        byte_form::put(bytes, i, l.initial(i));
+        i += 1;
+    }
+}
+
+// Writes a store of empty lists.
+#[no_mangle]
+pub extern "C" fn axle_format(store: &mut [u8], lists: u16, nodes: u16, record_words: u16) -> u32
+    ensures answer { λ r. ⌜ r ≡ wholeCode (byteFormat (record { lists = lists; nodes = nodes; width = record_words }) (now (store .entry))) ⌝ }
+    ensures bytes { λ _. ⌜ now (store .exit) ≡ wholeBytes (byteFormat (record { lists = lists; nodes = nodes; width = record_words }) (now (store .entry))) (now (store .entry)) ⌝ }
+{
+    if store.len() % 2 != 0 {
+        return 4;
+    }
+    let l = Layout {
+        lists,
+        nodes,
+        width: record_words,
+    };
+    if !l.in_range() {
+        return 3;
+    }
+    if store.len() / 2 != l.size() {
+        return 4;
+    }
+    fill(store, l);
+    0
+}
+
+// Is the store sound?
+#[no_mangle]
+pub extern "C" fn axle_check(store: &[u8]) -> u32
+    ensures { λ r. ⌜ r ≡ checkCode (now (store .entry)) ⌝ }
+{
+    if store.len() % 2 != 0 {
+        return 4;
+    }
+    match byte_survey::look(store, Request::Check) {
+        Looked::Refused(n) => n as u32,
+        Looked::At(_, _) => 0,
+    }
+}
+
+// How many records has the list?
+#[no_mangle]
+pub extern "C" fn axle_length(store: &[u8], list: u16) -> u32
+    ensures { λ r. ⌜ r ≡ lengthCode (now (store .entry)) list ⌝ }
+{
+    if store.len() % 2 != 0 {
+        return 4;
+    }
+    match byte_survey::look(store, Request::Whole(list)) {
+        Looked::Refused(n) => n as u32,
+        Looked::At(_, t) => 65536 + t.count as u32,
+    }
+}
+
+// The number of a record's words, 0 if its bytes are odd.
+fn record_size(rec: &[u8]) -> usize
+    ensures { λ r. ⌜ r ≡ length (recordIn (now (rec .entry))) ⌝ }
+{
+    if rec.len() % 2 != 0 {
+        return 0;
+    }
+    rec.len() / 2
+}
+
+// The words of a record of n words, at the front.
+fn record_of(rec: &[u8], n: usize) -> [u16; 13]
+    requires { ⌜ (n ≡ length (recordIn (now rec))) × (n ≤ 13) ⌝ }
+    ensures { λ r. ⌜ (13 ≡ length r) × (take n r ≡ recordIn (now (rec .entry))) ⌝ }
+{
+    let mut words = [0u16; 13];
+    let mut i: usize = 0;
+    while i < n {
+        words[i] = byte_form::word(rec, i);
+        i += 1;
+    }
+    words
+}
+
+// Inserts a record.
+fn insert(bytes: &mut [u8], list: u16, position: u16, start: u16, rec: &[u8], allowance: u16) -> Answer
+    ensures answer { λ r. ⌜ r ≡ answerOf (insertPlan (wordsIn (now (bytes .entry))) list position start (recordIn (now (rec .entry)))) allowance ⌝ }
+    ensures bytes { λ _. ⌜ now (bytes .exit) ≡ bytesAfter (insertPlan (wordsIn (now (bytes .entry))) list position start (recordIn (now (rec .entry)))) allowance (now (bytes .entry)) ⌝ }
+{
+    let n = record_size(rec);
+    match byte_survey::look(bytes, Request::Gap(list, position, start, n)) {
+        Looked::Refused(r) => Answer::Refused(r),
+        Looked::At(l, t) => {
+            let words = record_of(rec, n);
+            byte_form::run_rows(bytes, edits::insert_rows(l, list, t, &words[..n]), allowance)
+        }
+    }
+}
+
+// Inserts a record into the list at the position, in the first free cell from the starting cell on.
+#[no_mangle]
+pub extern "C" fn axle_insert(
+    store: &mut [u8],
+    list: u16,
+    position: u16,
+    start: u16,
+    rec: &[u8],
+    allowance: u16,
+) -> u32
+    ensures answer { λ r. ⌜ r ≡ codeOf (answerOf (byteInsert (now (store .entry)) list position start (now (rec .entry))) allowance) ⌝ }
+    ensures bytes { λ _. ⌜ now (store .exit) ≡ bytesAfter (byteInsert (now (store .entry)) list position start (now (rec .entry))) allowance (now (store .entry)) ⌝ }
+{
+    if store.len() % 2 != 0 {
+        return 4;
+    }
+    code(insert(store, list, position, start, rec, allowance))
+}
+
+// Deletes a record.
+fn delete(bytes: &mut [u8], list: u16, position: u16, allowance: u16) -> Answer
+    ensures answer { λ r. ⌜ r ≡ answerOf (deletePlan (wordsIn (now (bytes .entry))) list position) allowance ⌝ }
+    ensures bytes { λ _. ⌜ now (bytes .exit) ≡ bytesAfter (deletePlan (wordsIn (now (bytes .entry))) list position) allowance (now (bytes .entry)) ⌝ }
+{
+    match byte_survey::look(bytes, Request::Member(list, position)) {
+        Looked::Refused(n) => Answer::Refused(n),
+        Looked::At(l, t) => byte_form::run_rows(bytes, edits::delete_rows(l, list, t), allowance),
+    }
+}
+
+// Deletes the record of the list at the position.
+#[no_mangle]
+pub extern "C" fn axle_delete(store: &mut [u8], list: u16, position: u16, allowance: u16) -> u32
+    ensures answer { λ r. ⌜ r ≡ codeOf (answerOf (byteDelete (now (store .entry)) list position) allowance) ⌝ }
+    ensures bytes { λ _. ⌜ now (store .exit) ≡ bytesAfter (byteDelete (now (store .entry)) list position) allowance (now (store .entry)) ⌝ }
+{
+    if store.len() % 2 != 0 {
+        return 4;
+    }
+    code(delete(store, list, position, allowance))
+}
+
+// Makes the stores that were found, up to the allowance.
+fn make(bytes: &mut [u8], f: Finding, l: Layout, at: &[u16], values: &[u16], allowance: u16) -> Answer
+    requires { ⌜ InRange l × (length (wordsIn (now bytes)) ≡ sizeOf l) × Listed l (now at) (now values) (f .stores) (listed (f .stores) (now at) (now values)) ⌝ }
+    ensures answer { λ r. ⌜ r ≡ answerOf (planOf f (now (at .entry)) (now (values .entry))) allowance ⌝ }
+    ensures bytes { λ _. ⌜ now (bytes .exit) ≡ bytesAfter (planOf f (now (at .entry)) (now (values .entry))) allowance (now (bytes .entry)) ⌝ }
+{
+    if f.refusal != 0 {
+        return Answer::Refused(f.refusal);
+    }
+    let n = f.stores;
+    byte_form::run(bytes, &at[..n], &values[..n], allowance)
+}
+
+// Recovers a store of this layout, with the columns to read its cells into.
+fn recover_with(
+    bytes: &mut [u8],
+    l: Layout,
+    idents: &mut [u16],
+    forwards: &mut [u16],
+    backs: &mut [u16],
+    allowance: u16,
+) -> Answer
+    requires { ⌜ Laid l (wordsIn (now bytes)) × Columns l (now idents) (now forwards) (now backs) ⌝ }
+    ensures answer { λ r. ⌜ r ≡ answerOf (recoverOf l (wordsIn (now (bytes .entry)))) allowance ⌝ }
+    ensures bytes { λ _. ⌜ now (bytes .exit) ≡ bytesAfter (recoverOf l (wordsIn (now (bytes .entry)))) allowance (now (bytes .entry)) ⌝ }
+{
+    byte_survey::load(bytes, l, idents, forwards, backs);
+    let counts = byte_survey::all_counts(bytes, l);
+    let f = mending::plan(idents, forwards, backs, counts, l);
+    make(bytes, f, l, forwards, backs, allowance)
+}
+
+// Recovers a store of this layout.
+fn recover_in(bytes: &mut [u8], l: Layout, allowance: u16) -> Answer
+    requires { ⌜ Laid l (wordsIn (now bytes)) ⌝ }
+    ensures answer { λ r. ⌜ r ≡ answerOf (recoverOf l (wordsIn (now (bytes .entry)))) allowance ⌝ }
+    ensures bytes { λ _. ⌜ now (bytes .exit) ≡ bytesAfter (recoverOf l (wordsIn (now (bytes .entry)))) allowance (now (bytes .entry)) ⌝ }
+{
+    let n = l.cell_count() as usize;
+    let mut idents = survey::column();
+    let mut forwards = survey::column();
+    let mut backs = survey::column();
+    recover_with(bytes, l, &mut idents[..n], &mut forwards[..n], &mut backs[..n], allowance)
+}
+
+// Recovers any store.
+fn recover(bytes: &mut [u8], allowance: u16) -> Answer
+    ensures answer { λ r. ⌜ r ≡ answerOf (recoverPlan (wordsIn (now (bytes .entry)))) allowance ⌝ }
+    ensures bytes { λ _. ⌜ now (bytes .exit) ≡ bytesAfter (recoverPlan (wordsIn (now (bytes .entry)))) allowance (now (bytes .entry)) ⌝ }
+{
+    match byte_survey::open(bytes) {
+        Opened::Refused(n) => Answer::Refused(n),
+        Opened::Open(l) => recover_in(bytes, l, allowance),
+    }
+}
+
+// Recovers the store by correction: the words that a cut insert or delete, or one altered word in a list, left wrong.
+#[no_mangle]
+pub extern "C" fn axle_recover(store: &mut [u8], allowance: u16) -> u32
+    ensures answer { λ r. ⌜ r ≡ codeOf (answerOf (byteRecover (now (store .entry))) allowance) ⌝ }
+    ensures bytes { λ _. ⌜ now (store .exit) ≡ bytesAfter (byteRecover (now (store .entry))) allowance (now (store .entry)) ⌝ }
+{
+    if store.len() % 2 != 0 {
+        return 4;
+    }
+    code(recover(store, allowance))
+}
