@@ -1,0 +1,85 @@
+//! What is measured: calls on a store that is the same before each turn.
+
+use crate::engines::Engine;
+use crate::stores::{Fill, Sample};
+use bench::plain;
+use model::store::Shape;
+
+const ENOUGH: u16 = 65_535;
+const DONE: u32 = 65_536;
+
+pub const FORMAT: &str = "format";
+pub const CHECK: &str = "check";
+pub const LENGTH: &str = "length";
+pub const EDIT: &str = "insert + delete";
+pub const NOTHING: &str = "recover, nothing to do";
+pub const BEFORE: &str = "recover, insert cut before its central store";
+pub const AFTER: &str = "recover, insert cut after its central store";
+pub const FAULTS: &str = "recover, one fault in every list";
+
+/// All that is measured.
+pub const NAMES: [&str; 8] = [FORMAT, CHECK, LENGTH, EDIT, NOTHING, BEFORE, AFTER, FAULTS];
+
+/// The calls of a turn: the sum of their answers.
+type Turn = dyn Fn(&Engine, &mut [u8]) -> u32;
+
+pub struct Case {
+    pub name: &'static str,
+    pub shape: Shape,
+    /// Nothing if it does not matter.
+    pub fill: Option<Fill>,
+    /// The store that is found.
+    pub bytes: Vec<u8>,
+    /// The sum of the answers that a turn must give.
+    pub answer: u32,
+    pub turn: Box<Turn>,
+}
+
+impl Case {
+    fn new(
+        name: &'static str,
+        sample: &Sample,
+        bytes: Vec<u8>,
+        answer: u32,
+        turn: impl Fn(&Engine, &mut [u8]) -> u32 + 'static,
+    ) -> Case {
+        let fill = (name != FORMAT).then_some(sample.fill);
+        Case { name, shape: sample.shape, fill, bytes, answer, turn: Box::new(turn) }
+    }
+
+    /// Recovery of the found store. The bytes that it changes are made wrong again before each turn.
+    fn recovery(name: &'static str, sample: &Sample, found: Vec<u8>, stores: u32) -> Case {
+        let mut recovered = found.clone();
+        plain::recover(&mut recovered, ENOUGH);
+        let wrong: Vec<(usize, u8)> = (0..).zip(found.clone()).filter(|&(i, byte)| byte != recovered[i]).collect();
+        Case::new(name, sample, found, DONE + stores, move |engine, bytes| {
+            wrong.iter().for_each(|&(at, byte)| bytes[at] = byte);
+            (engine.recover)(bytes, ENOUGH)
+        })
+    }
+}
+
+/// The calls on the stores that come from a sample.
+pub fn cases(sample: &Sample) -> Vec<Case> {
+    let Sample { shape, list, position, start, .. } = *sample;
+    let (lists, nodes, width) = (shape.lists as u16, shape.nodes as u16, shape.width as u16);
+    let record = sample.record.clone();
+    let inserted = u32::from(width) + 6;
+    let sound = || sample.bytes.clone();
+    let mut cases = vec![
+        Case::new(CHECK, sample, sound(), 0, |engine, bytes| (engine.check)(bytes)),
+        Case::new(LENGTH, sample, sound(), DONE + sample.length() as u32, move |engine, bytes| (engine.length)(bytes, list)),
+        Case::new(EDIT, sample, sound(), DONE + inserted + DONE + 4, move |engine, bytes| {
+            (engine.insert)(bytes, list, position, start, &record, ENOUGH) + (engine.delete)(bytes, list, position, ENOUGH)
+        }),
+        Case::recovery(NOTHING, sample, sound(), 0),
+        Case::recovery(BEFORE, sample, sample.cut(shape.width + 4), 2),
+        Case::recovery(AFTER, sample, sample.cut(shape.width + 5), 1),
+        Case::recovery(FAULTS, sample, sample.faulty(), lists.into()),
+    ];
+    if sample.fill == Fill::Full {
+        let format = move |engine: &Engine, bytes: &mut [u8]| (engine.format)(bytes, lists, nodes, width);
+        cases.insert(0, Case::new(FORMAT, sample, sound(), 0, format));
+    }
+    cases
+}

@@ -1,0 +1,58 @@
+//! The proved library and the plain implementation, each behind the same table of calls.
+
+use bench::plain;
+
+/// List, position, starting cell, record and allowance.
+type Insert = fn(&mut [u8], u16, u16, u16, &[u8], u16) -> u32;
+
+pub struct Engine {
+    pub format: fn(&mut [u8], u16, u16, u16) -> u32,
+    pub check: fn(&[u8]) -> u32,
+    pub length: fn(&[u8], u16) -> u32,
+    pub insert: Insert,
+    pub delete: fn(&mut [u8], u16, u16, u16) -> u32,
+    pub recover: fn(&mut [u8], u16) -> u32,
+}
+
+pub static PLAIN: Engine = Engine {
+    format: |store, lists, nodes, width| plain::format(store, lists, nodes, width),
+    check: |store| plain::check(store),
+    length: |store, list| plain::length(store, list),
+    insert: |store, list, position, start, record, allowance| plain::insert(store, list, position, start, record, allowance),
+    delete: |store, list, position, allowance| plain::delete(store, list, position, allowance),
+    recover: |store, allowance| plain::recover(store, allowance),
+};
+
+#[link(name = "axle", kind = "static")]
+extern "C" {
+    fn axle_format(store: *mut u8, store_len: usize, lists: u16, nodes: u16, record_words: u16) -> u32;
+    fn axle_check(store: *const u8, store_len: usize) -> u32;
+    fn axle_length(store: *const u8, store_len: usize, list: u16) -> u32;
+    fn axle_insert(
+        store: *mut u8,
+        store_len: usize,
+        list: u16,
+        position: u16,
+        start: u16,
+        record: *const u8,
+        record_len: usize,
+        allowance: u16,
+    ) -> u32;
+    fn axle_delete(store: *mut u8, store_len: usize, list: u16, position: u16, allowance: u16) -> u32;
+    fn axle_recover(store: *mut u8, store_len: usize, allowance: u16) -> u32;
+}
+
+// Safe: each call gets the pointer and the length of one slice, and touches nothing else.
+pub static PROVED: Engine = Engine {
+    format: |store, lists, nodes, width| unsafe { axle_format(store.as_mut_ptr(), store.len(), lists, nodes, width) },
+    check: |store| unsafe { axle_check(store.as_ptr(), store.len()) },
+    length: |store, list| unsafe { axle_length(store.as_ptr(), store.len(), list) },
+    insert: |store, list, position, start, record, allowance| unsafe {
+        let (length, at, record_length) = (store.len(), record.as_ptr(), record.len());
+        axle_insert(store.as_mut_ptr(), length, list, position, start, at, record_length, allowance)
+    },
+    delete: |store, list, position, allowance| unsafe {
+        axle_delete(store.as_mut_ptr(), store.len(), list, position, allowance)
+    },
+    recover: |store, allowance| unsafe { axle_recover(store.as_mut_ptr(), store.len(), allowance) },
+};

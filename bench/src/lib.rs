@@ -1,0 +1,6 @@
+//! Parts of the benchmark that need no archive to link with.
+
+pub mod plain;
+
+#[cfg(test)]
+mod tests;

@@ -1,0 +1,35 @@
+//! Measures the proved library against the plain implementation. Writes docs/BENCHMARKS.md and docs/benchmarks.svg.
+
+mod cases;
+mod engines;
+mod machine;
+mod measure;
+mod plot;
+mod report;
+mod stack;
+mod stores;
+
+use cases::{Case, NAMES};
+use engines::{PLAIN, PROVED};
+use report::Results;
+use std::path::Path;
+use std::{fs, io};
+use stores::{shapes, Fill, Sample};
+
+fn main() -> io::Result<()> {
+    let samples = shapes().map(|shape| [Fill::Full, Fill::Half].map(|fill| Sample::new(shape, fill)));
+    let [.., [largest, _]] = &samples;
+    let mut cases: Vec<Case> = samples.iter().flatten().flat_map(cases::cases).collect();
+    cases.sort_by_key(|case| NAMES.iter().position(|&name| name == case.name));
+    let stack = stack::of_calls(&PROVED, largest).into_iter().zip(stack::of_calls(&PLAIN, largest));
+    let results = Results {
+        machine: machine::description(),
+        stack: stack.map(|((name, proved), (_, plain))| (name, proved, plain)).collect(),
+        size: machine::size_of_library(),
+        rows: measure::measure(&cases),
+    };
+    print!("{}\n{}\n", results.table(), results.verdict());
+    let docs = Path::new(env!("CARGO_MANIFEST_DIR")).join("../docs");
+    fs::write(docs.join("BENCHMARKS.md"), results.document())?;
+    fs::write(docs.join("benchmarks.svg"), plot::plot(&results.rows))
+}

@@ -1,0 +1,496 @@
+//! The six calls in plain Rust, as a careful engineer writes them who wants them quick: the baseline of the benchmark.
+//!
+//! Arguments and answers are those of the C interface, with slices. A word is two bytes, low byte first. The cells are read
+//! once, in order, and all is decided on that copy before the first store: it stays in the nearest cache while the links lead
+//! up and down. No call walks a list further than N nodes.
+
+/// Added to the number of stores made, or to a length.
+const DONE: u32 = 65_536;
+/// Added to the number of stores after which the allowance was spent.
+const STOPPED: u32 = 131_072;
+
+const IDENTIFIER: u16 = 42_400;
+const HEAD: [u16; 4] = [82, 66, 83, 1];
+
+/// The words of a cell.
+const IDENT: usize = 0;
+const FORWARD: usize = 1;
+const BACK: usize = 2;
+const COUNT: usize = 3;
+const RECORD: usize = 3;
+
+/// The first words of a cell: identifier, forward, back, and a header's count. Every cell has four.
+type Cell = [u16; 4];
+
+/// A word store: the word's first byte, and what the word becomes.
+type Store = (usize, u16);
+
+fn word(bytes: &[u8], at: usize) -> u16 {
+    let word = &bytes[at..at + 2];
+    u16::from_le_bytes([word[0], word[1]])
+}
+
+fn put(store: &mut [u8], (at, value): Store) {
+    store[at..at + 2].copy_from_slice(&value.to_le_bytes());
+}
+
+/// Makes the first of the stores, up to the allowance: how many.
+fn make(store: &mut [u8], stores: impl ExactSizeIterator<Item = Store>, allowance: usize) -> usize {
+    let made = stores.len().min(allowance);
+    stores.take(made).for_each(|s| put(store, s));
+    made
+}
+
+fn identifier_of(list: usize) -> u16 {
+    IDENTIFIER + list as u16
+}
+
+/// L, N and P.
+#[derive(Clone, Copy)]
+struct Shape {
+    lists: usize,
+    nodes: usize,
+    width: usize,
+}
+
+impl Shape {
+    fn in_range(self) -> bool {
+        (1..=8).contains(&self.lists) && (1..=2000).contains(&self.nodes) && (1..=13).contains(&self.width)
+    }
+
+    fn cells(self) -> usize {
+        self.lists + self.nodes
+    }
+
+    fn is_node(self, cell: usize) -> bool {
+        self.lists <= cell && cell < self.cells()
+    }
+
+    /// The bytes of a node.
+    fn node_size(self) -> usize {
+        2 * (3 + self.width)
+    }
+
+    /// The first byte of the first node.
+    fn nodes_at(self) -> usize {
+        2 * (8 + 4 * self.lists)
+    }
+
+    /// The bytes of a store.
+    fn size(self) -> usize {
+        self.nodes_at() + self.node_size() * self.nodes
+    }
+
+    /// The first byte of a word of a cell.
+    fn at(self, cell: usize, word: usize) -> usize {
+        let start =
+            if cell < self.lists { 2 * (8 + 4 * cell) } else { self.nodes_at() + self.node_size() * (cell - self.lists) };
+        start + 2 * word
+    }
+}
+
+/// Questions 1 to 4.
+fn open(store: &[u8]) -> Result<Shape, u32> {
+    if store.len() % 2 != 0 {
+        return Err(4);
+    }
+    if store.len() < 16 {
+        return Err(1);
+    }
+    let head = |i: usize| word(store, 2 * i);
+    if (0..4).any(|i| head(i) != HEAD[i]) || head(7) != 0 {
+        return Err(2);
+    }
+    let shape = Shape { lists: head(4).into(), nodes: head(5).into(), width: head(6).into() };
+    if !shape.in_range() {
+        return Err(3);
+    }
+    if store.len() != shape.size() {
+        return Err(4);
+    }
+    Ok(shape)
+}
+
+/// The cells as read, and how many nodes have an identifier other than 0.
+struct Survey<'a> {
+    shape: Shape,
+    cells: &'a mut [Cell],
+    used: usize,
+}
+
+/// Works in room for the cells. There is enough for the largest store, but a small one does not pay for setting it to 0.
+fn with_room<R>(shape: Shape, work: impl FnOnce(&mut [Cell]) -> R) -> R {
+    match shape.cells() {
+        0..=32 => work(&mut [[0; 4]; 32]),
+        33..=256 => work(&mut [[0; 4]; 256]),
+        _ => work(&mut [[0; 4]; 2008]),
+    }
+}
+
+/// Reads the cells.
+fn load<'a>(store: &[u8], shape: Shape, room: &'a mut [Cell]) -> Survey<'a> {
+    let cells = &mut room[..shape.cells()];
+    let (headers, nodes) = cells.split_at_mut(shape.lists);
+    let (from_headers, from_nodes) = store[16..].split_at(8 * shape.lists);
+    for (cell, bytes) in headers.iter_mut().zip(from_headers.chunks_exact(8)) {
+        *cell = first_words(bytes);
+    }
+    let mut used = 0;
+    for (cell, bytes) in nodes.iter_mut().zip(from_nodes.chunks_exact(shape.node_size())) {
+        *cell = first_words(bytes);
+        used += usize::from(cell[IDENT] != 0);
+    }
+    Survey { shape, cells, used }
+}
+
+fn first_words(bytes: &[u8]) -> Cell {
+    let bytes = &bytes[..8];
+    [word(bytes, 0), word(bytes, 2), word(bytes, 4), word(bytes, 6)]
+}
+
+/// Where an insert or a delete works: a cell, those before and after it, and the list's length.
+struct Site {
+    before: usize,
+    cell: usize,
+    after: usize,
+    count: u16,
+}
+
+impl Survey<'_> {
+    /// The length of a list that is as it must be.
+    fn length(&self, list: usize) -> Option<usize> {
+        let [ident, forward, back, count] = self.cells[list];
+        let mut before = list as u16;
+        let mut at = forward;
+        let mut length = 0;
+        if ident != identifier_of(list) {
+            return None;
+        }
+        while self.shape.is_node(at.into()) {
+            let [i, f, b, _] = self.cells[usize::from(at)];
+            if i != ident || b != before || length == self.shape.nodes {
+                return None;
+            }
+            before = at;
+            at = f;
+            length += 1;
+        }
+        (usize::from(at) == list && back == before && usize::from(count) == length).then_some(length)
+    }
+
+    /// Question 6: every list is as it must be, and no node but their members has an identifier other than 0.
+    fn sound(&self) -> Result<(), u32> {
+        let mut members = 0;
+        for list in 0..self.shape.lists {
+            members += self.length(list).ok_or(6u32)?;
+        }
+        if members == self.used {
+            Ok(())
+        } else {
+            Err(6)
+        }
+    }
+
+    /// Questions 5 and 6: the length of the list.
+    fn count(&self, list: usize) -> Result<u16, u32> {
+        if list >= self.shape.lists {
+            return Err(5);
+        }
+        self.sound()?;
+        Ok(self.cells[list][COUNT])
+    }
+
+    fn after(&self, cell: usize) -> usize {
+        self.cells[cell][FORWARD].into()
+    }
+
+    /// The cell in front of a position of the list.
+    fn before(&self, list: usize, position: u16) -> usize {
+        (0..position).fold(list, |cell, _| self.after(cell))
+    }
+
+    fn free_from(&self, start: usize) -> Option<usize> {
+        let free = |cell: &Cell| cell[IDENT] == 0;
+        let (first, lists) = (&self.cells[..start], self.shape.lists);
+        let upward = self.cells[start..].iter().position(free).map(|i| start + i);
+        upward.or_else(|| first[lists..].iter().position(free).map(|i| lists + i))
+    }
+
+    /// Questions 5 to 10 of insert.
+    fn gap(&self, list: usize, position: u16, start: usize, record: &[u8]) -> Result<Site, u32> {
+        let count = self.count(list)?;
+        if position > count {
+            return Err(7);
+        }
+        if !self.shape.is_node(start) {
+            return Err(8);
+        }
+        if record.len() != 2 * self.shape.width {
+            return Err(9);
+        }
+        let cell = self.free_from(start).ok_or(10u32)?;
+        let before = self.before(list, position);
+        Ok(Site { before, cell, after: self.after(before), count })
+    }
+
+    /// Questions 5 to 7 of delete.
+    fn member(&self, list: usize, position: u16) -> Result<Site, u32> {
+        let count = self.count(list)?;
+        if position >= count {
+            return Err(7);
+        }
+        let before = self.before(list, position);
+        let cell = self.after(before);
+        Ok(Site { before, cell, after: self.after(cell), count })
+    }
+}
+
+/// The answer of a call that was not refused: so many stores were made of the whole number.
+fn answer(made: usize, whole: usize) -> u32 {
+    made as u32 + if made < whole { STOPPED } else { DONE }
+}
+
+/// An answer as one number.
+fn number(answer: Result<u32, u32>) -> u32 {
+    answer.unwrap_or_else(|refusal| refusal)
+}
+
+#[inline(never)]
+pub fn format(store: &mut [u8], lists: u16, nodes: u16, width: u16) -> u32 {
+    if store.len() % 2 != 0 {
+        return 4;
+    }
+    let shape = Shape { lists: lists.into(), nodes: nodes.into(), width: width.into() };
+    if !shape.in_range() {
+        return 3;
+    }
+    if store.len() != shape.size() {
+        return 4;
+    }
+    store.fill(0);
+    let [a, b, c, version] = HEAD;
+    for (i, value) in [a, b, c, version, lists, nodes, width].into_iter().enumerate() {
+        put(store, (2 * i, value));
+    }
+    for list in 0..shape.lists {
+        put(store, (shape.at(list, IDENT), identifier_of(list)));
+        put(store, (shape.at(list, FORWARD), list as u16));
+        put(store, (shape.at(list, BACK), list as u16));
+    }
+    0
+}
+
+#[inline(never)]
+pub fn check(store: &[u8]) -> u32 {
+    number(checked(store))
+}
+
+fn checked(store: &[u8]) -> Result<u32, u32> {
+    let shape = open(store)?;
+    with_room(shape, |room| load(store, shape, room).sound())?;
+    Ok(0)
+}
+
+#[inline(never)]
+pub fn length(store: &[u8], list: u16) -> u32 {
+    number(counted(store, list.into()))
+}
+
+fn counted(store: &[u8], list: usize) -> Result<u32, u32> {
+    let shape = open(store)?;
+    let count = with_room(shape, |room| load(store, shape, room).count(list))?;
+    Ok(DONE + u32::from(count))
+}
+
+#[inline(never)]
+pub fn insert(store: &mut [u8], list: u16, position: u16, start: u16, record: &[u8], allowance: u16) -> u32 {
+    number(inserted(store, list.into(), position, start.into(), record, allowance.into()))
+}
+
+fn inserted(
+    store: &mut [u8],
+    list: usize,
+    position: u16,
+    start: usize,
+    record: &[u8],
+    allowance: usize,
+) -> Result<u32, u32> {
+    let shape = open(store)?;
+    let site = with_room(shape, |room| load(store, shape, room).gap(list, position, start, record))?;
+    let Site { before, cell, after, count } = site;
+    let record_at = shape.at(cell, RECORD);
+    let words = record.chunks_exact(2).enumerate().map(|(i, bytes)| (record_at + 2 * i, word(bytes, 0)));
+    let links = [
+        (shape.at(cell, FORWARD), after as u16),
+        (shape.at(cell, BACK), before as u16),
+        (shape.at(cell, IDENT), identifier_of(list)),
+        (shape.at(list, COUNT), count + 1),
+        (shape.at(before, FORWARD), cell as u16),
+        (shape.at(after, BACK), cell as u16),
+    ];
+    let written = make(store, words, allowance);
+    let linked = make(store, links.into_iter(), allowance - written);
+    Ok(answer(written + linked, shape.width + links.len()))
+}
+
+#[inline(never)]
+pub fn delete(store: &mut [u8], list: u16, position: u16, allowance: u16) -> u32 {
+    number(deleted(store, list.into(), position, allowance.into()))
+}
+
+fn deleted(store: &mut [u8], list: usize, position: u16, allowance: usize) -> Result<u32, u32> {
+    let shape = open(store)?;
+    let site = with_room(shape, |room| load(store, shape, room).member(list, position))?;
+    let Site { before, cell, after, count } = site;
+    let stores = [
+        (shape.at(after, BACK), before as u16),
+        (shape.at(before, FORWARD), after as u16),
+        (shape.at(list, COUNT), count - 1),
+        (shape.at(cell, IDENT), 0),
+    ];
+    Ok(answer(make(store, stores.into_iter(), allowance), stores.len()))
+}
+
+#[inline(never)]
+pub fn recover(store: &mut [u8], allowance: u16) -> u32 {
+    number(recovered(store, allowance.into()))
+}
+
+fn recovered(store: &mut [u8], allowance: usize) -> Result<u32, u32> {
+    let shape = open(store)?;
+    with_room(shape, |room| {
+        let survey = load(store, shape, room);
+        recover_by(survey, store, allowance)
+    })
+}
+
+/// The words that a sequence asks for and does not find: the one that there is, with the value asked.
+#[derive(Clone, Copy)]
+enum Wrong {
+    None,
+    One { cell: usize, word: usize, value: u16 },
+    Many,
+}
+
+impl Wrong {
+    fn compare(&mut self, found: u16, cell: usize, word: usize, value: u16) {
+        if found != value {
+            *self = match self {
+                Wrong::None => Wrong::One { cell, word, value },
+                _ => Wrong::Many,
+            };
+        }
+    }
+}
+
+/// A sequence that may fit a list: what the links of one kind lead through.
+#[derive(Clone, Copy)]
+struct Candidate {
+    onward: usize,
+    length: usize,
+    wrong: Wrong,
+}
+
+impl Survey<'_> {
+    /// The nodes that the onward links lead through from the list's header, with the wrong words until there are two.
+    #[inline(never)]
+    fn candidate<const ONWARD: usize, const BACKWARD: usize>(&self, list: usize) -> Candidate {
+        let (header, ident) = (self.cells[list], identifier_of(list));
+        let mut wrong = Wrong::None;
+        wrong.compare(header[IDENT], list, IDENT, ident);
+        let (mut before, mut at) = (list, usize::from(header[ONWARD]));
+        let mut length = 0;
+        while length < self.shape.nodes && self.shape.is_node(at) {
+            let cell = self.cells[at];
+            if cell[IDENT] != ident || usize::from(cell[BACKWARD]) != before {
+                wrong.compare(cell[IDENT], at, IDENT, ident);
+                wrong.compare(cell[BACKWARD], at, BACKWARD, before as u16);
+                if let Wrong::Many = wrong {
+                    break;
+                }
+            }
+            (before, at) = (at, cell[ONWARD].into());
+            length += 1;
+        }
+        wrong.compare(at as u16, before, ONWARD, list as u16);
+        wrong.compare(header[BACKWARD], list, BACKWARD, before as u16);
+        wrong.compare(header[COUNT], list, COUNT, length as u16);
+        Candidate { onward: ONWARD, length, wrong }
+    }
+
+    /// Questions 11 and 12: the only sequence that fits the list. With one wrong word at most, all forward links are right or
+    /// all back links. Two sequences fit if one lacks a back link alone and the other a forward link alone.
+    fn fitting(&self, list: usize) -> Result<Candidate, u32> {
+        let forward = self.candidate::<FORWARD, BACK>(list);
+        match forward.wrong {
+            Wrong::None => Ok(forward),
+            Wrong::One { word: BACK, .. } => match self.candidate::<BACK, FORWARD>(list).wrong {
+                Wrong::One { word: FORWARD, .. } => Err(12),
+                _ => Ok(forward),
+            },
+            Wrong::One { .. } => Ok(forward),
+            Wrong::Many => match self.candidate::<BACK, FORWARD>(list) {
+                Candidate { wrong: Wrong::Many, .. } => Err(11),
+                back => Ok(back),
+            },
+        }
+    }
+
+    /// Sets the identifier of each member to 0 in the copy.
+    fn erase(&mut self, list: usize, Candidate { onward, length, .. }: Candidate) {
+        let mut cell = usize::from(self.cells[list][onward]);
+        for _ in 0..length {
+            self.cells[cell][IDENT] = 0;
+            cell = self.cells[cell][onward].into();
+        }
+    }
+}
+
+/// What recovery is to store: the wrong word of each list that has one, and then, if there are orphans, 0 to each identifier
+/// that the copy still holds.
+struct Mends {
+    wrong: [Store; 8],
+    len: usize,
+    orphans: bool,
+}
+
+/// The questions of recover. No two sequences that fit share a node, so there are orphans if more nodes than members have an
+/// identifier other than 0; the members' are then erased from the copy.
+fn mends(survey: &mut Survey) -> Result<Mends, u32> {
+    let shape = survey.shape;
+    let mut fitting = [Candidate { onward: FORWARD, length: 0, wrong: Wrong::None }; 8];
+    let mut mends = Mends { wrong: [(0, 0); 8], len: 0, orphans: false };
+    let mut carrying = 0;
+    for (list, fitting) in fitting.iter_mut().enumerate().take(shape.lists) {
+        *fitting = survey.fitting(list)?;
+        carrying += fitting.length;
+        if let Wrong::One { cell, word, value } = fitting.wrong {
+            mends.wrong[mends.len] = (shape.at(cell, word), value);
+            mends.len += 1;
+            carrying -= usize::from(shape.is_node(cell) && word == IDENT && survey.cells[cell][IDENT] == 0);
+        }
+    }
+    mends.orphans = carrying < survey.used;
+    if mends.orphans {
+        (0..shape.lists).for_each(|list| survey.erase(list, fitting[list]));
+    }
+    Ok(mends)
+}
+
+/// Recovers the store that the cells were read from.
+fn recover_by(mut survey: Survey, store: &mut [u8], allowance: usize) -> Result<u32, u32> {
+    let shape = survey.shape;
+    let Mends { wrong, len, orphans } = mends(&mut survey)?;
+    let mut made = make(store, wrong[..len].iter().copied(), allowance);
+    if made < len || !orphans {
+        return Ok(answer(made, len));
+    }
+    for cell in (shape.lists..shape.cells()).filter(|&cell| survey.cells[cell][IDENT] != 0) {
+        if made == allowance {
+            return Ok(answer(made, made + 1));
+        }
+        put(store, (shape.at(cell, IDENT), 0));
+        made += 1;
+    }
+    Ok(answer(made, made))
+}

@@ -1,0 +1,147 @@
+//! The results as text: docs/BENCHMARKS.md.
+
+use crate::cases::NAMES;
+use crate::machine::Size;
+use crate::measure::Row;
+use crate::stores::Fill;
+use std::fmt::Write;
+
+/// The largest ratio that is hoped for.
+pub const GOAL: f64 = 1.25;
+/// The most stack that is hoped for.
+const STACK_GOAL: usize = 16_384;
+
+pub struct Results {
+    pub machine: Vec<(&'static str, String)>,
+    pub rows: Vec<Row>,
+    /// The call, and the bytes that the proved and the plain one use.
+    pub stack: Vec<(&'static str, usize, usize)>,
+    pub size: Size,
+}
+
+/// What is said of the results, whatever they are: kept by hand.
+const LIMITS: &str = include_str!("../limits.md");
+
+fn nanoseconds(n: f64) -> String {
+    if n < 100.0 {
+        format!("{n:.1}")
+    } else {
+        format!("{n:.0}")
+    }
+}
+
+/// A number, marked if it is beyond the goal.
+fn marked(text: String, beyond: bool) -> String {
+    if beyond {
+        format!("**{text}** (!)")
+    } else {
+        text
+    }
+}
+
+impl Results {
+    /// One line for each row.
+    pub fn table(&self) -> String {
+        let mut text = String::from("| Calls | L, N, P | Filled | Proved, ns | Plain, ns | Ratio | Proved, ns per cell |\n");
+        text += "|---|---|---|--:|--:|--:|--:|\n";
+        for row in &self.rows {
+            let shape = format!("{}, {}, {}", row.shape.lists, row.shape.nodes, row.shape.width);
+            let fill = row.fill.map_or("-", Fill::name);
+            let ratio = marked(format!("{:.2}", row.ratio()), row.ratio() > GOAL);
+            let (proved, plain) = (nanoseconds(row.proved), nanoseconds(row.plain));
+            let per_cell = row.per_cell(row.proved);
+            let _ = writeln!(text, "| {} | {shape} | {fill} | {proved} | {plain} | {ratio} | {per_cell:.2} |", row.name);
+        }
+        text
+    }
+
+    /// How many ratios are beyond the goal, and the largest.
+    pub fn verdict(&self) -> String {
+        let beyond = self.rows.iter().filter(|row| row.ratio() > GOAL).count();
+        let largest = self.rows.iter().map(Row::ratio).fold(0.0, f64::max);
+        format!("{beyond} of {} ratios are above {GOAL}; the largest is {largest:.2}.", self.rows.len())
+    }
+
+    fn machine(&self) -> String {
+        self.machine
+            .iter()
+            .fold(String::from("| | |\n|---|---|\n"), |text, (name, value)| text + &format!("| {name} | {value} |\n"))
+    }
+
+    /// Nanoseconds per cell of full stores, by their number of nodes.
+    fn growth(&self) -> String {
+        let of = |name| self.rows.iter().filter(move |row| row.name == name && row.fill != Some(Fill::Half));
+        let mut text = String::from("| Calls |");
+        of(NAMES[0]).for_each(|row| text += &format!(" N = {} |", row.shape.nodes));
+        text += &format!("\n|---|{}\n", "--:|".repeat(of(NAMES[0]).count()));
+        for name in NAMES {
+            let _ = write!(text, "| {name} |");
+            of(name).for_each(|row| text += &format!(" {:.2} |", row.per_cell(row.proved)));
+            text += "\n";
+        }
+        text
+    }
+
+    fn stack(&self) -> String {
+        let mut text = String::from("| Call | Proved, bytes | Plain, bytes |\n|---|--:|--:|\n");
+        for &(name, proved, plain) in &self.stack {
+            let _ = writeln!(text, "| {name} | {} | {plain} |", marked(proved.to_string(), proved > STACK_GOAL));
+        }
+        text
+    }
+
+    /// The whole document.
+    pub fn document(&self) -> String {
+        let Size { code, constants } = self.size;
+        format!(
+            "# Benchmarks
+
+Each exported call of the proved library against a plain, careful Rust implementation of the same call (bench/src/plain.rs), on the same
+bytes, in the same run, in alternating batches. Written by
+
+    cd bench && cargo run --release --offline
+
+{machine}
+## Times
+
+A time is that of the batch that was disturbed least, divided by its turns. The lists of a store are equally long, and their members
+lie in shuffled order. A full store has one free node; in a half full one every second node is free. Insert + delete is two calls: a record
+is inserted in the middle of a list and deleted again; the search for a free node starts at the first. Before each recovery the few
+bytes that it changes are made wrong again, which is counted for both. Both gave the same answers and left the same bytes before they
+were measured. (!) marks a ratio above {GOAL}.
+
+Some Intel processors are slow at jumps that cross or end at a 32-byte boundary. The plain implementation is compiled without such jumps
+(bench/.cargo/config.toml), so that its times do not depend on where it comes to lie; the archive is linked as it is.
+
+{table}
+{verdict}
+
+![Ratios, and nanoseconds per cell](benchmarks.svg)
+
+## Cost per cell as stores grow
+
+The proved calls on full stores, in nanoseconds per cell (L + N cells).
+
+{growth}
+## What limits each row
+
+{limits}
+
+## Stack
+
+What each call uses of a stack of its own, on the largest store (8, 2000, 13), full. (!) marks more than {STACK_GOAL} bytes.
+
+{stack}
+## Code size
+
+The archive `libaxle.a` has {code} bytes of code and {constants} bytes of constants.
+",
+            machine = self.machine(),
+            table = self.table(),
+            verdict = self.verdict(),
+            growth = self.growth(),
+            limits = LIMITS.trim(),
+            stack = self.stack(),
+        )
+    }
+}

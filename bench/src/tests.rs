@@ -1,0 +1,299 @@
+//! The plain implementation against the model: the same answers and the same bytes.
+
+use crate::plain;
+use model::random::Random;
+use model::recovery;
+use model::store::{self, store_of, Answer, Shape};
+use std::collections::{BTreeMap, BTreeSet};
+
+const ENOUGH: u16 = 65_535;
+
+fn bytes_of(words: &[u16]) -> Vec<u8> {
+    words.iter().flat_map(|w| w.to_le_bytes()).collect()
+}
+
+fn words_of(bytes: &[u8]) -> Vec<u16> {
+    bytes.chunks_exact(2).map(|b| u16::from_le_bytes([b[0], b[1]])).collect()
+}
+
+fn number(answer: Answer) -> u32 {
+    match answer {
+        Answer::Refused(n) => n.into(),
+        Answer::Done(n) => 65_536 + u32::from(n),
+        Answer::Stopped(n) => 131_072 + u32::from(n),
+    }
+}
+
+/// A call with its arguments, but for the store.
+#[derive(Clone, Debug)]
+enum Call {
+    Format(u16, u16, u16),
+    Check,
+    Length(u16),
+    Insert(u16, u16, u16, Vec<u8>, u16),
+    Delete(u16, u16, u16),
+    Recover(u16),
+}
+
+impl Call {
+    fn name(&self) -> &'static str {
+        match self {
+            Call::Format(..) => "format",
+            Call::Check => "check",
+            Call::Length(_) => "length",
+            Call::Insert(..) => "insert",
+            Call::Delete(..) => "delete",
+            Call::Recover(_) => "recover",
+        }
+    }
+
+    fn plain(&self, bytes: &mut [u8]) -> u32 {
+        match self {
+            Call::Format(l, n, p) => plain::format(bytes, *l, *n, *p),
+            Call::Check => plain::check(bytes),
+            Call::Length(k) => plain::length(bytes, *k),
+            Call::Insert(k, p, s, record, a) => plain::insert(bytes, *k, *p, *s, record, *a),
+            Call::Delete(k, p, a) => plain::delete(bytes, *k, *p, *a),
+            Call::Recover(a) => plain::recover(bytes, *a),
+        }
+    }
+
+    /// The model's answer. A store of odd length is refused before all else; a record of odd length has no number of words,
+    /// so it is none that fits.
+    fn model(&self, bytes: &mut [u8]) -> u32 {
+        if bytes.len() % 2 == 1 {
+            return 4;
+        }
+        let mut words = words_of(bytes);
+        let answer = match self {
+            Call::Format(l, n, p) => store::format(&mut words, *l, *n, *p).into(),
+            Call::Check => store::check(&words).into(),
+            Call::Length(k) => store::length(&words, *k).map_or_else(u32::from, |n| 65_536 + u32::from(n)),
+            Call::Insert(k, p, s, record, a) => {
+                let record = if record.len() % 2 == 1 { vec![0; 14] } else { words_of(record) };
+                number(store::insert(&mut words, *k, *p, *s, &record, *a))
+            }
+            Call::Delete(k, p, a) => number(store::delete(&mut words, *k, *p, *a)),
+            Call::Recover(a) => number(recovery::recover(&mut words, *a)),
+        };
+        bytes.copy_from_slice(&bytes_of(&words));
+        answer
+    }
+}
+
+/// The answers seen: a refusal's number, or 65,536 for all that are done and 131,072 for all that are stopped.
+#[derive(Default)]
+struct Seen(BTreeMap<&'static str, BTreeSet<u32>>);
+
+impl Seen {
+    /// Makes the call on the bytes both ways and compares: the answer.
+    fn compare(&mut self, bytes: &mut [u8], call: &Call) -> u32 {
+        let found = bytes.to_vec();
+        let mut expected = bytes.to_vec();
+        let answer = call.plain(bytes);
+        assert_eq!(answer, call.model(&mut expected), "{call:?} on {found:?}");
+        assert!(bytes == expected, "the bytes after {call:?} on {found:?}");
+        let kind = if answer < 65_536 { answer } else { answer >> 16 << 16 };
+        self.0.entry(call.name()).or_default().insert(kind);
+        answer
+    }
+
+    /// The call, made with an allowance, at every allowance up to two more than it needs.
+    fn allowances(&mut self, bytes: &[u8], call: impl Fn(u16) -> Call) {
+        for allowance in (0..).chain([ENOUGH]) {
+            let answer = self.compare(&mut bytes.to_vec(), &call(allowance));
+            if answer < 65_536 || (answer < 131_072 && u32::from(allowance) > answer - 65_536) {
+                break;
+            }
+        }
+        self.compare(&mut bytes.to_vec(), &call(ENOUGH));
+    }
+
+    fn all(&self, expected: &[(&str, &[u32])]) {
+        for (name, answers) in expected {
+            let answers: BTreeSet<u32> = answers.iter().copied().collect();
+            assert_eq!(self.0.get(name), Some(&answers), "the answers of {name}");
+        }
+    }
+}
+
+fn deal(random: &mut Random, shape: Shape) -> Vec<Vec<usize>> {
+    let mut cells: Vec<usize> = shape.node_cells().collect();
+    random.shuffle(&mut cells);
+    let used = if random.below(4) == 0 { shape.nodes } else { random.between(0, shape.nodes) };
+    let mut lists = vec![vec![]; shape.lists];
+    for &cell in &cells[..used] {
+        lists[random.below(shape.lists)].push(cell);
+    }
+    lists
+}
+
+/// Alters a word that lists are decided by, to a value that may well stand there.
+fn alter(random: &mut Random, shape: Shape, words: &mut [u16]) {
+    let cell = random.below(shape.lists + shape.nodes);
+    let i = random.below(if cell < shape.lists { 4 } else { 3 });
+    words[shape.cell(cell) + i] = match (i, random.below(8)) {
+        (_, 0) => random.pick(&[0, 1, 65_535]),
+        (0, 1..=4) => 42_400 + random.below(shape.lists) as u16,
+        (0, _) => 0,
+        _ => random.below(shape.lists + shape.nodes + 1) as u16,
+    };
+}
+
+/// Gives a member a twin that the back links lead through in its place: two sequences fit the list.
+fn twin(random: &mut Random, shape: Shape, lists: &[Vec<usize>], words: &mut [u16]) {
+    let free = shape.node_cells().find(|&i| words[shape.cell(i)] == 0);
+    let list = random.below(shape.lists);
+    if let (Some(free), false) = (free, lists[list].is_empty()) {
+        let member = random.pick(&lists[list]);
+        let from = shape.cell(member);
+        let after = usize::from(words[from + 1]);
+        words.copy_within(from..from + 3, shape.cell(free));
+        words[shape.cell(after) + 2] = free as u16;
+    }
+}
+
+/// Spoils what questions 1 to 4 ask about.
+fn spoil(random: &mut Random, bytes: &mut Vec<u8>) {
+    match random.below(4) {
+        0 => bytes.truncate(random.between(0, 20)),
+        1 => bytes.resize(bytes.len() + random.pick(&[1, 2, 3]), 0),
+        2 => bytes[random.below(16)] = random.pick(&[0, 1, 2, 255]),
+        _ => bytes.truncate(bytes.len() - random.pick(&[1, 2])),
+    }
+}
+
+fn record(random: &mut Random, shape: Shape) -> Vec<u8> {
+    let length = if random.below(12) == 0 { random.between(0, 27) } else { 2 * shape.width };
+    (0..length).map(|_| random.word() as u8).collect()
+}
+
+/// All calls on a store, with arguments that may be out of range.
+fn calls(seen: &mut Seen, random: &mut Random, shape: Shape, bytes: &[u8]) {
+    let list = random.below(shape.lists + 1) as u16;
+    let position = random.below(shape.nodes / shape.lists + 2) as u16;
+    let lowest = if random.below(9) == 0 { 0 } else { shape.lists };
+    let start = random.between(lowest, shape.lists + shape.nodes) as u16;
+    let record = record(random, shape);
+    seen.compare(&mut bytes.to_vec(), &Call::Check);
+    seen.compare(&mut bytes.to_vec(), &Call::Length(list));
+    seen.allowances(bytes, |a| Call::Insert(list, position, start, record.clone(), a));
+    seen.allowances(bytes, |a| Call::Delete(list, position, a));
+    seen.allowances(bytes, Call::Recover);
+}
+
+fn shape(random: &mut Random, turn: usize) -> Shape {
+    let nodes = random.between(1, if turn % 8 == 0 { 40 } else { 7 });
+    Shape::new(random.between(1, if turn % 5 == 0 { 8 } else { 3 }), nodes, random.between(1, 13))
+}
+
+/// Sound, damaged, doubled and spoilt stores of many shapes.
+#[test]
+fn many_stores() {
+    let mut random = Random::new(3);
+    let mut seen = Seen::default();
+    for turn in 0..15_000 {
+        let shape = shape(&mut random, turn);
+        let lists = deal(&mut random, shape);
+        let mut words = store_of(shape, &lists, || random.word());
+        match turn % 4 {
+            0 => (),
+            1 => twin(&mut random, shape, &lists, &mut words),
+            2 => (0..random.between(1, 5)).for_each(|_| alter(&mut random, shape, &mut words)),
+            _ => (0..40).for_each(|_| alter(&mut random, shape, &mut words)),
+        }
+        let mut bytes = bytes_of(&words);
+        if turn % 9 == 0 {
+            spoil(&mut random, &mut bytes);
+        }
+        calls(&mut seen, &mut random, shape, &bytes);
+    }
+    seen.all(&[
+        ("check", &[0, 1, 2, 3, 4, 6]),
+        ("length", &[1, 2, 3, 4, 5, 6, 65_536]),
+        ("insert", &[1, 2, 3, 4, 5, 6, 7, 8, 9, 10, 65_536, 131_072]),
+        ("delete", &[1, 2, 3, 4, 5, 6, 7, 65_536, 131_072]),
+        ("recover", &[1, 2, 3, 4, 11, 12, 65_536, 131_072]),
+    ]);
+}
+
+/// Words of few values behind a right head: links that lead anywhere, rings among them.
+#[test]
+fn random_words() {
+    let mut random = Random::new(4);
+    let mut seen = Seen::default();
+    for turn in 0..5_000 {
+        let shape = shape(&mut random, turn);
+        let mut words = store_of(shape, &vec![vec![]; shape.lists], || 0);
+        for i in 0..shape.lists + shape.nodes {
+            let at = shape.cell(i);
+            words[at] = random.pick(&[42_400, 42_400, 42_401, 0]);
+            words[at + 1] = random.below(shape.lists + shape.nodes) as u16;
+            words[at + 2] = random.below(shape.lists + shape.nodes) as u16;
+        }
+        calls(&mut seen, &mut random, shape, &bytes_of(&words));
+    }
+}
+
+/// A cut insert or delete, an altered word in the other lists, and recovery.
+#[test]
+fn recovery_after_cuts() {
+    let mut random = Random::new(5);
+    let mut seen = Seen::default();
+    for turn in 0..4_000 {
+        let shape = shape(&mut random, turn);
+        let lists = deal(&mut random, shape);
+        let mut bytes = bytes_of(&store_of(shape, &lists, || random.word()));
+        let list = random.below(shape.lists);
+        let position = random.between(0, lists[list].len()) as u16;
+        let allowance = random.below(shape.width + 7) as u16;
+        let start = random.pick(&shape.node_cells().collect::<Vec<_>>()) as u16;
+        let call = match turn % 2 {
+            0 => Call::Insert(list as u16, position, start, vec![7; 2 * shape.width], allowance),
+            _ => Call::Delete(list as u16, position, allowance % 5),
+        };
+        seen.compare(&mut bytes, &call);
+        for (other, members) in lists.iter().enumerate().filter(|&(other, _)| other != list) {
+            let cell = [&[other][..], members].concat()[random.below(members.len() + 1)];
+            let at = 2 * shape.cell(cell) + random.below(6);
+            bytes[at] ^= random.word() as u8;
+        }
+        seen.allowances(&bytes, Call::Recover);
+        assert!(seen.compare(&mut bytes, &Call::Recover(ENOUGH)) >= 65_536, "recovery is refused");
+        assert_eq!(seen.compare(&mut bytes, &Call::Check), 0);
+    }
+}
+
+/// Shapes on both sides of every size of room, the largest store among them.
+#[test]
+fn sizes_of_room() {
+    let mut random = Random::new(6);
+    let mut seen = Seen::default();
+    for (lists, nodes, width) in [(1, 31, 2), (1, 32, 2), (8, 24, 1), (8, 248, 1), (8, 249, 1), (8, 2000, 13)] {
+        let shape = Shape::new(lists, nodes, width);
+        for changes in 0..4 {
+            let dealt = deal(&mut random, shape);
+            let mut words = store_of(shape, &dealt, || random.word());
+            (0..changes).for_each(|_| alter(&mut random, shape, &mut words));
+            calls(&mut seen, &mut random, shape, &bytes_of(&words));
+        }
+    }
+}
+
+#[test]
+fn formats() {
+    let mut random = Random::new(7);
+    let mut seen = Seen::default();
+    for turn in 0..3_000 {
+        let shape = shape(&mut random, turn);
+        let mut given = [shape.lists as u16, shape.nodes as u16, shape.width as u16];
+        let mut bytes: Vec<u8> = (0..2 * shape.size()).map(|_| random.word() as u8).collect();
+        match random.below(4) {
+            0 => given[random.below(3)] = random.pick(&[0, 9, 14, 2001, 65_535]),
+            1 => bytes.truncate(bytes.len() - random.between(1, 4)),
+            _ => (),
+        }
+        seen.compare(&mut bytes, &Call::Format(given[0], given[1], given[2]));
+    }
+    seen.all(&[("format", &[0, 3, 4])]);
+}
