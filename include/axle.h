@@ -1,0 +1,205 @@
+/*
+ * axle.h: the axle store.
+ *
+ * A store is a slice of bytes that the caller lends, in memory that survives a power cut. It holds up to 8 doubly linked
+ * lists of records over up to 2,000 cells. Records are inserted and deleted at any position. After a power cut at any word
+ * store, one call puts every list right. The library keeps nothing between calls: all that it knows is in the lent bytes.
+ *
+ *     static uint8_t store[AXLE_STORE_BYTES(2, 6, 3)];         2 lists, 6 cells, records of 3 words
+ *     uint8_t record[] = {1, 0, 0x30, 0x0c, 0xea, 0x0b};       the words 1, 3120, 3050, low byte first
+ *
+ *     axle_format(store, sizeof store, 2, 6, 3);                             once, on new memory
+ *     axle_recover(store, sizeof store, AXLE_WHOLE);                         at every power-up
+ *     axle_insert(store, sizeof store, 0, 0, 2, record, sizeof record, AXLE_WHOLE);
+ *     axle_delete(store, sizeof store, 0, 0, AXLE_WHOLE);
+ *
+ * WORDS. A word is 16 bits, in two bytes, low byte first. A record is given in the same form. The layout is below; it is
+ * described with examples in docs/FORMAT.md.
+ *
+ * WHAT MAY BE LENT. Anything: bytes that are no store, or a damaged one, any length, any numbers. Every call returns,
+ * reads and writes only the bytes lent to it, and refuses with a number where it cannot do its work. A refused call writes
+ * nothing. No alignment is asked. With length 0 the pointer may be NULL. The record must not overlap the store.
+ *
+ * ANSWERS. One 32-bit number:
+ *
+ *     0                      axle_check: the store is sound. axle_format: done
+ *     1 to 12                refused; see the table
+ *     AXLE_DONE + n          axle_length: the list has n records
+ *                            axle_insert, axle_delete, axle_recover: done, with n word stores
+ *     AXLE_STOPPED + n       axle_insert, axle_delete, axle_recover: stopped after n word stores, because the allowance
+ *                            was smaller than the number needed
+ *
+ * A call asks the questions that concern it, in this order. The first no decides, and its number is the answer. A store of
+ * an odd number of bytes is answered 4 before all else; a record of an odd number of bytes is answered 9 in its turn.
+ *
+ *     No    Name                Question                                            Asked by
+ *      1    AXLE_SHORT          Are there 8 words (16 bytes) or more?               all but format
+ *      2    AXLE_NO_STORE       Are words 0 to 3 and 7 as laid out?                 all but format
+ *      3    AXLE_RANGE          Are lists, nodes and record words in range?         all (format: those given to it)
+ *      4    AXLE_SIZE           Is the length that of such a store, exactly?        all
+ *      5    AXLE_NO_LIST        Is the list number below the number of lists?       length, insert, delete
+ *      6    AXLE_UNSOUND        Is the store sound?                                 all but format and recover
+ *      7    AXLE_NO_POSITION    Is the position below the list's length?            insert, delete
+ *                               (insert: at most the length)
+ *      8    AXLE_NO_NODE        Is the starting cell a node?                        insert
+ *      9    AXLE_RECORD_SIZE    Has the record the store's number of words?         insert
+ *     10    AXLE_FULL           Is some node free?                                  insert
+ *     11    AXLE_NO_FIT         List by list from 0: does a sequence fit the list?  recover
+ *     12    AXLE_TWO_FIT        and only one? (asked before the next list's 11)     recover
+ *
+ * POWER CUTS. Insert, delete and recover change the store by word stores, one after the other, each low byte before high.
+ * One of them is central: number P + 5 of the P + 6 of an insert, number 2 of the 4 of a delete. A cut leaves the first of
+ * the stores made and the others not. Then:
+ *
+ *   - axle_check, axle_length, axle_insert and axle_delete answer AXLE_UNSOUND. (The store is still sound if nothing was
+ *     stored yet but the record and links of a free node, the first P + 2 stores of an insert.)
+ *   - axle_recover leaves the list without the call if the cut came before the central store, and with it if after: with
+ *     all its records, in their order. Every other list is as it was.
+ *   - This holds also if, besides, at most one word has been altered in each other list: one of its header's four words, or
+ *     a member's identifier, forward or back.
+ *   - axle_recover may be cut too, any number of times. The final words are the same.
+ *
+ * Call axle_recover at every power-up. On a sound store it stores nothing and answers AXLE_DONE + 0. It needs at most
+ * L + N word stores.
+ *
+ * What is asked of the memory: it takes the stores in the order in which the processor makes them (no write-back cache
+ * between, no reordering), and the two bytes of a word together, with the second. A process that is killed, over a shared
+ * mapping, keeps the order but may leave the low byte of a word alone. If that happens to the central store, axle_recover
+ * refuses with 11; at any other store the list is as described. (This is tested, not proved.)
+ *
+ * NOT PROMISED. That damage inside records is found: they are the caller's, and have no check word. That anything is left
+ * after a cut during axle_format: format again. That damage beyond the above is mended: it may be refused (11, 12), or
+ * mended to another list that fits. That two callers may use one store at a time.
+ *
+ * THREADS. The calls have no state of their own and may run at the same time on different stores. On one store the caller
+ * must let one call at a time through, the reading ones too, from interrupts as from threads. While a call runs nobody else
+ * writes the store or the record.
+ *
+ * CUTS IN A TEST. Insert, delete and recover take an allowance: the number of word stores that they may make. What a smaller
+ * allowance leaves is exactly what a power cut after so many stores leaves. AXLE_WHOLE is always enough. A call that would
+ * be refused is refused with any allowance.
+ *
+ *     for (uint16_t n = 0; n <= AXLE_INSERT_STORES(3); n++) {
+ *         memcpy(store, before, sizeof store);
+ *         axle_insert(store, sizeof store, 0, 0, 2, record, sizeof record, n);     the power fails after n stores
+ *         axle_recover(store, sizeof store, AXLE_WHOLE);                           power-up
+ *         ...                                                                      with the record if n >= 8, else without
+ *     }
+ */
+#ifndef AXLE_H
+#define AXLE_H
+
+#include <stddef.h>
+#include <stdint.h>
+
+#ifdef __cplusplus
+extern "C" {
+#endif
+
+/* Answers. */
+#define AXLE_DONE 65536u
+#define AXLE_STOPPED 131072u
+
+#define AXLE_SHORT 1u
+#define AXLE_NO_STORE 2u
+#define AXLE_RANGE 3u
+#define AXLE_SIZE 4u
+#define AXLE_NO_LIST 5u
+#define AXLE_UNSOUND 6u
+#define AXLE_NO_POSITION 7u
+#define AXLE_NO_NODE 8u
+#define AXLE_RECORD_SIZE 9u
+#define AXLE_FULL 10u
+#define AXLE_NO_FIT 11u
+#define AXLE_TWO_FIT 12u
+
+/* The parts of an answer. At most one of the first three holds; none of them of the answer 0. */
+static inline int axle_is_refused(uint32_t answer) { return answer != 0 && answer < AXLE_DONE; }
+static inline int axle_is_done(uint32_t answer) { return answer >= AXLE_DONE && answer < AXLE_STOPPED; }
+static inline int axle_is_stopped(uint32_t answer) { return answer >= AXLE_STOPPED; }
+/* The refusal's number, the length, or the number of stores. */
+static inline uint16_t axle_number(uint32_t answer) { return (uint16_t)(answer & 0xffffu); }
+
+/* Limits. Each number is at least 1. */
+#define AXLE_MAX_LISTS 8
+#define AXLE_MAX_NODES 2000
+#define AXLE_MAX_RECORD_WORDS 13
+#define AXLE_MAX_STORE_BYTES 64080
+
+/* The bytes of a store, and of one of its records. */
+#define AXLE_STORE_BYTES(lists, nodes, record_words) \
+    (2 * (8 + 4 * (size_t)(lists) + (3 + (size_t)(record_words)) * (size_t)(nodes)))
+#define AXLE_RECORD_BYTES(record_words) (2 * (size_t)(record_words))
+
+/* Word stores. Recover makes at most as many as this says. */
+#define AXLE_WHOLE 65535u
+#define AXLE_INSERT_STORES(record_words) ((record_words) + 6)
+#define AXLE_INSERT_CENTRAL(record_words) ((record_words) + 5)
+#define AXLE_DELETE_STORES 4
+#define AXLE_DELETE_CENTRAL 2
+#define AXLE_RECOVER_STORES(lists, nodes) ((lists) + (nodes))
+
+/*
+ * The layout, for a caller that reads records itself once axle_check has answered 0. Cells are numbered: 0 to L - 1 are the
+ * lists' headers, L to L + N - 1 the nodes. Forward and back hold cell numbers; the last member leads to the header.
+ *
+ *     words 0 to 3    82, 66, 83, 1                      words 4 to 6    L lists, N nodes, P record words      word 7    0
+ *     header k        from word 8 + 4k:                  identifier, forward, back, count
+ *     node i          from word 8 + 4L + (3 + P)(i - L): identifier, forward, back, P record words
+ *
+ * The identifier of list k is 42,400 + k; a node in no list has identifier 0.
+ */
+#define AXLE_IDENTIFIER 42400u
+#define AXLE_HEADER_WORD(list) (8 + 4 * (size_t)(list))
+#define AXLE_NODE_WORD(lists, record_words, cell) \
+    (8 + 4 * (size_t)(lists) + (3 + (size_t)(record_words)) * ((size_t)(cell) - (size_t)(lists)))
+
+/*
+ * Writes a store of empty lists: words 0 to 7, the headers, 0 elsewhere. store_len is AXLE_STORE_BYTES(lists, nodes,
+ * record_words). What was there is lost. Has no allowance: a cut leaves anything.
+ * Answers: 0, 3, 4.
+ */
+uint32_t axle_format(uint8_t *store, size_t store_len, uint16_t lists, uint16_t nodes, uint16_t record_words);
+
+/*
+ * Is the store sound? Each list's header and members carry its identifier, forward leads from the header through the
+ * members and back to it, back leads the other way round, the count is right, and every other node has identifier 0.
+ * Answers: 0, 1 to 4, 6.
+ */
+uint32_t axle_check(const uint8_t *store, size_t store_len);
+
+/*
+ * How many records has the list?
+ * Answers: AXLE_DONE + the length, 1 to 6.
+ */
+uint32_t axle_length(const uint8_t *store, size_t store_len, uint16_t list);
+
+/*
+ * Inserts a record so that it stands at the position, 0 to the list's length. It is put in the first free node, counting up
+ * from the cell start and on from the first node after the last. The stores: the record, its forward, its back, its
+ * identifier, the count, the forward before it (central), the back behind it.
+ * Answers: AXLE_DONE + P + 6, AXLE_STOPPED + the allowance, 1 to 10.
+ */
+uint32_t axle_insert(uint8_t *store, size_t store_len, uint16_t list, uint16_t position, uint16_t start,
+                     const uint8_t *record, size_t record_len, uint16_t allowance);
+
+/*
+ * Deletes the record at the position. Its node is free then. The stores: the back behind it, the forward before it
+ * (central), the count, its identifier.
+ * Answers: AXLE_DONE + 4, AXLE_STOPPED + the allowance, 1 to 7.
+ */
+uint32_t axle_delete(uint8_t *store, size_t store_len, uint16_t list, uint16_t position, uint16_t allowance);
+
+/*
+ * After a power cut: puts every list right, and frees the nodes in none. A sequence of different nodes fits a list if at
+ * most one word differs from what it asks of the header and its members. If exactly one fits each list, the differing words
+ * are stored, list 0 first, then 0 to each nonzero identifier of a node in no list, lowest cell first.
+ * Answers: AXLE_DONE + the number of stores, AXLE_STOPPED + the allowance, 1 to 4, 11, 12.
+ */
+uint32_t axle_recover(uint8_t *store, size_t store_len, uint16_t allowance);
+
+#ifdef __cplusplus
+}
+#endif
+
+#endif

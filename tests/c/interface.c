@@ -1,0 +1,455 @@
+/*
+ * The C interface through include/axle.h: every call, every answer number, the marked store C1 to C10 byte by byte at every
+ * allowance. Each call is made on a lent store and a lent record between canaries, at four alignments, and on blocks that end
+ * where the lent bytes end, for valgrind to watch. The last line is 'N passed, M failed'.
+ */
+#include <axle.h>
+#include <stdio.h>
+#include <stdlib.h>
+#include <string.h>
+
+#define MOST_WORDS 64
+#define LONGEST_RECORD 40
+#define ROOM 32 /* canary bytes on each side */
+
+enum call { FORMAT, CHECK, LENGTH, INSERT, DELETE, RECOVER, CALLS };
+static const char *const call_names[CALLS] = {"format", "check", "length", "insert", "delete", "recover"};
+
+static unsigned long passed, failed;
+
+static void holds(int right, const char *text, unsigned long a, unsigned long b)
+{
+    if (right)
+        passed++;
+    else if (failed++ < 20)
+        printf("FAILED: %s (%lu, %lu)\n", text, a, b);
+}
+
+/* Bytes lent to a call, and the arguments. */
+struct bytes {
+    uint8_t at[2 * MOST_WORDS];
+    size_t len;
+};
+
+struct arguments {
+    enum call call;
+    uint16_t list, position, start; /* format: lists, nodes, record words */
+    uint8_t record[LONGEST_RECORD];
+    size_t record_len;
+};
+
+static struct bytes of_words(const uint16_t *words, size_t count)
+{
+    struct bytes b;
+    memset(&b, 0, sizeof b);
+    b.len = 2 * count;
+    for (size_t i = 0; i < count; i++) {
+        b.at[2 * i] = (uint8_t)(words[i] & 0xff);
+        b.at[2 * i + 1] = (uint8_t)(words[i] >> 8);
+    }
+    return b;
+}
+
+/* Changes: pairs of a word's place and its value, in the order of their stores. */
+struct change {
+    size_t at;
+    uint16_t value;
+};
+
+static struct bytes with(struct bytes b, const struct change *changes, size_t count)
+{
+    for (size_t i = 0; i < count; i++) {
+        b.at[2 * changes[i].at] = (uint8_t)(changes[i].value & 0xff);
+        b.at[2 * changes[i].at + 1] = (uint8_t)(changes[i].value >> 8);
+    }
+    return b;
+}
+
+#define WITH(b, ...) \
+    with(b, (const struct change[]){__VA_ARGS__}, sizeof((const struct change[]){__VA_ARGS__}) / sizeof(struct change))
+
+static uint32_t make(uint8_t *store, size_t len, const struct arguments *a, const uint8_t *record, uint16_t allowance)
+{
+    switch (a->call) {
+    case FORMAT: return axle_format(store, len, a->list, a->position, a->start);
+    case CHECK: return axle_check(store, len);
+    case LENGTH: return axle_length(store, len, a->list);
+    case INSERT: return axle_insert(store, len, a->list, a->position, a->start, record, a->record_len, allowance);
+    case DELETE: return axle_delete(store, len, a->list, a->position, allowance);
+    default: return axle_recover(store, len, allowance);
+    }
+}
+
+/* The answers of each call so far: refusals by their number, then done and stopped. */
+static unsigned char seen[CALLS][15];
+
+static void note(enum call call, uint32_t answer)
+{
+    size_t kind = axle_is_done(answer) ? 13 : axle_is_stopped(answer) ? 14 : answer < 13 ? answer : 0;
+    seen[call][kind] = 1;
+}
+
+static int all(const uint8_t *at, size_t count, uint8_t value)
+{
+    for (size_t i = 0; i < count; i++)
+        if (at[i] != value)
+            return 0;
+    return 1;
+}
+
+/* The call between canaries, `shift` bytes off an aligned place. */
+static void between_canaries(const struct bytes *before, const struct arguments *a, uint16_t allowance, uint32_t answer,
+                             const struct bytes *after, size_t shift)
+{
+    uint8_t store[2 * MOST_WORDS + 2 * ROOM + 4], record[LONGEST_RECORD + 2 * ROOM + 4];
+    memset(store, 0xa5, sizeof store);
+    memset(record, 0x5a, sizeof record);
+    memcpy(store + ROOM + shift, before->at, before->len);
+    memcpy(record + ROOM + shift, a->record, a->record_len);
+    uint32_t got = make(store + ROOM + shift, before->len, a, record + ROOM + shift, allowance);
+    holds(got == answer, call_names[a->call], got, answer);
+    holds(memcmp(store + ROOM + shift, after->at, after->len) == 0, "the bytes left", a->call, allowance);
+    size_t end = ROOM + shift + before->len, record_end = ROOM + shift + a->record_len;
+    holds(all(store, ROOM + shift, 0xa5) && all(store + end, sizeof store - end, 0xa5), "bytes round the store", a->call,
+          allowance);
+    holds(all(record, ROOM + shift, 0x5a) && all(record + record_end, sizeof record - record_end, 0x5a) &&
+              memcmp(record + ROOM + shift, a->record, a->record_len) == 0,
+          "the record and the bytes round it", a->call, allowance);
+}
+
+/* The call on blocks that end where the lent bytes end; NULL for no bytes. */
+static void in_blocks(const struct bytes *before, const struct arguments *a, uint16_t allowance, uint32_t answer,
+                      const struct bytes *after)
+{
+    uint8_t *store = before->len ? malloc(before->len) : NULL;
+    uint8_t *record = a->record_len ? malloc(a->record_len) : NULL;
+    if ((before->len && !store) || (a->record_len && !record))
+        exit(2);
+    if (store)
+        memcpy(store, before->at, before->len);
+    if (record)
+        memcpy(record, a->record, a->record_len);
+    uint32_t got = make(store, before->len, a, record, allowance);
+    holds(got == answer, call_names[a->call], got, answer);
+    holds(before->len == 0 || memcmp(store, after->at, after->len) == 0, "the bytes left in a block", a->call, allowance);
+    free(store);
+    free(record);
+}
+
+/* The call answers so and leaves these bytes, wherever they lie. */
+static void gives(struct bytes before, struct arguments a, uint16_t allowance, uint32_t answer, struct bytes after)
+{
+    note(a.call, answer);
+    for (size_t shift = 0; shift < 4; shift++)
+        between_canaries(&before, &a, allowance, answer, &after, shift);
+    in_blocks(&before, &a, allowance, answer, &after);
+}
+
+/* The call is refused with this number, at every allowance. */
+static void refused(struct bytes before, struct arguments a, uint32_t number)
+{
+    for (uint16_t allowance = 0; allowance < 10; allowance++)
+        gives(before, a, allowance, number, before);
+    gives(before, a, AXLE_WHOLE, number, before);
+}
+
+/* The call makes these stores in their order: at every allowance the first of them. Returns the bytes with all made. */
+static struct bytes stores(struct bytes before, struct arguments a, const struct change *changes, size_t count)
+{
+    for (size_t n = 0; n <= count + 2; n++) {
+        uint32_t answer = n < count ? AXLE_STOPPED + (uint32_t)n : AXLE_DONE + (uint32_t)count;
+        gives(before, a, (uint16_t)n, answer, with(before, changes, n < count ? n : count));
+    }
+    struct bytes after = with(before, changes, count);
+    gives(before, a, AXLE_WHOLE, AXLE_DONE + (uint32_t)count, after);
+    return after;
+}
+
+#define STORES(before, a, ...)                                 \
+    stores(before, a, (const struct change[]){__VA_ARGS__},    \
+           sizeof((const struct change[]){__VA_ARGS__}) / sizeof(struct change))
+
+static struct arguments plain(enum call call)
+{
+    struct arguments a;
+    memset(&a, 0, sizeof a);
+    a.call = call;
+    return a;
+}
+
+static struct arguments format_of(uint16_t lists, uint16_t nodes, uint16_t record_words)
+{
+    struct arguments a = plain(FORMAT);
+    a.list = lists, a.position = nodes, a.start = record_words;
+    return a;
+}
+
+static struct arguments length_of(uint16_t list)
+{
+    struct arguments a = plain(LENGTH);
+    a.list = list;
+    return a;
+}
+
+/* An insert of a record of one word. */
+static struct arguments insert_of(uint16_t list, uint16_t position, uint16_t start, uint16_t word)
+{
+    struct arguments a = plain(INSERT);
+    a.list = list, a.position = position, a.start = start;
+    a.record[0] = (uint8_t)(word & 0xff), a.record[1] = (uint8_t)(word >> 8);
+    a.record_len = 2;
+    return a;
+}
+
+static struct arguments with_record_of(struct arguments a, size_t len)
+{
+    memset(a.record, 0x11, sizeof a.record);
+    a.record_len = len;
+    return a;
+}
+
+static struct arguments delete_of(uint16_t list, uint16_t position)
+{
+    struct arguments a = plain(DELETE);
+    a.list = list, a.position = position;
+    return a;
+}
+
+static const uint16_t c1_words[24] = {82, 66, 83, 1, 1, 3, 1, 0, 42400};
+static struct bytes c1, c2, c3;
+
+/* C1 to C10 of the marked store: one list, three nodes, records of one word. */
+static void marked_store(void)
+{
+    c1 = of_words(c1_words, 24);
+    struct bytes other = c1;
+    memset(other.at, 0x77, other.len);
+    gives(other, format_of(1, 3, 1), 0, 0, c1);
+    gives(c1, plain(CHECK), 0, 0, c1);
+    gives(c1, length_of(0), 0, AXLE_DONE, c1);
+    refused(c1, delete_of(0, 0), 7);
+
+    c2 = STORES(c1, insert_of(0, 0, 2, 700), {19, 700}, {17, 0}, {18, 0}, {16, 42400}, {11, 1}, {9, 2}, {10, 2});
+    c3 = STORES(c2, insert_of(0, 1, 2, 512), {23, 512}, {21, 0}, {22, 2}, {20, 42400}, {11, 2}, {17, 3}, {10, 3});
+    gives(c3, plain(CHECK), 0, 0, c3);
+    gives(c3, length_of(0), 0, AXLE_DONE + 2, c3);
+
+    /* C4 and C5: the second insert cut after 5 and after 6 stores; and after every other number. */
+    struct bytes cut = WITH(c2, {23, 512}, {21, 0}, {22, 2}, {20, 42400}, {11, 2});
+    refused(cut, plain(CHECK), 6);
+    struct bytes back = STORES(cut, plain(RECOVER), {11, 1}, {20, 0});
+    gives(back, length_of(0), 0, AXLE_DONE + 1, back);
+    cut = WITH(cut, {17, 3});
+    refused(cut, plain(CHECK), 6);
+    STORES(cut, plain(RECOVER), {10, 3});
+    cut = WITH(c2, {23, 512}, {21, 0}, {22, 2}, {20, 42400});
+    STORES(cut, plain(RECOVER), {20, 0});
+    stores(c3, plain(RECOVER), NULL, 0);
+    stores(WITH(c2, {23, 512}, {21, 0}, {22, 2}), plain(RECOVER), NULL, 0);
+
+    /* C6 and C7: a delete cut after 1 and after 2 stores; and after 3. */
+    struct bytes deleted = STORES(c3, delete_of(0, 0), {22, 0}, {9, 3}, {11, 1}, {16, 0});
+    gives(deleted, length_of(0), 0, AXLE_DONE + 1, deleted);
+    STORES(WITH(c3, {22, 0}), plain(RECOVER), {22, 2});
+    STORES(WITH(c3, {22, 0}, {9, 3}), plain(RECOVER), {11, 1}, {16, 0});
+    STORES(WITH(c3, {22, 0}, {9, 3}, {11, 1}), plain(RECOVER), {16, 0});
+    STORES(c3, delete_of(0, 1), {10, 2}, {17, 0}, {11, 1}, {20, 0});
+
+    /* C8: positions for insert. */
+    refused(c3, insert_of(0, 3, 2, 9), 7);
+    refused(c3, insert_of(0, 65535, 2, 9), 7);
+    STORES(c3, insert_of(0, 2, 2, 9), {15, 9}, {13, 0}, {14, 3}, {12, 42400}, {11, 3}, {21, 1}, {10, 1});
+    STORES(c3, insert_of(0, 0, 1, 0xfe01), {15, 0xfe01}, {13, 2}, {14, 0}, {12, 42400}, {11, 3}, {9, 1}, {18, 1});
+
+    /* C9 and C10: two sequences fit, and none. */
+    refused(WITH(c2, {12, 42400}, {13, 0}, {14, 0}, {9, 1}), plain(RECOVER), 12);
+    refused(WITH(c3, {9, 9}, {10, 9}), plain(RECOVER), 11);
+}
+
+/* Every call that opens a store. */
+static const size_t OPENING = 5;
+static struct arguments opening(size_t i)
+{
+    switch (i) {
+    case 0: return plain(CHECK);
+    case 1: return length_of(0);
+    case 2: return insert_of(0, 0, 1, 5);
+    case 3: return delete_of(0, 0);
+    default: return plain(RECOVER);
+    }
+}
+
+static void lengths_and_heads(void)
+{
+    struct bytes none = c3;
+    none.len = 0;
+    for (size_t i = 0; i < OPENING; i++) {
+        refused(none, opening(i), 1);
+        for (size_t len = 0; len <= 2 * MOST_WORDS; len++) {
+            struct bytes b = c3;
+            b.len = len;
+            if (len != 48)
+                gives(b, opening(i), AXLE_WHOLE, len % 2 ? 4 : len < 16 ? 1 : 4, b);
+        }
+        for (size_t at = 0; at < 8; at++) {
+            struct bytes b = WITH(c3, {at, 0x5201});
+            refused(b, opening(i), at == 4 || at == 5 || at == 6 ? 3 : 2);
+            b.len = 47;
+            refused(b, opening(i), 4);
+            b.len = 14;
+            refused(b, opening(i), 1);
+        }
+        refused(WITH(c3, {4, 0}), opening(i), 3);
+        refused(WITH(c3, {5, 2001}), opening(i), 3);
+        refused(WITH(c3, {6, 14}), opening(i), 3);
+        refused(WITH(c3, {5, 4}), opening(i), 4);
+    }
+}
+
+static void formats(void)
+{
+    struct bytes b = c3;
+    refused(b, format_of(0, 3, 1), 3);
+    refused(b, format_of(9, 3, 1), 3);
+    refused(b, format_of(1, 0, 1), 3);
+    refused(b, format_of(1, 2001, 1), 3);
+    refused(b, format_of(1, 3, 0), 3);
+    refused(b, format_of(1, 3, 14), 3);
+    refused(b, format_of(65535, 65535, 65535), 3);
+    refused(b, format_of(1, 4, 1), 4);
+    refused(b, format_of(8, 2000, 13), 4);
+    for (size_t len = 0; len <= 2 * MOST_WORDS; len++) {
+        b.len = len;
+        if (len != 48)
+            gives(b, format_of(1, 3, 1), 0, 4, b);
+        if (len % 2)
+            gives(b, format_of(0, 3, 1), 0, 4, b);
+        else
+            gives(b, format_of(0, 3, 1), 0, 3, b);
+    }
+
+    /* The largest store, in memory that nobody has written yet. */
+    size_t len = AXLE_STORE_BYTES(AXLE_MAX_LISTS, AXLE_MAX_NODES, AXLE_MAX_RECORD_WORDS);
+    uint8_t *large = malloc(len), record[26] = {0};
+    if (!large)
+        exit(2);
+    holds(len == AXLE_MAX_STORE_BYTES, "the most bytes of a store", len, 0);
+    uint32_t answer = axle_format(large, len, 8, 2000, 13);
+    holds(answer == 0, "format of the largest store", answer, 0);
+    answer = axle_check(large, len);
+    holds(answer == 0, "check of the largest store", answer, 0);
+    for (unsigned i = 0; i < 2000; i++) {
+        answer = axle_insert(large, len, (uint16_t)(i % 8), 0, 2007, record, sizeof record, AXLE_WHOLE);
+        holds(answer == AXLE_DONE + 19, "insert in the largest store", answer, i);
+    }
+    answer = axle_insert(large, len, 7, 0, 8, record, sizeof record, AXLE_WHOLE);
+    holds(answer == AXLE_FULL, "insert in the largest store, full", answer, 0);
+    for (uint16_t list = 0; list < 8; list++) {
+        answer = axle_length(large, len, list);
+        holds(answer == AXLE_DONE + 250, "length in the largest store", answer, list);
+    }
+    for (uint16_t list = 0; list < 8; list++)
+        large[2 * AXLE_HEADER_WORD(list) + 1] ^= 0x10; /* a fault in every header's identifier */
+    answer = axle_recover(large, len, 7);
+    holds(answer == AXLE_STOPPED + 7, "recovery of the largest store, cut", answer, 0);
+    answer = axle_recover(large, len, AXLE_WHOLE);
+    holds(answer == AXLE_DONE + 1, "recovery of the largest store", answer, 0);
+    for (uint16_t cell = 8; cell < 2008; cell++)
+        large[2 * AXLE_NODE_WORD(8, 13, cell)] = 1; /* every node's identifier */
+    answer = axle_recover(large, len, AXLE_WHOLE);
+    holds(answer == AXLE_NO_FIT, "recovery of nothing", answer, 0);
+    axle_format(large, len, 8, 2000, 13);
+    for (uint16_t list = 0; list < 8; list++)
+        large[2 * AXLE_HEADER_WORD(list) + 6] = 1; /* every count */
+    for (uint16_t cell = 8; cell < 2008; cell++)
+        large[2 * AXLE_NODE_WORD(8, 13, cell)] = 1;
+    answer = axle_recover(large, len, 2007);
+    holds(answer == AXLE_STOPPED + 2007, "the most stores, cut before the last", answer, 0);
+    answer = axle_recover(large, len, AXLE_WHOLE);
+    holds(answer == AXLE_DONE + 1, "the most stores, the last", answer, 0);
+    holds(axle_check(large, len) == 0 && AXLE_RECOVER_STORES(8, 2000) == 2008, "sound then", 0, 0);
+    free(large);
+}
+
+/* Questions 5 to 10, each asked before the next: all reasons at once, then one less at a time. */
+static void questions(void)
+{
+    struct bytes full = STORES(c3, insert_of(0, 2, 1, 9), {15, 9}, {13, 0}, {14, 3}, {12, 42400}, {11, 3}, {21, 1}, {10, 1});
+    struct bytes damaged = WITH(full, {11, 2});
+    struct arguments a = with_record_of(insert_of(1, 4, 0, 9), 3);
+    refused(damaged, a, 5);
+    refused(damaged, length_of(1), 5);
+    refused(damaged, delete_of(65535, 3), 5);
+    a.list = 0;
+    refused(damaged, a, 6);
+    refused(damaged, length_of(0), 6);
+    refused(damaged, delete_of(0, 3), 6);
+    refused(damaged, plain(CHECK), 6);
+    refused(full, a, 7);
+    refused(full, delete_of(0, 3), 7);
+    a.position = 3;
+    refused(full, a, 8);
+    a.start = 4;
+    refused(full, a, 8);
+    a.start = 3;
+    for (size_t len = 0; len <= LONGEST_RECORD; len++)
+        refused(full, with_record_of(a, len), len == 2 ? 10 : 9);
+    gives(full, length_of(0), 0, AXLE_DONE + 3, full);
+
+    /* A store of two lists and records of two words. */
+    static const uint16_t words[31] = {82, 66, 83, 1, 2, 3, 2, 0, 42400, 0, 0, 0, 42401, 1, 1, 0};
+    struct bytes two = of_words(words, 31);
+    struct bytes other = two;
+    memset(other.at, 0xff, other.len);
+    gives(other, format_of(2, 3, 2), 0, 0, two);
+    for (size_t len = 0; len <= LONGEST_RECORD; len++)
+        if (len != 4)
+            refused(two, with_record_of(insert_of(1, 0, 4, 0), len), 9);
+    struct bytes one = STORES(two, with_record_of(insert_of(1, 0, 4, 0), 4), {29, 0x1111}, {30, 0x1111}, {27, 1}, {28, 1},
+                              {26, 42401}, {15, 1}, {13, 4}, {14, 4});
+    STORES(WITH(one, {9, 77}, {15, 0}, {16, 1}), plain(RECOVER), {9, 0}, {15, 1}, {16, 0});
+    refused(WITH(one, {9, 77}, {10, 77}, {13, 77}, {14, 77}), plain(RECOVER), 11);
+}
+
+static void parts_of_answers(void)
+{
+    holds(!axle_is_refused(0) && !axle_is_done(0) && !axle_is_stopped(0), "the answer 0", 0, 0);
+    for (uint32_t n = 0; n < 65536; n += 5) {
+        holds(axle_is_done(AXLE_DONE + n) && !axle_is_stopped(AXLE_DONE + n) && !axle_is_refused(AXLE_DONE + n), "done", n, 0);
+        holds(axle_is_stopped(AXLE_STOPPED + n) && !axle_is_done(AXLE_STOPPED + n) && !axle_is_refused(AXLE_STOPPED + n),
+              "stopped", n, 0);
+        holds(axle_number(AXLE_DONE + n) == n && axle_number(AXLE_STOPPED + n) == n, "a number", n, 0);
+    }
+    for (uint32_t n = 1; n <= AXLE_TWO_FIT; n++)
+        holds(axle_is_refused(n) && !axle_is_done(n) && !axle_is_stopped(n) && axle_number(n) == n, "refused", n, 0);
+    holds(AXLE_STORE_BYTES(1, 3, 1) == 48 && AXLE_RECORD_BYTES(13) == 26, "sizes", 0, 0);
+    holds(AXLE_INSERT_STORES(1) == 7 && AXLE_INSERT_CENTRAL(1) == 6, "stores", 0, 0);
+}
+
+/* Every answer that a call can give was given, and no other. The columns: 0, refusals 1 to 12, done, stopped. */
+static void all_seen(void)
+{
+    static const unsigned char answers[CALLS][15] = {
+        {1, 0, 0, 1, 1},
+        {1, 1, 1, 1, 1, 0, 1},
+        {0, 1, 1, 1, 1, 1, 1, 0, 0, 0, 0, 0, 0, 1},
+        {0, 1, 1, 1, 1, 1, 1, 1, 1, 1, 1, 0, 0, 1, 1},
+        {0, 1, 1, 1, 1, 1, 1, 1, 0, 0, 0, 0, 0, 1, 1},
+        {0, 1, 1, 1, 1, 0, 0, 0, 0, 0, 0, 1, 1, 1, 1},
+    };
+    for (size_t call = 0; call < CALLS; call++)
+        for (size_t i = 0; i < 15; i++)
+            holds(answers[call][i] == seen[call][i], "the answers of a call", call, i);
+}
+
+int main(void)
+{
+    marked_store();
+    lengths_and_heads();
+    formats();
+    questions();
+    parts_of_answers();
+    all_seen();
+    printf("%lu passed, %lu failed\n", passed, failed);
+    return failed != 0;
+}
