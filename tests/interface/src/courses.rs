@@ -1,0 +1,134 @@
+//! Courses: an insert or delete, alterations in the lists that it does not name, recoveries.
+
+use crate::checks::Tests;
+use interface::stores::{alteration, deal, edit, sound};
+use interface::{answer_of, bytes_of, words_of, Call, Call::*, DONE, ENOUGH};
+use model::recovery::Course;
+use model::store::{store_of, Answer, Shape, IDENTIFIER};
+use std::panic::{catch_unwind, AssertUnwindSafe};
+
+impl Tests {
+    /// One insert or delete on a sound store, cut; then these alterations, at most one in each list that it does not name; then
+    /// recoveries with these allowances, and a whole one. It must end as `Course` says.
+    fn course(&mut self, sound: &[u16], call: &Call, allowance: u16, altered: &[(usize, u16)], recoveries: &[u16]) {
+        self.courses += 1;
+        let (named, central) = match call {
+            Insert { list, record, .. } => (*list, record.len() as u16 / 2 + 5),
+            Delete { list, .. } => (*list, 2),
+            _ => unreachable!("a course begins with an insert or delete"),
+        };
+        let bytes = bytes_of(sound);
+        let new = words_of(&call.expected(&bytes, ENOUGH).1);
+        let (answer, left) = self.call(&bytes, call, allowance);
+        let mut found = words_of(&left);
+        for &(at, value) in altered {
+            found[at] = value;
+        }
+        let made = (answer >= DONE && allowance >= central).then_some(&new[..]);
+        let mut course = Course::new(sound, named, made, &found);
+        let mut bytes = bytes_of(&found);
+        let mut answers = vec![];
+        for &allowance in recoveries.iter().chain(&[ENOUGH]) {
+            let (answer, left) = self.call(&bytes, &Recover, allowance);
+            answers.push((answer_of(answer), allowance));
+            bytes = left;
+        }
+        let done = matches!(answers.last(), Some((Answer::Done(_), _)));
+        let ended = catch_unwind(AssertUnwindSafe(|| {
+            answers.iter().for_each(|&(answer, allowance)| course.recovered(answer, allowance));
+            course.ended(&words_of(&bytes));
+        }));
+        self.holds(done && ended.is_ok(), || format!("a course: {call:?} with {allowance}, {altered:?} on {sound:?}"));
+        self.call(&bytes, &Check, 0);
+    }
+
+    /// A random course that begins so.
+    fn random_course(&mut self, shape: Shape, sound: &[u16], lists: &[Vec<usize>], call: &Call, allowance: usize) {
+        let named = match *call {
+            Insert { list, .. } | Delete { list, .. } => list,
+            _ => return,
+        };
+        let mut altered = vec![];
+        for (list, sequence) in lists.iter().enumerate().filter(|&(list, _)| list != usize::from(named)) {
+            if self.random.below(5) > 0 {
+                let cell = [&[list][..], sequence].concat()[self.random.below(sequence.len() + 1)];
+                altered.push(alteration(&mut self.random, shape, sound, cell));
+            }
+        }
+        let recoveries: Vec<u16> = (0..self.random.below(4)).map(|_| self.random.pick(&[0, 1, 1, 2, 3, 5])).collect();
+        self.course(sound, call, allowance as u16, &altered, &recoveries);
+    }
+
+    /// Random courses from a store of these lists. Each call is cut after every number of its stores, or after some.
+    fn courses(&mut self, shape: Shape, lists: &[Vec<usize>], edits: usize, everywhere: bool) {
+        let sound = sound(&mut self.random, shape, lists);
+        for turn in 0..edits {
+            let call = edit(&mut self.random, shape, lists, turn % 2 == 0);
+            let whole = if turn % 2 == 0 { shape.width + 6 } else { 4 };
+            let some = vec![self.random.below(whole), whole - 1 - turn % 3, self.random.between(0, whole)];
+            for allowance in if everywhere { (0..=whole).collect() } else { some } {
+                self.random_course(shape, &sound, lists, &call, allowance);
+            }
+        }
+        self.random_course(shape, &sound, lists, &Delete { list: shape.lists as u16, position: 0 }, 4);
+    }
+}
+
+/// All courses of two lists over two nodes: every sound store, every call, every cut of it, every word of the other list altered
+/// to every cell number and identifier, every cut of one recovery.
+pub fn every_course(t: &mut Tests) {
+    let shape = Shape::new(2, 2, 1);
+    let [a, b] = [2, 3];
+    let values = [0, 1, 2, 3, 4, IDENTIFIER, IDENTIFIER + 1, 65_535];
+    let few: [&[usize]; 5] = [&[], &[a], &[b], &[a, b], &[b, a]];
+    for lists in few.iter().flat_map(|x| few.iter().map(move |y| [x.to_vec(), y.to_vec()])) {
+        if lists[0].iter().any(|cell| lists[1].contains(cell)) {
+            continue;
+        }
+        let sound = store_of(shape, &lists, || 7);
+        for list in 0..2 {
+            let mut places: Vec<usize> = (0..4).map(|i| shape.cell(1 - list) + i).collect();
+            places.extend(lists[1 - list].iter().flat_map(|&cell| (0..3).map(move |i| shape.cell(cell) + i)));
+            for position in 0..=lists[list].len() as u16 {
+                let (list, record) = (list as u16, vec![1, 2]);
+                for call in [Insert { list, position, start: b as u16, record }, Delete { list, position }] {
+                    for allowance in 0..=7 {
+                        for (at, value) in places.iter().flat_map(|&at| values.map(|value| (at, value))) {
+                            for cut in 0..3 {
+                                t.course(&sound, &call, allowance, &[(at, value)], &[cut]);
+                            }
+                        }
+                    }
+                }
+            }
+        }
+    }
+}
+
+/// Courses on small stores.
+pub fn small_courses(t: &mut Tests) {
+    for turn in 0..300 {
+        let shape = t.shape(if turn % 2 == 0 { 4 } else { 12 });
+        let used = t.random.between(0, shape.nodes);
+        let lists = deal(&mut t.random, shape, used);
+        t.courses(shape, &lists, 4, true);
+    }
+}
+
+/// Courses on larger stores, up to the largest.
+pub fn large_courses(t: &mut Tests) {
+    for (lists, nodes, width, used, edits) in [
+        (8, 30, 13, 20, 40),
+        (5, 100, 1, 99, 40),
+        (8, 300, 2, 299, 40),
+        (1, 300, 13, 256, 20),
+        (3, 700, 2, 698, 20),
+        (5, 1000, 1, 500, 20),
+        (8, 2000, 1, 1999, 30),
+        (8, 2000, 13, 1000, 30),
+    ] {
+        let shape = Shape::new(lists, nodes, width);
+        let dealt = deal(&mut t.random, shape, used);
+        t.courses(shape, &dealt, edits, false);
+    }
+}

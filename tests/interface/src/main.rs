@@ -1,0 +1,73 @@
+//! The archive held against the model: each call through C on many stores, at every allowance. A check is one call: its answer,
+//! every byte of the store, the bytes round it, the record and the bytes round that. The last line is 'N passed, M failed'.
+
+mod calls;
+mod checks;
+mod courses;
+
+use checks::Tests;
+use interface::{DONE, STOPPED};
+use std::time::Instant;
+
+/// The answers that each call can give: refusals, then whether it can be done, and stopped.
+const ANSWERS: [(&str, &[u32], bool, bool); 6] = [
+    ("format", &[0, 3, 4], false, false),
+    ("check", &[0, 1, 2, 3, 4, 6], false, false),
+    ("length", &[1, 2, 3, 4, 5, 6], true, false),
+    ("insert", &[1, 2, 3, 4, 5, 6, 7, 8, 9, 10], true, true),
+    ("delete", &[1, 2, 3, 4, 5, 6, 7], true, true),
+    ("recover", &[1, 2, 3, 4, 11, 12], true, true),
+];
+
+/// Every answer that a call can give was given, and no other.
+fn answers(t: &mut Tests) {
+    for (call, refusals, done, stopped) in ANSWERS {
+        let seen = t.seen.remove(call).unwrap_or_default();
+        let numbers = |range: std::ops::Range<u32>| seen.range(range).map(|n| n % DONE).collect::<Vec<u32>>();
+        let found = [numbers(0..DONE), numbers(DONE..STOPPED), numbers(STOPPED..u32::MAX)];
+        let most = |numbers: &[u32]| numbers.last().map_or(String::from("never"), |n| format!("up to {n}"));
+        println!("{call}: answers {:?}, done {}, stopped {}", found[0], most(&found[1]), most(&found[2]));
+        for number in 0..=12 {
+            t.holds(refusals.contains(&number) == found[0].contains(&number), || format!("{call}: answer {number}"));
+        }
+        t.holds(found[0].iter().all(|&n| n <= 12), || format!("{call}: answers {:?}", found[0]));
+        t.holds(found[1].is_empty() != done && found[2].is_empty() != stopped, || format!("{call}: done or stopped"));
+        if call == "insert" {
+            t.holds(found[1] == (7..=19).collect::<Vec<_>>() && found[2] == (0..=18).collect::<Vec<_>>(), || call.into());
+        }
+        if call == "delete" {
+            t.holds(found[1] == [4] && found[2] == [0, 1, 2, 3], || call.into());
+        }
+    }
+}
+
+type Part = (&'static str, fn(&mut Tests));
+
+fn main() {
+    let mut t = Tests::new(1201);
+    let parts: [Part; 15] = [
+        ("lengths", calls::lengths),
+        ("heads", calls::heads),
+        ("formats", calls::formats),
+        ("smallest stores", calls::smallest_stores),
+        ("sound stores", calls::sound_stores),
+        ("records", calls::records),
+        ("damaged stores", calls::damaged_stores),
+        ("two sequences", calls::two_sequences),
+        ("garbage", calls::garbage),
+        ("many stores", calls::many_stores),
+        ("every course of two lists over two nodes", courses::every_course),
+        ("small courses", courses::small_courses),
+        ("large courses", courses::large_courses),
+        ("largest", calls::largest),
+        ("answers", answers),
+    ];
+    for (name, part) in parts {
+        let (before, began) = (t.passed + t.failed, Instant::now());
+        part(&mut t);
+        println!("{name}: {} checks, {:.1} s", t.passed + t.failed - before, began.elapsed().as_secs_f64());
+    }
+    println!("{} courses", t.courses);
+    println!("{} passed, {} failed", t.passed, t.failed);
+    std::process::exit(i32::from(t.failed > 0));
+}

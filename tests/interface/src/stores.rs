@@ -1,0 +1,62 @@
+//! Sound stores, and words altered to values that may well stand there.
+
+use crate::{bytes_of, Call};
+use model::random::Random;
+use model::store::{store_of, Shape, IDENTIFIER};
+
+/// Deals some nodes to the lists.
+pub fn deal(random: &mut Random, shape: Shape, used: usize) -> Vec<Vec<usize>> {
+    let mut cells: Vec<usize> = shape.node_cells().collect();
+    random.shuffle(&mut cells);
+    let mut lists = vec![vec![]; shape.lists];
+    for &cell in &cells[..used] {
+        lists[random.below(shape.lists)].push(cell);
+    }
+    lists
+}
+
+/// A sound store of these lists; free words and records are random, some of them such as links and identifiers.
+pub fn sound(random: &mut Random, shape: Shape, lists: &[Vec<usize>]) -> Vec<u16> {
+    store_of(shape, lists, || match random.below(6) {
+        0 => random.pick(&[0, 1, 65_535, IDENTIFIER]),
+        1 => random.below(20) as u16,
+        _ => random.word(),
+    })
+}
+
+/// A value to put at word `i` of a cell.
+fn value(random: &mut Random, shape: Shape, i: usize, right: u16) -> u16 {
+    match (i, random.below(8)) {
+        (_, 0) => random.pick(&[0, 1, 65_535]),
+        (_, 1) => right ^ 1 << random.below(16),
+        (0, 2..=5) => IDENTIFIER + random.below(shape.lists) as u16,
+        (0, _) => 0,
+        _ => random.below(shape.lists + shape.nodes + 1) as u16,
+    }
+}
+
+/// A word of the header, or of the node's identifier and links, and what it is altered to.
+pub fn alteration(random: &mut Random, shape: Shape, words: &[u16], cell: usize) -> (usize, u16) {
+    let i = random.below(if cell < shape.lists { 4 } else { 3 });
+    let at = shape.cell(cell) + i;
+    (at, value(random, shape, i, words[at]))
+}
+
+pub fn record(random: &mut Random, width: usize) -> Vec<u8> {
+    bytes_of(&(0..width).map(|_| random.word()).collect::<Vec<_>>())
+}
+
+/// An insert or delete that is not refused, but if it must: no node is free, or every list is empty.
+pub fn edit(random: &mut Random, shape: Shape, lists: &[Vec<usize>], insert: bool) -> Call {
+    let list = random.below(shape.lists);
+    let length = lists[list].len();
+    if insert {
+        let (position, start) = (random.between(0, length), shape.lists + random.below(shape.nodes));
+        let record = record(random, shape.width);
+        return Call::Insert { list: list as u16, position: position as u16, start: start as u16, record };
+    }
+    let filled: Vec<usize> = (0..shape.lists).filter(|&k| !lists[k].is_empty()).collect();
+    let list = if filled.is_empty() { list } else { random.pick(&filled) };
+    let position = if lists[list].is_empty() { 0 } else { random.below(lists[list].len()) };
+    Call::Delete { list: list as u16, position: position as u16 }
+}
