@@ -1,0 +1,90 @@
+//! Plain sequences of records, and the words of the store that holds them.
+
+use interface::{words_of, Call, DONE};
+use model::store::{store_of, Shape, WordStore, IDENTIFIER};
+
+/// Each list's cells and records in their order, and every word of the store.
+#[derive(Clone)]
+pub struct Plain {
+    pub shape: Shape,
+    pub lists: Vec<Vec<(usize, Vec<u16>)>>,
+    pub words: Vec<u16>,
+}
+
+impl Plain {
+    pub fn formatted(shape: Shape) -> Plain {
+        let lists = vec![vec![]; shape.lists];
+        Plain { shape, lists, words: store_of(shape, &vec![vec![]; shape.lists], || 0) }
+    }
+
+    pub fn lengths(&self) -> Vec<usize> {
+        self.lists.iter().map(Vec::len).collect()
+    }
+
+    /// The first free cell from `start` on.
+    fn free_cell(&self, start: usize) -> Option<usize> {
+        let nodes = self.shape.node_cells();
+        (start..nodes.end).chain(nodes.start..start).find(|&cell| self.words[self.shape.cell(cell)] == 0)
+    }
+
+    fn store(&mut self, stores: &[WordStore]) {
+        stores.iter().for_each(|&(at, value)| self.words[at] = value);
+    }
+
+    /// The cells before and behind a place of the list.
+    fn around(&self, list: usize, before: usize, behind: usize) -> (usize, usize) {
+        let members = &self.lists[list];
+        let a = if before == 0 { list } else { members[before - 1].0 };
+        (a, members.get(behind).map_or(list, |member| member.0))
+    }
+
+    /// Makes the call whole, and says its answer.
+    pub fn make(&mut self, call: &Call) -> u32 {
+        match *call {
+            Call::Insert { list, position, start, ref record } => {
+                self.insert(list.into(), position.into(), start.into(), words_of(record))
+            }
+            Call::Delete { list, position } => self.delete(list.into(), position.into()),
+            _ => unreachable!("a child inserts and deletes"),
+        }
+    }
+
+    fn insert(&mut self, list: usize, position: usize, start: usize, record: Vec<u16>) -> u32 {
+        if position > self.lists[list].len() {
+            return 7;
+        }
+        let cell = match self.free_cell(start) {
+            Some(cell) => cell,
+            None => return 10,
+        };
+        let (a, b) = self.around(list, position, position);
+        let (shape, at) = (self.shape, self.shape.cell(cell));
+        self.words[at + 3..][..record.len()].copy_from_slice(&record);
+        self.lists[list].insert(position, (cell, record));
+        self.store(&[
+            (at + 1, b as u16),
+            (at + 2, a as u16),
+            (at, IDENTIFIER + list as u16),
+            (shape.cell(list) + 3, self.lists[list].len() as u16),
+            (shape.cell(a) + 1, cell as u16),
+            (shape.cell(b) + 2, cell as u16),
+        ]);
+        DONE + shape.width as u32 + 6
+    }
+
+    fn delete(&mut self, list: usize, position: usize) -> u32 {
+        if position >= self.lists[list].len() {
+            return 7;
+        }
+        let (a, b) = self.around(list, position, position + 1);
+        let (cell, _) = self.lists[list].remove(position);
+        let shape = self.shape;
+        self.store(&[
+            (shape.cell(b) + 2, a as u16),
+            (shape.cell(a) + 1, b as u16),
+            (shape.cell(list) + 3, self.lists[list].len() as u16),
+            (shape.cell(cell), 0),
+        ]);
+        DONE + 4
+    }
+}

@@ -1,0 +1,74 @@
+//! What a kill inside a call may leave, and what recovery then owes.
+//!
+//! A call changes the store by word stores in a fixed order, each low byte before high. A killed process has made its stores up to
+//! some point, and the mapping keeps what it made. So what is found is the store before the call, the first j word stores made,
+//! and of store j + 1 nothing or the low byte alone: a torn word. (The memory that the store is meant for takes both bytes of a
+//! word with the second, so there a word is never torn; a file mapping takes each byte at once.)
+//!
+//! No word is torn: a cut, as specified. Recovery leaves the list without the call if j is below the number of the central store,
+//! else with it.
+//!
+//! Word j + 1 is torn, and is neither the old nor the new value: one wrong word more than specified, in the list of the call. By
+//! place of the word, for a call between the members a and b:
+//!
+//!   * record or link of the cell that is not in the list yet: free words. The list is as before.
+//!   * identifier of that cell, or of the cell just deleted: in no list, so recovery clears it, whatever it is.
+//!   * the count: the one word that is wrong already. Before the central store (insert) the old list lacks only the count, after
+//!     it (delete) the new list does.
+//!   * b's back: in an insert it is the last store, and the only word that the new list lacks. In a delete it is the first, and the
+//!     only word that the old list lacks.
+//!   * a's forward, the central store: the old list lacks it and the count (insert) or b's back (delete); the new list lacks it
+//!     and b's back (insert) or the count (delete). Two words each: neither fits, and recovery refuses with 11.
+//!
+//! So a torn word changes nothing but for the central one, where recovery refuses and stores nothing. A link is torn only where cell
+//! numbers go beyond 255, a count only where the length goes past a multiple of 256.
+//!
+//! After such a refusal the test puts the low byte back, as if the store had not been made at all; then the old list is due.
+
+use interface::{bytes_of, Call, DONE, ENOUGH};
+
+/// A state that a kill may leave.
+#[derive(Clone, Debug)]
+pub struct State {
+    pub bytes: Vec<u8>,
+    /// The number of whole word stores that were made.
+    pub made: u16,
+    /// The place of the byte that alone was stored of the next.
+    pub torn: Option<usize>,
+}
+
+/// All states in their order. A word is torn only if both its bytes change. A store of an equal value gives the same bytes again.
+pub fn states(before: &[u16], call: &Call) -> Vec<State> {
+    let before = bytes_of(before);
+    let (answer, _) = call.expected(&before, ENOUGH);
+    let whole = if answer >= DONE { answer as u16 } else { 0 };
+    let mut states = vec![State { bytes: before.clone(), made: 0, torn: None }];
+    for made in 1..=whole {
+        let last = states.last().expect("a state").bytes.clone();
+        let (_, bytes) = call.expected(&before, made);
+        let changed: Vec<usize> = (0..bytes.len()).filter(|&i| bytes[i] != last[i]).collect();
+        if let [low, high] = changed[..] {
+            assert!(low % 2 == 0 && high == low + 1, "a store changes one word");
+            let mut torn = last;
+            torn[low] = bytes[low];
+            states.push(State { bytes: torn, made: made - 1, torn: Some(low) });
+        }
+        states.push(State { bytes, made, torn: None });
+    }
+    states
+}
+
+/// The number of the central store.
+pub fn central(call: &Call) -> u16 {
+    match call {
+        Call::Insert { record, .. } => record.len() as u16 / 2 + 5,
+        _ => 2,
+    }
+}
+
+impl State {
+    /// Does recovery refuse it?
+    pub fn lost(&self, call: &Call) -> bool {
+        self.torn.is_some() && self.made + 1 == central(call)
+    }
+}
