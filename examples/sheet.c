@@ -17,7 +17,7 @@
 #include <sys/stat.h>
 #include <unistd.h>
 
-/* Two lists over six cells. A record: axle number, left and right brake force in newtons. */
+/* Two lists over six nodes. A record: axle number, left and right brake force in newtons. */
 enum { SERVICE, PARKING, LISTS, NODES = 6, WORDS = 3 };
 #define BYTES AXLE_STORE_BYTES(LISTS, NODES, WORDS)
 
@@ -38,7 +38,7 @@ static void expect(const char *call, uint32_t answer, int right)
     }
 }
 
-/* The memory. Formatted if the file is new. */
+/* The memory. Formatted if the file is new: nothing else tells a new store from one that has lost its first words. */
 static uint8_t *open_store(const char *path)
 {
     int file = open(path, O_RDWR | O_CREAT, 0644);
@@ -58,7 +58,7 @@ static uint8_t *open_store(const char *path)
     if (status.st_size == 0) {
         uint32_t answer = axle_format(store, BYTES, LISTS, NODES, WORDS);
         expect("format", answer, answer == 0);
-        printf("formatted: %d lists, %d cells, %d words a record\n", (int)LISTS, (int)NODES, (int)WORDS);
+        printf("formatted: %d lists, %d nodes, %d words a record\n", (int)LISTS, (int)NODES, (int)WORDS);
     }
     return store;
 }
@@ -115,7 +115,7 @@ static void print_sheet(const uint8_t *store)
         print_list(store, list);
 }
 
-/* Inserts an axle. The search for a free cell starts at the first node. */
+/* Inserts an axle. The search for a free node starts at the first node. */
 static uint32_t insert(uint8_t *store, uint16_t list, uint16_t position, const uint16_t axle[WORDS], uint16_t allowance)
 {
     uint8_t record[AXLE_RECORD_BYTES(WORDS)];

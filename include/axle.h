@@ -2,10 +2,10 @@
  * axle.h: the axle store.
  *
  * A store is a slice of bytes that the caller lends, in memory that survives a power cut. It holds up to 8 doubly linked
- * lists of records over up to 2,000 cells. Records are inserted and deleted at any position. After a power cut at any word
+ * lists of records over up to 2,000 nodes. Records are inserted and deleted at any position. After a power cut at any word
  * store, one call puts every list right. The library keeps nothing between calls: all that it knows is in the lent bytes.
  *
- *     static uint8_t store[AXLE_STORE_BYTES(2, 6, 3)];         2 lists, 6 cells, records of 3 words
+ *     static uint8_t store[AXLE_STORE_BYTES(2, 6, 3)];         2 lists, 6 nodes, records of 3 words
  *     uint8_t record[] = {1, 0, 0x30, 0x0c, 0xea, 0x0b};       the words 1, 3120, 3050, low byte first
  *
  *     axle_format(store, sizeof store, 2, 6, 3);                             once, on new memory
