@@ -1,17 +1,15 @@
 -- Words and their bytes: where a word stands, and that byte stores are word stores.
 use Prim.Native.Nat.{ℕ, suc, zero, _+_, _*_, _/_, _%_, _≤_, _<_}
-use mathlib.Core.Path.{_≡_, refl, ap, ap₂, _∙_, sym, subst}
+use mathlib.Core.Path.{_≡_, refl, ap, ap₂, _∙_, sym}
 use mathlib.Core.List.{List, [], _∷_, _++_}
 use native.Mathlib.Omega.{arith}
 use native.Mathlib.Nat.{div-add-mod'}
 use native.Mathlib.Numerals.{add-one}
 use lib.ListN.{length, getD, set, take, length-set}
 use lib.Seq.{take-suc, take-all}
-use Rattle.sequences.specs.Sequence.{All}
-use Rattle.sequences.proofs.Members.{all-take}
 use Rattle.stores.specs.Stores.{Write, write, store, run, Plan, refuse, stores, wordsAfter}
 use Rattle.stores.proofs.Laws.{run-append, length-run}
-use Rattle.byte_form.specs.Bytes.{wordsIn, byteWrites, appliedBytes, bytesAfter, Inside}
+use Rattle.byte_form.specs.Bytes.{wordsIn, byteWrites, appliedBytes, bytesAfter}
 
 -- where word i stands
 pub word-inside : (b : List ℕ) (i : ℕ) → i < length (wordsIn b) → 2 * i + 1 < length b
@@ -41,38 +39,39 @@ length-words (x ∷ y ∷ b) = omega (arith, length-words b)
 pub same-words : (b c : List ℕ) → length b ≡ length c → length (wordsIn b) ≡ length (wordsIn c)
 same-words b c e = length-words b ∙ ap (λ (n : ℕ). n / 2) e ∙ sym (length-words c)
 
--- the two bytes of a word stored
-pub words-put : (b : List ℕ) (a low high : ℕ) → a < length (wordsIn b) → wordsIn (set (set b (2 * a) low) (2 * a + 1) high) ≡ set (wordsIn b) a (low + 256 * high)
+-- the two bytes of a word stored; beyond the last word nothing is
+pub words-put : (b : List ℕ) (a low high : ℕ) → length b % 2 ≡ 0 → wordsIn (set (set b (2 * a) low) (2 * a + 1) high) ≡ set (wordsIn b) a (low + 256 * high)
 unfolding wordsIn
-words-put [] a low high h = absurd (omega arith)
-words-put (x ∷ []) a low high h = absurd (omega arith)
-words-put (x ∷ y ∷ b) zero low high h = refl
-words-put (x ∷ y ∷ b) (suc a) low high h =
-    let e : 2 * suc a ≡ suc (suc (2 * a)) = omega arith in
-    let f : 2 * suc a + 1 ≡ suc (suc (2 * a + 1)) = omega arith in
-    ap₂ (λ (m n : ℕ). wordsIn (set (set (x ∷ y ∷ b) m low) n high)) e f
+words-put [] a low high e = refl
+words-put (x ∷ []) a low high e = absurd (omega arith)
+words-put (x ∷ y ∷ b) zero low high e = refl
+words-put (x ∷ y ∷ b) (suc a) low high e =
+    let m : 2 * suc a ≡ suc (suc (2 * a)) = omega arith in
+    let n : 2 * suc a + 1 ≡ suc (suc (2 * a + 1)) = omega arith in
+    ap₂ (λ (i j : ℕ). wordsIn (set (set (x ∷ y ∷ b) i low) j high)) m n
     ∙ ap (λ (w : List ℕ). (x + 256 * y) ∷ w) (words-put b a low high (omega arith))
 
 -- a word store made as two byte stores is the word store
-pub words-run : (ps : List Write) (b : List ℕ) → All (λ (p : Write). p .at < length (wordsIn b)) ps → wordsIn (run (byteWrites ps) b) ≡ run ps (wordsIn b)
+pub words-run : (ps : List Write) (b : List ℕ) → length b % 2 ≡ 0 → wordsIn (run (byteWrites ps) b) ≡ run ps (wordsIn b)
 unfolding run byteWrites
-words-run [] b h = refl
-words-run (p ∷ ps) b h =
-    let c = set (set b (2 * p .at) (p .value % 256)) (2 * p .at + 1) (p .value / 256) in
+words-run [] b e = refl
+words-run (p ∷ ps) b e =
     let v : p .value % 256 + 256 * (p .value / 256) ≡ p .value = omega (arith, div-add-mod' (p .value) 256) in
-    let e : wordsIn c ≡ store (wordsIn b) p =
-          words-put b (p .at) (p .value % 256) (p .value / 256) (h .0) ∙ ap (λ (x : ℕ). set (wordsIn b) (p .at) x) v in
-    let n : length (wordsIn b) ≡ length (wordsIn c) = sym (ap length e ∙ length-set (wordsIn b) (p .at) (p .value)) in
-    words-run ps c (subst (λ (n : ℕ). All (λ (p : Write). p .at < n) ps) n (h .1))
-    ∙ ap (λ (w : List ℕ). run ps w) e
-
-pub length-bytes : (ps : List Write) (b : List ℕ) → length (run (byteWrites ps) b) ≡ length b
-length-bytes ps b = length-run (byteWrites ps) b
+    let c = set b (2 * p .at) (p .value % 256) in
+    let n : length (set c (2 * p .at + 1) (p .value / 256)) ≡ length b =
+          length-set c (2 * p .at + 1) (p .value / 256) ∙ length-set b (2 * p .at) (p .value % 256) in
+    words-run ps (set c (2 * p .at + 1) (p .value / 256)) (ap (λ (n : ℕ). n % 2) n ∙ e)
+    ∙ ap (λ (w : List ℕ). run ps w)
+      (words-put b (p .at) (p .value % 256) (p .value / 256) e ∙ ap (λ (x : ℕ). set (wordsIn b) (p .at) x) v)
 
 -- what a call leaves in the bytes is, read as words, what the call on words leaves
-pub words-after : (p : Plan) (m : ℕ) (b : List ℕ) → Inside (length (wordsIn b)) p → wordsIn (bytesAfter p m b) ≡ wordsAfter p m (wordsIn b)
-words-after (refuse n) m b h = refl
-words-after (stores ps) m b h = words-run (take m ps) b (all-take (λ (p : Write). p .at < length (wordsIn b)) ps m h)
+pub words-after : (p : Plan) (m : ℕ) (b : List ℕ) → length b % 2 ≡ 0 → wordsIn (bytesAfter p m b) ≡ wordsAfter p m (wordsIn b)
+words-after (refuse n) m b e = refl
+words-after (stores ps) m b e = words-run (take m ps) b e
+
+pub length-after : (p : Plan) (m : ℕ) (b : List ℕ) → length (bytesAfter p m b) ≡ length b
+length-after (refuse n) m b = refl
+length-after (stores ps) m b = length-run (byteWrites (take m ps)) b
 
 -- runs of byte stores, one after the other
 pub byte-append : (ps qs : List Write) → byteWrites (ps ++ qs) ≡ byteWrites ps ++ byteWrites qs

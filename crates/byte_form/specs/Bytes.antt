@@ -1,10 +1,7 @@
 -- A store in byte form: "a word is two bytes, low byte first".
-use Prim.Native.Nat.{ℕ, _+_, _*_, _/_, _%_, _<_}
-use mathlib.Core.Path.{_≡_}
+use Prim.Native.Nat.{ℕ, _+_, _*_, _/_, _%_}
 use mathlib.Core.List.{List, [], _∷_}
-use lib.Dec.{eqb}
-use lib.ListN.{length, take}
-use Rattle.sequences.specs.Sequence.{All}
+use lib.ListN.{take}
 use Rattle.stores.specs.Stores.{Write, write, run, Plan, refuse, stores}
 
 -- the words of the bytes; an odd byte at the end is of none
@@ -26,8 +23,3 @@ appliedBytes ps m b = run (byteWrites (take m ps)) b
 abbrev pub bytesAfter : Plan → ℕ → List ℕ → List ℕ
 bytesAfter (refuse n) m b = b
 bytesAfter (stores ps) m b = appliedBytes ps m b
-
--- every store of the plan goes to a word of a store of n words
-abbrev pub Inside : ℕ → Plan → Type 0
-Inside n (refuse r) = Unit {0}
-Inside n (stores ps) = All (λ (p : Write). p .at < n) ps

@@ -1,0 +1,40 @@
+-- A course of calls from C: the store and the record are bytes.
+use Prim.Native.Nat.{ℕ, _%_}
+use mathlib.Core.Path.{_≡_}
+use mathlib.Core.List.{List, [], _∷_}
+use lib.ListN.{length}
+use Rattle.stores.specs.declared.Answer.{Answer}
+use Rattle.stores.specs.Stores.{Plan, answerOf}
+use Rattle.byte_form.specs.Bytes.{wordsIn, bytesAfter}
+use Rattle.layout.specs.Words.{layoutOf}
+use Rattle.courses.specs.Course.{Edit, insert, delete, named, Alteration, alteredBelow}
+use Rattle.axle.specs.Interface.{recordIn, codeOf, byteInsert, byteDelete, byteRecover}
+
+-- an insert or delete whose record is in bytes, and what it is in words
+abbrev pub byteEdit : List ℕ → Edit → Plan
+byteEdit b (insert k p c rec) = byteInsert b k p c rec
+byteEdit b (delete k p) = byteDelete b k p
+
+abbrev pub inWords : Edit → Edit
+inWords (insert k p c rec) = insert k p c (recordIn rec)
+inWords (delete k p) = delete k p
+
+-- the found store: the bytes that the call left, "in each list but the one it names, at most one word .. altered, to any value"
+pub record Found (b : List ℕ) (e : Edit) (m : ℕ) (alts : ℕ → Alteration) (y : List ℕ) : Type 0 where
+  pub even : length y % 2 ≡ 0
+  pub words
+      : wordsIn y
+      ≡ alteredBelow (layoutOf (wordsIn b)) (named (inWords e)) alts (layoutOf (wordsIn b) .lists) (wordsIn (bytesAfter (byteEdit b e) m b))
+
+-- recoveries one after another: the bytes that they leave, and the numbers that they answer
+unfoldable pub bytesThrough : List ℕ → List ℕ → List ℕ
+bytesThrough [] y = y
+bytesThrough (m ∷ ms) y = bytesThrough ms (bytesAfter (byteRecover y) m y)
+
+unfoldable pub codesThrough : List ℕ → List ℕ → List ℕ
+codesThrough [] y = []
+codesThrough (m ∷ ms) y = codeOf (answerOf (byteRecover y) m) ∷ codesThrough ms (bytesAfter (byteRecover y) m y)
+
+unfoldable pub codes : List Answer → List ℕ
+codes [] = []
+codes (a ∷ rest) = codeOf a ∷ codes rest

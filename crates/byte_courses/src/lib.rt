@@ -1,0 +1,1 @@
+// No function: demand 3 for the calls from C.
