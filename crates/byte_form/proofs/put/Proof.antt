@@ -8,8 +8,6 @@ use Rattle.byte_form.proofs.Laws.{word-inside}
 use borrow.Author.Needs.{needs}
 use Rattle.byte_form.proofs.put.Statement.{statement}
 use Rattle.byte_form.proofs.put.Tie as tie
-use Rattle.byte_form.proofs.put.Reads as reads
-use Rattle.byte_form.proofs.put.Lts as lts
 
 cast-bytes : tie.Need-cast-bytes
 cast-bytes c = search needs

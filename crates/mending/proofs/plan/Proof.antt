@@ -1,6 +1,6 @@
 -- `mending::plan`: the mends and the clears, listed in the columns, are the plan of recovery.
 use Prim.Native.Nat.{ℕ}
-use mathlib.Core.Path.{_≡_, ap, ap₂, sym, subst, _∙_}
+use mathlib.Core.Path.{ap, ap₂, sym, subst, _∙_}
 use mathlib.Core.List.{List, _++_}
 use mathlib.Core.Bool.{false}
 use native.Mathlib.Omega.{arith}
