@@ -1,11 +1,13 @@
 //! An independent model of the axle store, to test the proved engine with.
 //!
 //! `store` says what a store is and what each call answers, in the words of docs/FORMAT.md and with no concern for speed.
-//! `recovery` does so for recover, and says how a course of calls must end. `courses` runs all courses of one call. `script` has the operations that the program
-//! `cases` runs, and the lines that it must print. `compare` holds what the program printed against those lines.
+//! `recovery` does so for recover, and says how a course of calls must end; `courses` runs all courses of one call. `script`
+//! has the operations that the program `cases` runs, and the lines that it must print; `compare` holds what the program printed
+//! against those lines. `listing` has the text of the listing program.
 
 pub mod compare;
 pub mod courses;
+pub mod listing;
 pub mod random;
 pub mod recovery;
 pub mod script;
