@@ -1,0 +1,53 @@
+-- The listing of a store.
+use Prim.Native.Nat.{ℕ, zero, suc}
+use mathlib.Core.List.{List, [], _∷_, _++_}
+use lib.ListN.{length, take, drop}
+use Rattle.layout.specs.declared.Layout.{Layout}
+use Rattle.layout.specs.Words.{recordAt}
+use Rattle.lists.specs.Decide.{sequenceOf}
+use Rattle.requests.specs.declared.Request.the-variants.{Check}
+use Rattle.requests.specs.Requests.{lookOf, withLook}
+use Rattle.listing_text.specs.Text.{codes, decimal}
+
+-- numbers, a space in front of each
+unfoldable pub spaced : List ℕ → List ℕ
+spaced [] = []
+spaced (x ∷ xs) = codes " " ++ (decimal x ++ spaced xs)
+
+-- "for each record its position, cell and words, decimal and parted by one space"
+unfoldable pub recordLine : ℕ → ℕ → List ℕ → List ℕ
+recordLine p c words = decimal p ++ (spaced (c ∷ words) ++ codes "\n")
+
+-- the words of the record in node c
+abbrev pub recordWords : Layout → List ℕ → ℕ → List ℕ
+recordWords l w c = take (l .width) (drop (recordAt l c) w)
+
+-- the records in the cells of s, from position p on
+unfoldable pub recordLines : Layout → List ℕ → ℕ → List ℕ → List ℕ
+recordLines l w p [] = []
+recordLines l w p (c ∷ s) = recordLine p c (recordWords l w c) ++ recordLines l w (suc p) s
+
+-- "list k count c"
+unfoldable pub listLine : ℕ → ℕ → List ℕ
+listLine k n = codes "list " ++ (decimal k ++ (codes " count " ++ (decimal n ++ codes "\n")))
+
+-- list k, whose sequence is s
+unfoldable pub listLines : Layout → List ℕ → ℕ → List ℕ → List ℕ
+listLines l w k s = listLine k (length s) ++ recordLines l w 0 s
+
+-- "for each list": n lists from k on
+unfoldable pub listsFrom : Layout → List ℕ → (ℕ → List ℕ) → ℕ → ℕ → List ℕ
+listsFrom l w sequence k zero = []
+listsFrom l w sequence k (suc n) = listLines l w k (sequence k) ++ listsFrom l w sequence (suc k) n
+
+-- "other refusals of check print `refused n`"
+unfoldable pub refusedLine : ℕ → List ℕ
+refusedLine n = codes "refused " ++ (decimal n ++ codes "\n")
+
+-- "Else, for each list, .. last, `sound`"
+unfoldable pub soundLines : Layout → List ℕ → (ℕ → List ℕ) → List ℕ
+soundLines l w sequence = listsFrom l w sequence 0 (l .lists) ++ codes "sound\n"
+
+-- the listing of the words w: check's questions, and the lists of a sound store
+unfoldable pub listingOf : List ℕ → List ℕ
+listingOf w = withLook (lookOf w Check) refusedLine (λ l t. soundLines l w (sequenceOf l w))
