@@ -1,15 +1,15 @@
 -- Laws of decimal numbers, and of texts that are written one behind the other.
 use Prim.Native.Nat.{ℕ, zero, suc, _+_, _*_, _-_, _/_, _%_, _^_, _≤_, _<_}
 use mathlib.Core.Path.{_≡_, refl, sym, ap, _∙_, subst}
-use mathlib.Core.List.{List, [], _∷_, _++_, append-assoc}
+use mathlib.Core.List.{List, [], _∷_, _++_, append-assoc, append-nil}
 use mathlib.Core.Bool.{Bool, true, false}
 use native.Mathlib.Omega.{arith}
 use native.Mathlib.Nat.{add-zero}
 use native.Mathlib.Numerals.{add-one}
 use native.Mathlib.Decide.{decLt}
 use lib.Dec.{ltb}
-use lib.ListN.{length, getD, set, take, drop, length-append, length-set, List·getD-append}
-use lib.Seq.{sets, length-sets, set-out, set-append-seam, take-nil}
+use lib.ListN.{length, getD, set, take, drop, length-append, length-set, drop-of-length-le, List·getD-append}
+use lib.Seq.{sets, length-sets, set-out, set-append-seam, take-nil, drop-cons}
 use borrow.Author.Tests.{lt-ltb, le-ltb}
 use Rattle.sequences.specs.Sequence.{All}
 use Rattle.listing_text.specs.Text.{digit, digits, decimal, numberFrom, overwritten, Wrote, Room, longest}
@@ -173,3 +173,36 @@ sets-over p (b ∷ o) (a ∷ t) =
 
 pub wrote-over : {o o′ : List ℕ} {m : ℕ} {t : List ℕ} → Wrote o 0 t o′ m → (m ≡ length t) × (o′ ≡ overwritten t o)
 wrote-over {o} {o′} {m} {t} h = (omega (arith, h .next), h .bytes ∙ sets-over [] o t)
+
+-- a text on its way: of the whole, to be written from place n of the buffer o on, the rest is still to be written, from place m of the buffer o′ on
+pub record Writing (o : List ℕ) (n : ℕ) (whole : List ℕ) (o′ : List ℕ) (m : ℕ) (rest : List ℕ) : Type 0 where
+  pub front : List ℕ
+  pub wrote : Wrote o n front o′ m
+  pub parts : front ++ rest ≡ whole
+  pub room : Room n whole
+
+pub writing-start : (o : List ℕ) (n : ℕ) (t : List ℕ) → Room n t → Writing o n t o n t
+writing-start o n t h = record { front = []; wrote = wrote-none o n; parts = refl; room = h }
+
+module _ {o : List ℕ} {n : ℕ} {whole : List ℕ} {o′ : List ℕ} {m : ℕ} where
+  pub writing-room : (s t : List ℕ) → Writing o n whole o′ m (s ++ t) → Room m s
+  writing-room s t h =
+      room-first s t (room-rest (s ++ t) (subst (λ (x : List ℕ). Room n x) (sym (h .parts)) (h .room)) (h .wrote))
+
+  pub writing-step : {o″ : List ℕ} {r : ℕ} {s : List ℕ} (t : List ℕ) → Writing o n whole o′ m (s ++ t) → Wrote o′ m s o″ r
+      → Writing o n whole o″ r t
+  writing-step {o″} {r} {s} t h w =
+      record { front = h .front ++ s; wrote = wrote-append (h .wrote) w; parts = append-assoc (h .front) s t ∙ h .parts; room = h .room }
+
+  pub writing-done : Writing o n whole o′ m [] → Wrote o n whole o′ m
+  writing-done h = subst (λ (t : List ℕ). Wrote o n t o′ m) (sym (append-nil (h .front)) ∙ h .parts) (h .wrote)
+
+  pub writing-length : {t : List ℕ} → Writing o n whole o′ m t → length o′ ≡ length o
+  writing-length h = wrote-length (h .wrote)
+
+-- what is left of a list: one more member and the rest, or nothing
+pub drop-next : (t : List ℕ) (i : ℕ) → i < length t → drop i t ≡ getD t i 0 ∷ drop (i + 1) t
+drop-next t i h = rw add-one (drop-cons t i 0 h)
+
+pub drop-end : (t : List ℕ) (i : ℕ) → length t ≤ i → drop i t ≡ []
+drop-end t i h = drop-of-length-le t h
