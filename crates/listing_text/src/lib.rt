@@ -4,8 +4,8 @@
 // Each function writes its text from place n of the buffer on, and answers the place behind it.
 use layout::Layout;
 ghost use mathlib.Core.Path.{_≡_};
-ghost use mathlib.Core.List.{[], _∷_};
-ghost use Rattle.listing_text.specs.Text.{decimal, Wrote, Room};
+ghost use mathlib.Core.List.{[], _∷_, _++_};
+ghost use Rattle.listing_text.specs.Text.{codes, decimal, Wrote, Room};
 ghost use Rattle.listing_text.specs.Listing.{spaced, recordLine, listLine, refusedLine};
 
 // One character.
@@ -46,16 +46,33 @@ fn number(out: &mut [u8], n: usize, x: u16) -> usize
     put(out, m, b'0' + (x % 10) as u8)
 }
 
+// A given text, and a number.
+fn labelled(out: &mut [u8], n: usize, t: &[u8], x: u16) -> usize
+    requires { ⌜ Room n (now t ++ decimal x) ⌝ }
+    ensures { λ r. ⌜ Wrote (now (out .entry)) n (now (t .entry) ++ decimal x) (now (out .exit)) r ⌝ }
+{
+    let m = text(out, n, t);
+    number(out, m, x)
+}
+
+// A number with a space in front.
+fn spaced_number(out: &mut [u8], n: usize, x: u16) -> usize
+    requires { ⌜ Room n (codes " " ++ decimal x) ⌝ }
+    ensures { λ r. ⌜ Wrote (now (out .entry)) n (codes " " ++ decimal x) (now (out .exit)) r ⌝ }
+{
+    let m = put(out, n, b' ');
+    number(out, m, x)
+}
+
 // Numbers, a space in front of each.
-fn numbers(out: &mut [u8], n: usize, row: &[u16]) -> usize
+fn spaced_numbers(out: &mut [u8], n: usize, row: &[u16]) -> usize
     requires { ⌜ Room n (spaced (now row)) ⌝ }
     ensures { λ r. ⌜ Wrote (now (out .entry)) n (spaced (now (row .entry))) (now (out .exit)) r ⌝ }
 {
     let mut m = n;
     let mut i: usize = 0;
     while i < row.len() {
-        m = put(out, m, b' ');
-        m = number(out, m, row[i]);
+        m = spaced_number(out, m, row[i]);
         i += 1;
     }
     m
@@ -67,10 +84,9 @@ fn record_line(out: &mut [u8], n: usize, p: u16, c: u16, rec: &[u16]) -> usize
     ensures { λ r. ⌜ Wrote (now (out .entry)) n (recordLine p c (now (rec .entry))) (now (out .exit)) r ⌝ }
 {
     let a = number(out, n, p);
-    let b = put(out, a, b' ');
-    let d = number(out, b, c);
-    let e = numbers(out, d, rec);
-    put(out, e, b'\n')
+    let b = spaced_number(out, a, c);
+    let d = spaced_numbers(out, b, rec);
+    put(out, d, b'\n')
 }
 
 // The first line of list k, which has so many records.
@@ -78,11 +94,9 @@ fn list_line(out: &mut [u8], n: usize, k: u16, count: u16) -> usize
     requires { ⌜ Room n (listLine k count) ⌝ }
     ensures { λ r. ⌜ Wrote (now (out .entry)) n (listLine k count) (now (out .exit)) r ⌝ }
 {
-    let a = text(out, n, b"list ");
-    let b = number(out, a, k);
-    let d = text(out, b, b" count ");
-    let e = number(out, d, count);
-    put(out, e, b'\n')
+    let a = labelled(out, n, b"list ", k);
+    let b = labelled(out, a, b" count ", count);
+    put(out, b, b'\n')
 }
 
 // The line of a refusal.
@@ -90,7 +104,6 @@ fn refused_line(out: &mut [u8], n: usize, refusal: u16) -> usize
     requires { ⌜ Room n (refusedLine refusal) ⌝ }
     ensures { λ r. ⌜ Wrote (now (out .entry)) n (refusedLine refusal) (now (out .exit)) r ⌝ }
 {
-    let a = text(out, n, b"refused ");
-    let b = number(out, a, refusal);
-    put(out, b, b'\n')
+    let a = labelled(out, n, b"refused ", refusal);
+    put(out, a, b'\n')
 }
