@@ -5,8 +5,16 @@ use mathlib.Core.List.{List, [], _∷_, _++_, append-assoc}
 use native.Mathlib.Omega.{arith}
 use native.Mathlib.Numerals.{add-one}
 use lib.ListN.{length, getD, take, drop}
+use mathlib.Core.Bool.{true}
+use Rattle.sequences.proofs.Members.{all-in, at-in}
+use Rattle.sequences.proofs.Trail.{trail-inside}
+use Rattle.layout.specs.declared.Layout.{Layout}
+use Rattle.layout.specs.Words.{Laid, Node, isNode, recordAt}
+use Rattle.layout.proofs.Laws.{is-node, node-fits}
+use Rattle.requests.specs.Requests.{sequenceBy, Closed}
+use Rattle.requests.proofs.Laws.{before-in, member-before}
 use Rattle.listing_text.specs.Text.{codes, decimal}
-use Rattle.listing_text.specs.Listing.{spaced}
+use Rattle.listing_text.specs.Listing.{spaced, recordLine, recordWords, recordLines}
 use Rattle.listing_text.proofs.Writing.{drop-next, drop-end}
 
 -- the numbers of a row from i on
@@ -18,3 +26,39 @@ module _ (row : List ℕ) (i : ℕ) where
   pub spaced-end : length row ≤ i → spaced (drop i row) ≡ []
   unfolding spaced
   spaced-end h = rw (drop-end row i h)
+
+-- a record lies in the store
+pub record-fits : {l : Layout} {w : List ℕ} {c : ℕ} → Laid l w → Node l c → recordAt l c + l .width ≤ length w
+record-fits {l} {w} {c} h n = omega (arith, node-fits l c n, h .exact)
+
+-- the records of a list, met along the forward links: c is the cell in front of position p
+module _ {l : Layout} {f : List ℕ} {k n : ℕ} (h : Closed l f k n) (w : List ℕ) (p c : ℕ) (e : c ≡ getD (k ∷ sequenceBy l f k) p 0) where
+  pub cell-in : p < n → c < length f
+  cell-in q = rw e (before-in h p (omega arith))
+
+  -- the link of c is the member at p
+  pub member-is : p < n → getD f c 0 ≡ getD (sequenceBy l f k) p 0
+  member-is q = ap (λ (x : ℕ). getD f x 0) e ∙ member-before h p q
+
+  pub member-node : p < n → Node l (getD f c 0)
+  member-node q =
+      let s = sequenceBy l f k in
+      let i = trail-inside (λ x. getD f x 0) (isNode l) (l .nodes) (getD f k 0) in
+      rw (member-is q) (is-node l (getD s p 0) (all-in (λ x. isNode l x ≡ true) s i (at-in s p (omega (arith, h .count)))))
+
+  -- one record more
+  pub record-next : (rec : List ℕ) → p < n → rec ≡ recordWords l w (getD f c 0)
+      → recordLines l w p (drop p (sequenceBy l f k)) ≡ recordLine p (getD f c 0) rec ++ recordLines l w (p + 1) (drop (p + 1) (sequenceBy l f k))
+  unfolding recordLines
+  record-next rec q r =
+      rw (drop-next (sequenceBy l f k) p (omega (arith, h .count)), r, member-is q, add-one)
+
+  pub record-end : n ≤ p → recordLines l w p (drop p (sequenceBy l f k)) ≡ []
+  unfolding recordLines
+  record-end q = rw (drop-end (sequenceBy l f k) p (omega (arith, h .count)))
+
+-- the line of a record, part by part
+pub record-parts : (p c : ℕ) (rec : List ℕ)
+    → recordLine p c rec ≡ decimal p ++ ((codes " " ++ decimal c) ++ (spaced rec ++ codes "\n"))
+unfolding recordLine spaced
+record-parts p c rec = ap (λ (t : List ℕ). decimal p ++ (codes " " ++ t)) (append-assoc (decimal c) (spaced rec) (codes "\n"))

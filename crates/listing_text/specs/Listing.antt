@@ -1,12 +1,12 @@
 -- The listing of a store.
-use Prim.Native.Nat.{ℕ, zero, suc}
+use Prim.Native.Nat.{ℕ, zero, suc, _<_}
 use mathlib.Core.List.{List, [], _∷_, _++_}
-use lib.ListN.{length, take, drop}
+use lib.ListN.{length, getD, take, drop}
 use Rattle.layout.specs.declared.Layout.{Layout}
-use Rattle.layout.specs.Words.{recordAt}
-use Rattle.lists.specs.Decide.{sequenceOf}
+use Rattle.layout.specs.Words.{ask, recordAt}
+use Rattle.lists.specs.Decide.{View, viewOf, countIn, sequenceIn, soundIn, sequenceOf}
 use Rattle.requests.specs.declared.Request.the-variants.{Check}
-use Rattle.requests.specs.Requests.{lookOf, withLook}
+use Rattle.requests.specs.Requests.{lookOf, withLook, Closed}
 use Rattle.listing_text.specs.Text.{codes, decimal}
 
 -- numbers, a space in front of each
@@ -47,6 +47,18 @@ refusedLine n = codes "refused " ++ (decimal n ++ codes "\n")
 -- "Else, for each list, .. last, `sound`"
 unfoldable pub soundLines : Layout → List ℕ → (ℕ → List ℕ) → List ℕ
 soundLines l w sequence = listsFrom l w sequence 0 (l .lists) ++ codes "sound\n"
+
+-- the listing by a view of the cells and the counts of the lists: question 6, and the lists
+unfoldable pub listedBy : Layout → List ℕ → View → (ℕ → ℕ) → List ℕ
+listedBy l w v count = ask (soundIn l v count) (refusedLine 6) (soundLines l w (sequenceIn l v))
+
+-- and by the words of a store with layout l
+abbrev pub listedOf : Layout → List ℕ → List ℕ
+listedOf l w = listedBy l w (viewOf l w) (countIn w)
+
+-- a forward column in which the links of each list lead round as many members as it counts
+abbrev pub AllClosed : Layout → List ℕ → List ℕ → Type 0
+AllClosed l f counts = (k : ℕ) → k < l .lists → Closed l f k (getD counts k 0)
 
 -- the listing of the words w: check's questions, and the lists of a sound store
 unfoldable pub listingOf : List ℕ → List ℕ

@@ -3,10 +3,16 @@
 //
 // Each function writes its text from place n of the buffer on, and answers the place behind it.
 use layout::Layout;
+use layout::Opened;
 ghost use mathlib.Core.Path.{_≡_};
 ghost use mathlib.Core.List.{[], _∷_, _++_};
-ghost use Rattle.listing_text.specs.Text.{codes, decimal, Wrote, Room};
-ghost use Rattle.listing_text.specs.Listing.{spaced, recordLine, listLine, refusedLine};
+ghost use Prim.Native.Nat.{_≤_};
+ghost use lib.ListN.{length, getD};
+ghost use Rattle.layout.specs.Words.{Laid, Node};
+ghost use Rattle.survey.specs.Survey.{columns, Columns};
+ghost use Rattle.requests.specs.Requests.{sequenceBy, Closed};
+ghost use Rattle.listing_text.specs.Text.{codes, decimal, overwritten, Wrote, Room, longest};
+ghost use Rattle.listing_text.specs.Listing.{spaced, recordLine, recordWords, recordLines, listLine, listLines, listsFrom, refusedLine, listedBy, listedOf, listingOf, AllClosed};
 
 // One character.
 fn put(out: &mut [u8], n: usize, b: u8) -> usize
@@ -106,4 +112,97 @@ fn refused_line(out: &mut [u8], n: usize, refusal: u16) -> usize
 {
     let a = labelled(out, n, b"refused ", refusal);
     put(out, a, b'\n')
+}
+
+// The record in node c, as a part of the lent words.
+fn record_of(words: &[u16], l: Layout, c: u16) -> &[u16]
+    requires { ⌜ Laid l (now words) × Node l c ⌝ }
+    ensures { λ r. ⌜ now r ≡ recordWords l (now (words .entry)) c ⌝ }
+{
+    let a = l.node(c) + Layout::LINK_WORDS;
+    let e = a + l.width as usize;
+    &words[a..e]
+}
+
+// The lines of the records of list k, which has so many: its cells are met along the forward links.
+fn record_lines(out: &mut [u8], n: usize, words: &[u16], forwards: &[u16], l: Layout, k: u16, count: u16) -> usize
+    requires { ⌜ Laid l (now words) × Closed l (now forwards) k count × Room n (recordLines l (now words) 0 (sequenceBy l (now forwards) k)) ⌝ }
+    ensures { λ r. ⌜ Wrote (now (out .entry)) n (recordLines l (now (words .entry)) 0 (sequenceBy l (now (forwards .entry)) k)) (now (out .exit)) r ⌝ }
+{
+    let mut m = n;
+    let mut c = k;
+    let mut p: u16 = 0;
+    while p < count {
+        c = forwards[c as usize];
+        m = record_line(out, m, p, c, record_of(words, l, c));
+        p += 1;
+    }
+    m
+}
+
+// All lines of list k.
+fn list_lines(out: &mut [u8], n: usize, words: &[u16], forwards: &[u16], l: Layout, k: u16, count: u16) -> usize
+    requires { ⌜ Laid l (now words) × Closed l (now forwards) k count × Room n (listLines l (now words) k (sequenceBy l (now forwards) k)) ⌝ }
+    ensures { λ r. ⌜ Wrote (now (out .entry)) n (listLines l (now (words .entry)) k (sequenceBy l (now (forwards .entry)) k)) (now (out .exit)) r ⌝ }
+{
+    let m = list_line(out, n, k, count);
+    record_lines(out, m, words, forwards, l, k, count)
+}
+
+// The lines of all lists.
+fn all_lists(out: &mut [u8], n: usize, words: &[u16], forwards: &[u16], counts: [u16; 8], l: Layout) -> usize
+    requires { ⌜ Laid l (now words) × AllClosed l (now forwards) counts × Room n (listsFrom l (now words) (sequenceBy l (now forwards)) 0 (l .lists)) ⌝ }
+    ensures { λ r. ⌜ Wrote (now (out .entry)) n (listsFrom l (now (words .entry)) (sequenceBy l (now (forwards .entry))) 0 (l .lists)) (now (out .exit)) r ⌝ }
+{
+    let mut m = n;
+    let mut k: u16 = 0;
+    while k < l.lists {
+        m = list_lines(out, m, words, forwards, l, k, counts[k as usize]);
+        k += 1;
+    }
+    m
+}
+
+// The listing by the columns and the counts: question 6, and the lists.
+fn listing_by(out: &mut [u8], words: &[u16], idents: &[u16], forwards: &[u16], backs: &[u16], counts: [u16; 8], l: Layout) -> usize
+    requires { ⌜ Laid l (now words) × Columns l (now idents) (now forwards) (now backs) × Room 0 (listedBy l (now words) (columns (now idents) (now forwards) (now backs)) (λ k. getD counts k 0)) ⌝ }
+    ensures { λ r. ⌜ Wrote (now (out .entry)) 0 (listedBy l (now (words .entry)) (columns (now (idents .entry)) (now (forwards .entry)) (now (backs .entry))) (λ k. getD counts k 0)) (now (out .exit)) r ⌝ }
+{
+    if !survey::sound(idents, forwards, backs, counts, l) {
+        return refused_line(out, 0, 6);
+    }
+    let m = all_lists(out, 0, words, forwards, counts, l);
+    text(out, m, b"sound\n")
+}
+
+// The same by the lent words, which are read into the columns.
+fn listing_in(out: &mut [u8], words: &[u16], l: Layout, idents: &mut [u16], forwards: &mut [u16], backs: &mut [u16]) -> usize
+    requires { ⌜ Laid l (now words) × Columns l (now idents) (now forwards) (now backs) × Room 0 (listedOf l (now words)) ⌝ }
+    ensures { λ r. ⌜ Wrote (now (out .entry)) 0 (listedOf l (now (words .entry))) (now (out .exit)) r ⌝ }
+{
+    survey::load(words, l, idents, forwards, backs);
+    listing_by(out, words, idents, forwards, backs, survey::all_counts(words, l), l)
+}
+
+fn listing_with(out: &mut [u8], words: &[u16], l: Layout) -> usize
+    requires { ⌜ Laid l (now words) × Room 0 (listedOf l (now words)) ⌝ }
+    ensures { λ r. ⌜ Wrote (now (out .entry)) 0 (listedOf l (now (words .entry))) (now (out .exit)) r ⌝ }
+{
+    let n = l.cell_count() as usize;
+    let mut idents = survey::column();
+    let mut forwards = survey::column();
+    let mut backs = survey::column();
+    listing_in(out, words, l, &mut idents[..n], &mut forwards[..n], &mut backs[..n])
+}
+
+// The listing of the lent words.
+pub fn listing(words: &[u16], out: &mut [u8]) -> usize
+    ensures answer { λ r. ⌜ r ≡ length (listingOf (now (words .entry))) ⌝ }
+    ensures bytes { λ _. ⌜ now (out .exit) ≡ overwritten (listingOf (now (words .entry))) (now (out .entry)) ⌝ }
+    ensures short { λ r. ⌜ r ≤ longest ⌝ }
+{
+    match layout::open(words) {
+        Opened::Refused(n) => refused_line(out, 0, n),
+        Opened::Open(l) => listing_with(out, words, l),
+    }
 }
