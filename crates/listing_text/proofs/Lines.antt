@@ -14,7 +14,7 @@ use Rattle.layout.proofs.Laws.{is-node, node-fits}
 use Rattle.requests.specs.Requests.{sequenceBy, Closed}
 use Rattle.requests.proofs.Laws.{before-in, member-before}
 use Rattle.listing_text.specs.Text.{codes, decimal}
-use Rattle.listing_text.specs.Listing.{spaced, recordLine, recordWords, recordLines}
+use Rattle.listing_text.specs.Listing.{spaced, recordLine, recordWords, recordLines, listLine, listLines, listsFrom}
 use Rattle.listing_text.proofs.Writing.{drop-next, drop-end}
 
 -- the numbers of a row from i on
@@ -62,3 +62,22 @@ pub record-parts : (p c : ℕ) (rec : List ℕ)
     → recordLine p c rec ≡ decimal p ++ ((codes " " ++ decimal c) ++ (spaced rec ++ codes "\n"))
 unfolding recordLine spaced
 record-parts p c rec = ap (λ (t : List ℕ). decimal p ++ (codes " " ++ t)) (append-assoc (decimal c) (spaced rec) (codes "\n"))
+
+-- the lines of a list whose links lead round, part by part
+pub list-parts : {l : Layout} {f : List ℕ} {k n : ℕ} → Closed l f k n → (w : List ℕ)
+    → listLines l w k (sequenceBy l f k) ≡ listLine k n ++ recordLines l w 0 (sequenceBy l f k)
+unfolding listLines
+list-parts h w = rw (h .count)
+
+-- the lists from k on
+module _ (l : Layout) (w : List ℕ) (sequence : ℕ → List ℕ) (k : ℕ) where
+  pub lists-next : k < l .lists
+      → listsFrom l w sequence k (l .lists - k) ≡ listLines l w k (sequence k) ++ listsFrom l w sequence (k + 1) (l .lists - (k + 1))
+  unfolding listsFrom
+  lists-next h =
+      let m : l .lists - k ≡ suc (l .lists - suc k) = omega arith in
+      rw (m, add-one)
+
+  pub lists-end : l .lists ≤ k → listsFrom l w sequence k (l .lists - k) ≡ []
+  unfolding listsFrom
+  lists-end h = let m : l .lists - k ≡ 0 = omega arith in rw m

@@ -95,9 +95,10 @@ decimal-first n = each (λ n s. (1 ≤ length s) × (1 ≤ n → 48 < getD s 0 0
   where
     more : (n : ℕ) (s : List ℕ) → 10 ≤ n → (1 ≤ length s) × (1 ≤ n / 10 → 48 < getD s 0 0)
         → (1 ≤ length (s ++ (digit (n % 10) ∷ []))) × (1 ≤ n → 48 < getD (s ++ (digit (n % 10) ∷ [])) 0 0)
-    more n s h e =
-        (omega (arith, e .0, length-append s (digit (n % 10) ∷ [])),
-        λ g. omega (arith, e .0, e .1 (omega arith), List·getD-append s (digit (n % 10) ∷ []) 0 0 (e .0)))
+    more n s h e = (
+      omega (arith, e .0, length-append s (digit (n % 10) ∷ [])),
+      λ g. omega (arith, e .0, e .1 (omega arith), List·getD-append s (digit (n % 10) ∷ []) 0 0 (e .0)),
+    )
 
 -- a number of 16 bits has at most 5
 few : (k p n : ℕ) → n < 10 * p → ((m : ℕ) → m < p → length (decimal m) ≤ k) → 1 ≤ k → length (decimal n) ≤ suc k
@@ -113,8 +114,8 @@ pub decimal-short : (n : ℕ) → n < 65536 → length (decimal n) ≤ 5
 decimal-short n h =
     few 4 10000 n (omega arith)
     (λ a ha. few 3 1000 a ha
-      (λ b hb. few 2 100 b hb
-        (λ c hc. few 1 10 c hc (λ d hd. rw (decimal-one d hd) (omega arith)) (omega arith)) (omega arith)) (omega arith)) (omega arith)
+    (λ b hb. few 2 100 b hb
+    (λ c hc. few 1 10 c hc (λ d hd. rw (decimal-one d hd) (omega arith)) (omega arith)) (omega arith)) (omega arith)) (omega arith)
 
 -- two texts, one behind the other
 sets-append : (o : List ℕ) (n : ℕ) (s t : List ℕ) → sets (sets o n s) (n + length s) t ≡ sets o n (s ++ t)
@@ -130,9 +131,9 @@ pub wrote-append : {o o′ o″ : List ℕ} {n m r : ℕ} {s t : List ℕ} → W
 wrote-append {o} {o′} {o″} {n} {m} {r} {s} {t} a b =
     record {
       bytes =
-        b .bytes ∙ ap (λ (x : List ℕ). sets x m t) (a .bytes) ∙ ap (λ (x : ℕ). sets (sets o n s) x t) (a .next)
-        ∙ sets-append o n s t;
-      next = omega (arith, a .next, b .next, length-append s t)
+          b .bytes ∙ ap (λ (x : List ℕ). sets x m t) (a .bytes) ∙ ap (λ (x : ℕ). sets (sets o n s) x t) (a .next)
+          ∙ sets-append o n s t;
+      next = omega (arith, a .next, b .next, length-append s t);
     }
 
 -- one character, in the buffer or behind it
@@ -206,3 +207,8 @@ drop-next t i h = rw add-one (drop-cons t i 0 h)
 
 pub drop-end : (t : List ℕ) (i : ℕ) → length t ≤ i → drop i t ≡ []
 drop-end t i h = drop-of-length-le t h
+
+-- a whole text u, written as t from the front on: the answer, the bytes, and that it is no longer than there is room
+pub wrote-all : {o o′ : List ℕ} {m : ℕ} {t u : List ℕ} → u ≡ t → Room 0 t → Wrote o 0 t o′ m
+    → (m ≡ length u) × ((o′ ≡ overwritten u o) × (m ≤ longest))
+wrote-all e h w = let r = wrote-over w in rw e (r .0, (r .1, omega (arith, r .0, h .ends)))

@@ -125,7 +125,15 @@ fn record_of(words: &[u16], l: Layout, c: u16) -> &[u16]
 }
 
 // The lines of the records of list k, which has so many: its cells are met along the forward links.
-fn record_lines(out: &mut [u8], n: usize, words: &[u16], forwards: &[u16], l: Layout, k: u16, count: u16) -> usize
+fn record_lines(
+    out: &mut [u8],
+    n: usize,
+    words: &[u16],
+    forwards: &[u16],
+    l: Layout,
+    k: u16,
+    count: u16,
+) -> usize
     requires { ⌜ Laid l (now words) × Closed l (now forwards) k count × Room n (recordLines l (now words) 0 (sequenceBy l (now forwards) k)) ⌝ }
     ensures { λ r. ⌜ Wrote (now (out .entry)) n (recordLines l (now (words .entry)) 0 (sequenceBy l (now (forwards .entry)) k)) (now (out .exit)) r ⌝ }
 {
@@ -141,7 +149,15 @@ fn record_lines(out: &mut [u8], n: usize, words: &[u16], forwards: &[u16], l: La
 }
 
 // All lines of list k.
-fn list_lines(out: &mut [u8], n: usize, words: &[u16], forwards: &[u16], l: Layout, k: u16, count: u16) -> usize
+fn list_lines(
+    out: &mut [u8],
+    n: usize,
+    words: &[u16],
+    forwards: &[u16],
+    l: Layout,
+    k: u16,
+    count: u16,
+) -> usize
     requires { ⌜ Laid l (now words) × Closed l (now forwards) k count × Room n (listLines l (now words) k (sequenceBy l (now forwards) k)) ⌝ }
     ensures { λ r. ⌜ Wrote (now (out .entry)) n (listLines l (now (words .entry)) k (sequenceBy l (now (forwards .entry)) k)) (now (out .exit)) r ⌝ }
 {
@@ -150,7 +166,14 @@ fn list_lines(out: &mut [u8], n: usize, words: &[u16], forwards: &[u16], l: Layo
 }
 
 // The lines of all lists.
-fn all_lists(out: &mut [u8], n: usize, words: &[u16], forwards: &[u16], counts: [u16; 8], l: Layout) -> usize
+fn all_lists(
+    out: &mut [u8],
+    n: usize,
+    words: &[u16],
+    forwards: &[u16],
+    counts: [u16; 8],
+    l: Layout,
+) -> usize
     requires { ⌜ Laid l (now words) × AllClosed l (now forwards) counts × Room n (listsFrom l (now words) (sequenceBy l (now forwards)) 0 (l .lists)) ⌝ }
     ensures { λ r. ⌜ Wrote (now (out .entry)) n (listsFrom l (now (words .entry)) (sequenceBy l (now (forwards .entry))) 0 (l .lists)) (now (out .exit)) r ⌝ }
 {
@@ -164,7 +187,15 @@ fn all_lists(out: &mut [u8], n: usize, words: &[u16], forwards: &[u16], counts: 
 }
 
 // The listing by the columns and the counts: question 6, and the lists.
-fn listing_by(out: &mut [u8], words: &[u16], idents: &[u16], forwards: &[u16], backs: &[u16], counts: [u16; 8], l: Layout) -> usize
+fn listing_by(
+    out: &mut [u8],
+    words: &[u16],
+    idents: &[u16],
+    forwards: &[u16],
+    backs: &[u16],
+    counts: [u16; 8],
+    l: Layout,
+) -> usize
     requires { ⌜ Laid l (now words) × Columns l (now idents) (now forwards) (now backs) × Room 0 (listedBy l (now words) (columns (now idents) (now forwards) (now backs)) (λ k. getD counts k 0)) ⌝ }
     ensures { λ r. ⌜ Wrote (now (out .entry)) 0 (listedBy l (now (words .entry)) (columns (now (idents .entry)) (now (forwards .entry)) (now (backs .entry))) (λ k. getD counts k 0)) (now (out .exit)) r ⌝ }
 {
@@ -176,12 +207,27 @@ fn listing_by(out: &mut [u8], words: &[u16], idents: &[u16], forwards: &[u16], b
 }
 
 // The same by the lent words, which are read into the columns.
-fn listing_in(out: &mut [u8], words: &[u16], l: Layout, idents: &mut [u16], forwards: &mut [u16], backs: &mut [u16]) -> usize
+fn listing_in(
+    out: &mut [u8],
+    words: &[u16],
+    l: Layout,
+    idents: &mut [u16],
+    forwards: &mut [u16],
+    backs: &mut [u16],
+) -> usize
     requires { ⌜ Laid l (now words) × Columns l (now idents) (now forwards) (now backs) × Room 0 (listedOf l (now words)) ⌝ }
     ensures { λ r. ⌜ Wrote (now (out .entry)) 0 (listedOf l (now (words .entry))) (now (out .exit)) r ⌝ }
 {
     survey::load(words, l, idents, forwards, backs);
-    listing_by(out, words, idents, forwards, backs, survey::all_counts(words, l), l)
+    listing_by(
+        out,
+        words,
+        idents,
+        forwards,
+        backs,
+        survey::all_counts(words, l),
+        l,
+    )
 }
 
 fn listing_with(out: &mut [u8], words: &[u16], l: Layout) -> usize
@@ -192,7 +238,14 @@ fn listing_with(out: &mut [u8], words: &[u16], l: Layout) -> usize
     let mut idents = survey::column();
     let mut forwards = survey::column();
     let mut backs = survey::column();
-    listing_in(out, words, l, &mut idents[..n], &mut forwards[..n], &mut backs[..n])
+    listing_in(
+        out,
+        words,
+        l,
+        &mut idents[..n],
+        &mut forwards[..n],
+        &mut backs[..n],
+    )
 }
 
 // The listing of the lent words.

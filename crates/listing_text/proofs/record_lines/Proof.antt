@@ -51,7 +51,7 @@ record-line-requires c κs =
     let s = h .before .before .before .before in
     writing-room _ _
     (rw (record-next (s .pre .1) (s .args .words .now) (h .loop .p) (h .loop .c) (h .loop .inv .1) (c .record-of .result .now)
-      (c .before .before .before .loop-test .taken) (c .record-of .ensures)) at (h .loop .inv .2))
+    (c .before .before .before .loop-test .taken) (c .record-of .ensures)) at (h .loop .inv .2))
 
 add-p : tie.Need-add-p Inv-loop μ-loop
 add-p c = search needs
@@ -63,13 +63,14 @@ loop-again : tie.Need-loop-again Inv-loop μ-loop
 loop-again c =
     let h = c .before .before .before .before .before .before .before in
     let s = h .before .before .before .before in
-    let t = c .before .before .before .before .before .before .loop-test .taken in
-    (omega arith,
-    rw add-one (member-is (s .pre .1) (s .args .words .now) (h .loop .p) (h .loop .c) (h .loop .inv .1) t),
-    writing-step _
-    (rw (record-next (s .pre .1) (s .args .words .now) (h .loop .p) (h .loop .c) (h .loop .inv .1) (c .before .before .before .record-of .result .now) t
-      (c .before .before .before .record-of .ensures)) at (h .loop .inv .2))
-    (c .before .before .record-line .ensures))
+    let t = c .before .before .before .before .before .before .loop-test .taken in (
+      omega arith,
+      rw add-one (member-is (s .pre .1) (s .args .words .now) (h .loop .p) (h .loop .c) (h .loop .inv .1) t),
+      writing-step _
+          (rw (record-next (s .pre .1) (s .args .words .now) (h .loop .p) (h .loop .c) (h .loop .inv .1) (c .before .before .before .record-of .result .now) t
+          (c .before .before .before .record-of .ensures)) at (h .loop .inv .2))
+          (c .before .before .record-line .ensures),
+    )
 
 same-length : tie.Need-same-length Inv-loop μ-loop
 same-length c = writing-length (c .before .loop .inv .2)

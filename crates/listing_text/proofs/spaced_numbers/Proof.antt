@@ -37,10 +37,11 @@ loop-less c = search needs
 
 loop-again : tie.Need-loop-again Inv-loop μ-loop
 loop-again c =
-    let h = c .before .before .before .before .before .before in
-    (omega arith,
-    writing-step _ (rw (spaced-next (h .before .before .before .args .row .now) (h .loop .i) (c .before .before .before .before .before .loop-test .taken)) at (h .loop .inv .1))
-    (c .before .before .spaced-number .ensures))
+    let h = c .before .before .before .before .before .before in (
+      omega arith,
+      writing-step _ (rw (spaced-next (h .before .before .before .args .row .now) (h .loop .i) (c .before .before .before .before .before .loop-test .taken)) at (h .loop .inv .1))
+          (c .before .before .spaced-number .ensures),
+    )
 
 same-length : tie.Need-same-length Inv-loop μ-loop
 same-length c = writing-length (c .before .loop .inv .1)

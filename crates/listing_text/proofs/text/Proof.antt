@@ -33,10 +33,11 @@ loop-less c = omega arith
 loop-again : tie.Need-loop-again Inv-loop μ-loop
 loop-again c =
     let h = c .before .before .before .before .before .before in
-    let t = h .before .before .before .args .t .now in
-    (omega arith,
-    writing-step _ (rw (drop-next t (h .loop .i) (c .before .before .before .before .before .loop-test .taken)) at (h .loop .inv .1))
-    (c .before .before .put .ensures))
+    let t = h .before .before .before .args .t .now in (
+      omega arith,
+      writing-step _ (rw (drop-next t (h .loop .i) (c .before .before .before .before .before .loop-test .taken)) at (h .loop .inv .1))
+          (c .before .before .put .ensures),
+    )
 
 same-length : tie.Need-same-length Inv-loop μ-loop
 same-length c = writing-length (c .before .loop .inv .1)

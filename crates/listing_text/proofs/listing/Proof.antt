@@ -1,0 +1,75 @@
+-- `listing` writes the refusal of questions 1 to 4, or the listing by the layout.
+use borrow.Author.Needs.{needs}
+use Prim.Native.Nat.{ℕ, _<_}
+use mathlib.Core.Path.{_≡_, sym, _∙_}
+use native.Mathlib.Omega.{arith}
+use lib.ListN.{getD}
+use Rattle.layout.specs.declared.Opened.the-variants.{Open, Refused}
+use Rattle.layout.specs.Words.{opened, Laid}
+use Rattle.lists.specs.Decide.{viewOf, countIn}
+use Rattle.requests.proofs.Laws.{opened-laid}
+use Rattle.listing_text.specs.Text.{Room}
+use Rattle.listing_text.specs.Listing.{refusedLine, listedOf}
+use Rattle.listing_text.proofs.Writing.{wrote-all}
+use Rattle.listing_text.proofs.Listed.{listing-shut, listing-open, refused-room, listed-room}
+use Rattle.listing_text.proofs.listing.Statement.{statement}
+use Rattle.listing_text.proofs.listing.Tie as tie
+
+-- the store is opened, and the listing by its layout is not too long
+is-open : (c : tie.After-l) → opened (c .before .before .before .before .before .args .words .now) ≡ Open (c .l .given .0 .0)
+is-open c = sym (c .before .before .«open» .ensures) ∙ c .l .given .1
+
+laid : (c : tie.After-l) → Laid (c .l .given .0 .0) (c .before .before .before .before .before .args .words .now)
+laid c = opened-laid (c .before .before .before .before .before .args .words .now) (c .l .given .0 .0) (is-open c)
+
+open-room : (c : tie.After-l) → Room 0 (listedOf (c .l .given .0 .0) (c .before .before .before .before .before .args .words .now))
+open-room c =
+    let w = c .before .before .before .before .before .args .words .now in
+    let l = c .l .given .0 .0 in
+    listed-room l w (laid c .inRange) (λ i. omega (arith, c .before .before .before .before .shared-slice-known .given i)) (viewOf l w) (countIn w)
+
+shut-room : (c : tie.After-known-told) → Room 0 (refusedLine (c .before .n .given .0 .0))
+shut-room c = refused-room (c .before .n .given .0 .0) (omega (arith, c .known-told .given))
+
+open-requires : tie.Need-open-requires
+open-requires c κs = search needs
+
+enum-known-n : tie.Need-enum-known-n
+enum-known-n c = search needs
+
+refused-line-requires : tie.Need-refused-line-requires
+refused-line-requires c κs = shut-room (c .before)
+
+enum-known-l : tie.Need-enum-known-l
+enum-known-l c = search needs
+
+listing-with-requires : tie.Need-listing-with-requires
+listing-with-requires c κs = (laid (c .before .before), open-room (c .before .before))
+
+same-length : tie.Need-same-length
+same-length c = search needs
+
+returns : tie.Need-returns
+returns c =
+    let n = c .before .before .before .before .before in
+    wrote-all (listing-shut _ (sym (n .before .before .«open» .ensures) ∙ n .n .given .1)) (shut-room (c .before .before .before .before)) (c .before .before .refused-line .ensures)
+
+same-length-2 : tie.Need-same-length-2
+same-length-2 c = search needs
+
+returns-2 : tie.Need-returns-2
+returns-2 c = let l = c .before .before .before .before .before in wrote-all (listing-open _ (is-open l)) (open-room l) (c .before .before .listing-with .ensures)
+
+pub listing-spec : {M : Type 1} → statement M
+listing-spec =
+    tie.close
+    (tie.spec
+    open-requires
+    enum-known-n
+    refused-line-requires
+    enum-known-l
+    listing-with-requires
+    same-length
+    returns
+    same-length-2
+    returns-2)
