@@ -1,12 +1,14 @@
 -- The listing of a store.
-use Prim.Native.Nat.{ℕ, zero, suc, _<_}
+use Prim.Native.Nat.{ℕ, zero, suc, _%_, _<_}
 use mathlib.Core.List.{List, [], _∷_, _++_}
+use lib.Dec.{eqb, leb}
 use lib.ListN.{length, getD, take, drop}
 use Rattle.layout.specs.declared.Layout.{Layout}
 use Rattle.layout.specs.Words.{ask, recordAt}
 use Rattle.lists.specs.Decide.{View, viewOf, countIn, sequenceIn, soundIn, sequenceOf}
 use Rattle.requests.specs.declared.Request.the-variants.{Check}
 use Rattle.requests.specs.Requests.{lookOf, withLook, Closed}
+use Rattle.listing_text.specs.Bytes.{wordsIn}
 use Rattle.listing_text.specs.Text.{codes, decimal}
 
 -- numbers, a space in front of each
@@ -63,3 +65,10 @@ AllClosed l f counts = (k : ℕ) → k < l .lists → Closed l f k (getD counts 
 -- the listing of the words w: check's questions, and the lists of a sound store
 unfoldable pub listingOf : List ℕ → List ℕ
 listingOf w = withLook (lookOf w Check) refusedLine (λ l t. soundLines l w (sequenceOf l w))
+
+-- "It reads a store in that byte form .. More than 64,080 bytes, or an odd number, gives `refused 4`"
+unfoldable pub byteListing : List ℕ → List ℕ
+byteListing bytes =
+    ask (leb (length bytes) 64080) (refusedLine 4)
+    (ask (eqb (length bytes % 2) 0) (refusedLine 4)
+    (listingOf (wordsIn bytes)))

@@ -6,13 +6,17 @@ use layout::Layout;
 use layout::Opened;
 ghost use mathlib.Core.Path.{_≡_};
 ghost use mathlib.Core.List.{[], _∷_, _++_};
-ghost use Prim.Native.Nat.{_≤_};
+ghost use Prim.Native.Nat.{_+_, _*_, _≤_};
 ghost use lib.ListN.{length, getD};
 ghost use Rattle.layout.specs.Words.{Laid, Node};
 ghost use Rattle.survey.specs.Survey.{columns, Columns};
 ghost use Rattle.requests.specs.Requests.{sequenceBy, Closed};
 ghost use Rattle.listing_text.specs.Text.{codes, decimal, overwritten, Wrote, Room, longest};
-ghost use Rattle.listing_text.specs.Listing.{spaced, recordLine, recordWords, recordLines, listLine, listLines, listsFrom, refusedLine, listedBy, listedOf, listingOf, AllClosed};
+ghost use Rattle.listing_text.specs.Bytes.{wordsIn};
+ghost use Rattle.listing_text.specs.Listing.{spaced, recordLine, recordWords, recordLines, listLine, listLines, listsFrom, refusedLine, listedBy, listedOf, listingOf, byteListing, AllClosed};
+
+// The most bytes of a store, two for each word.
+pub const MAX_BYTES: usize = 64080;
 
 // One character.
 fn put(out: &mut [u8], n: usize, b: u8) -> usize
@@ -258,4 +262,58 @@ pub fn listing(words: &[u16], out: &mut [u8]) -> usize
         Opened::Refused(n) => refused_line(out, 0, n),
         Opened::Open(l) => listing_with(out, words, l),
     }
+}
+
+// The word of two bytes.
+fn word(low: u8, high: u8) -> u16
+    ensures { λ r. ⌜ r ≡ low + 256 * high ⌝ }
+{
+    low as u16 + 256 * (high as u16)
+}
+
+// The words of the bytes.
+fn decode(bytes: &[u8], words: &mut [u16])
+    requires { ⌜ length (now bytes) ≡ 2 * length (now words) ⌝ }
+    ensures { λ _. ⌜ now (words .exit) ≡ wordsIn (now (bytes .entry)) ⌝ }
+{
+    let mut i: usize = 0;
+    while i < words.len() {
+        words[i] = word(bytes[2 * i], bytes[2 * i + 1]);
+        i += 1;
+    }
+}
+
+// The listing of the words of the bytes, which are decoded into the lent words.
+fn listing_through(bytes: &[u8], words: &mut [u16], out: &mut [u8]) -> usize
+    requires { ⌜ length (now bytes) ≡ 2 * length (now words) ⌝ }
+    ensures answer { λ r. ⌜ r ≡ length (listingOf (wordsIn (now (bytes .entry)))) ⌝ }
+    ensures bytes { λ _. ⌜ now (out .exit) ≡ overwritten (listingOf (wordsIn (now (bytes .entry)))) (now (out .entry)) ⌝ }
+    ensures short { λ r. ⌜ r ≤ longest ⌝ }
+{
+    decode(bytes, words);
+    listing(words, out)
+}
+
+// The most words of a store.
+fn most_words() -> [u16; 32040]
+    ensures { λ r. ⌜ 32040 ≡ length r ⌝ }
+{
+    [0; 32040]
+}
+
+// The listing of a store in byte form.
+pub fn listing_of_bytes(bytes: &[u8], out: &mut [u8]) -> usize
+    ensures answer { λ r. ⌜ r ≡ length (byteListing (now (bytes .entry))) ⌝ }
+    ensures bytes { λ _. ⌜ now (out .exit) ≡ overwritten (byteListing (now (bytes .entry))) (now (out .entry)) ⌝ }
+    ensures short { λ r. ⌜ r ≤ longest ⌝ }
+{
+    if MAX_BYTES < bytes.len() {
+        return refused_line(out, 0, 4);
+    }
+    if bytes.len() % 2 != 0 {
+        return refused_line(out, 0, 4);
+    }
+    let mut words = most_words();
+    let n = bytes.len() / 2;
+    listing_through(bytes, &mut words[..n], out)
 }
