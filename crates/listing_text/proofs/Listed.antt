@@ -1,5 +1,5 @@
 -- Laws of a whole listing: its cases, and that it is never too long.
-use Prim.Native.Nat.{ℕ, zero, suc, _+_, _*_, _-_, _≤_, _<_}
+use Prim.Native.Nat.{ℕ, zero, suc, _+_, _*_, _%_, _≤_, _<_}
 use mathlib.Core.Path.{_≡_, refl, sym, ap, _∙_}
 use mathlib.Core.List.{List, [], _∷_, _++_}
 use mathlib.Core.Bool.{Bool, true, false, _&&_, and-eq-true-iff}
@@ -8,7 +8,7 @@ use native.Mathlib.Numerals.{add-one}
 use lib.Dec.{eqb}
 use lib.ListN.{length, getD, take, drop, length-append, length-take}
 use lib.Seq.{getD-take, getD-drop}
-use borrow.Author.Tests.{eqb-true}
+use borrow.Author.Tests.{le-leb, lt-leb, eq-eqb, ne-eqb, eqb-true}
 use Rattle.sequences.proofs.Trail.{trail-length}
 use Rattle.layout.specs.declared.Layout.{Layout}
 use Rattle.layout.specs.declared.Opened.the-variants as O
@@ -19,8 +19,9 @@ use Rattle.survey.proofs.Laws.{loaded-view, sound-loaded, before-cell, members-
 use Rattle.requests.specs.declared.Request.the-variants.{Check}
 use Rattle.requests.specs.Requests.{siteIn, lookOf}
 use Rattle.requests.proofs.Laws.{sound-closed}
-use Rattle.listing_text.specs.Text.{codes, decimal, Room, longest}
-use Rattle.listing_text.specs.Listing.{spaced, recordLine, recordWords, recordLines, listLine, listLines, listsFrom, refusedLine, soundLines, listedBy, listedOf, listingOf, AllClosed}
+use Rattle.listing_text.specs.Bytes.{wordsIn}
+use Rattle.listing_text.specs.Text.{codes, decimal, Room}
+use Rattle.listing_text.specs.Listing.{spaced, recordLine, recordWords, recordLines, listLine, listLines, listsFrom, refusedLine, soundLines, listedBy, listedOf, listingOf, byteListing}
 use Rattle.listing_text.proofs.Writing.{decimal-short}
 
 -- the cases of a listing
@@ -173,3 +174,17 @@ module _ (l : Layout) (w : List ℕ) (r : InRange l) (small : (i : ℕ) → getD
                     r .nodes,
                   );
             })
+
+-- the cases of a listing of bytes
+module _ (bytes : List ℕ) where
+  pub bytes-long : 64080 < length bytes → byteListing bytes ≡ refusedLine 4
+  unfolding byteListing
+  bytes-long h = rw (lt-leb (length bytes) 64080 h)
+
+  pub bytes-odd : length bytes ≤ 64080 → (length bytes % 2 ≡ 0 → ⊥) → byteListing bytes ≡ refusedLine 4
+  unfolding byteListing
+  bytes-odd h e = rw (le-leb (length bytes) 64080 h, ne-eqb (length bytes % 2) 0 e)
+
+  pub bytes-even : length bytes ≤ 64080 → length bytes % 2 ≡ 0 → byteListing bytes ≡ listingOf (wordsIn bytes)
+  unfolding byteListing
+  bytes-even h e = rw (le-leb (length bytes) 64080 h, eq-eqb (length bytes % 2) 0 e)
