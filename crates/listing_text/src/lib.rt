@@ -18,6 +18,9 @@ ghost use Rattle.listing_text.specs.Listing.{spaced, recordLine, recordW
 // The most bytes of a store, two for each word.
 pub const MAX_BYTES: usize = 64080;
 
+// The most bytes of a listing.
+pub const LONGEST: usize = 180190;
+
 // One character.
 fn put(out: &mut [u8], n: usize, b: u8) -> usize
     requires { ⌜ Room n (b ∷ []) ⌝ }
