@@ -19,7 +19,7 @@ use Rattle.survey.proofs.Laws.{loaded-view, sound-loaded, before-cell, members-
 use Rattle.requests.specs.declared.Request.the-variants.{Check}
 use Rattle.requests.specs.Requests.{siteIn, lookOf}
 use Rattle.requests.proofs.Laws.{sound-closed}
-use Rattle.listing_text.specs.Bytes.{wordsIn}
+use Rattle.byte_form.specs.Bytes.{wordsIn}
 use Rattle.listing_text.specs.Text.{codes, decimal, Room}
 use Rattle.listing_text.specs.Listing.{spaced, recordLine, recordWords, recordLines, listLine, listLines, listsFrom, refusedLine, soundLines, listedBy, listedOf, listingOf, byteListing}
 use Rattle.listing_text.proofs.Writing.{decimal-short}

@@ -8,7 +8,7 @@ use Rattle.layout.specs.Words.{ask, recordAt}
 use Rattle.lists.specs.Decide.{View, viewOf, countIn, sequenceIn, soundIn, sequenceOf}
 use Rattle.requests.specs.declared.Request.the-variants.{Check}
 use Rattle.requests.specs.Requests.{lookOf, withLook, Closed}
-use Rattle.listing_text.specs.Bytes.{wordsIn}
+use Rattle.byte_form.specs.Bytes.{wordsIn}
 use Rattle.listing_text.specs.Text.{codes, decimal}
 
 -- numbers, a space in front of each

@@ -6,13 +6,13 @@ use layout::Layout;
 use layout::Opened;
 ghost use mathlib.Core.Path.{_≡_};
 ghost use mathlib.Core.List.{[], _∷_, _++_};
-ghost use Prim.Native.Nat.{_+_, _*_, _≤_};
+ghost use Prim.Native.Nat.{_*_, _≤_};
 ghost use lib.ListN.{length, getD};
 ghost use Rattle.layout.specs.Words.{Laid, Node};
 ghost use Rattle.survey.specs.Survey.{columns, Columns};
 ghost use Rattle.requests.specs.Requests.{sequenceBy, Closed};
 ghost use Rattle.listing_text.specs.Text.{codes, decimal, overwritten, Wrote, Room, longest};
-ghost use Rattle.listing_text.specs.Bytes.{wordsIn};
+ghost use Rattle.byte_form.specs.Bytes.{wordsIn};
 ghost use Rattle.listing_text.specs.Listing.{spaced, recordLine, recordWords, recordLines, listLine, listLines, listsFrom, refusedLine, listedBy, listedOf, listingOf, byteListing, AllClosed};
 
 // The most bytes of a store, two for each word.
@@ -267,13 +267,6 @@ pub fn listing(words: &[u16], out: &mut [u8]) -> usize
     }
 }
 
-// The word of two bytes.
-fn word(low: u8, high: u8) -> u16
-    ensures { λ r. ⌜ r ≡ low + 256 * high ⌝ }
-{
-    low as u16 + 256 * (high as u16)
-}
-
 // The words of the bytes.
 fn decode(bytes: &[u8], words: &mut [u16])
     requires { ⌜ length (now bytes) ≡ 2 * length (now words) ⌝ }
@@ -281,7 +274,7 @@ fn decode(bytes: &[u8], words: &mut [u16])
 {
     let mut i: usize = 0;
     while i < words.len() {
-        words[i] = word(bytes[2 * i], bytes[2 * i + 1]);
+        words[i] = byte_form::word(bytes, i);
         i += 1;
     }
 }
