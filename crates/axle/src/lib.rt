@@ -29,15 +29,18 @@ fn code(answer: Answer) -> u32
     }
 }
 
-// Writes the words of a formatted store.
+// Writes the words of a formatted store: the head and the headers, then 0.
 fn fill(bytes: &mut [u8], l: Layout)
     requires { ⌜ Laid l (wordsIn (now bytes)) ⌝ }
     ensures { λ _. ⌜ now (bytes .exit) ≡ wholeBytes (formatPlan l (wordsIn (now (bytes .entry)))) (now (bytes .entry)) ⌝ }
 {
-    let n = l.size();
     let mut i: usize = 0;
-    while i < n {
+    while i < Layout::header(l.lists) {
         byte_form::put(bytes, i, l.initial(i));
+        i += 1;
+    }
+    while i < l.size() {
+        byte_form::put(bytes, i, 0);
         i += 1;
     }
 }
