@@ -11,7 +11,7 @@ ghost use Prim.Native.Nat.{_+_, _≤_};
 ghost use lib.ListN.{length, take};
 ghost use Rattle.stores.specs.Stores.{answerOf};
 ghost use Rattle.byte_form.specs.Bytes.{wordsIn, bytesAfter};
-ghost use Rattle.layout.specs.Words.{InRange, Laid, sizeOf};
+ghost use Rattle.layout.specs.Words.{InRange, Laid, cellCount, sizeOf};
 ghost use Rattle.survey.specs.Survey.{Columns};
 ghost use Rattle.recovery.specs.Plan.{recoverOf, recoverPlan};
 ghost use Rattle.mending.specs.Mending.{listed, Listed, planOf};
@@ -210,8 +210,21 @@ fn recover_with(
     make(bytes, f, l, forwards, backs, allowance)
 }
 
-// Recovers a store of this layout.
-fn recover_in(bytes: &mut [u8], l: Layout, allowance: u16) -> Answer
+// The same, with short columns.
+fn recover_small(bytes: &mut [u8], l: Layout, allowance: u16) -> Answer
+    requires { ⌜ Laid l (wordsIn (now bytes)) × (cellCount l ≤ 256) ⌝ }
+    ensures answer { λ r. ⌜ r ≡ answerOf (recoverOf l (wordsIn (now (bytes .entry)))) allowance ⌝ }
+    ensures bytes { λ _. ⌜ now (bytes .exit) ≡ bytesAfter (recoverOf l (wordsIn (now (bytes .entry)))) allowance (now (bytes .entry)) ⌝ }
+{
+    let n = l.cell_count() as usize;
+    let mut idents = survey::short_column();
+    let mut forwards = survey::short_column();
+    let mut backs = survey::short_column();
+    recover_with(bytes, l, &mut idents[..n], &mut forwards[..n], &mut backs[..n], allowance)
+}
+
+// The same, with whole columns.
+fn recover_large(bytes: &mut [u8], l: Layout, allowance: u16) -> Answer
     requires { ⌜ Laid l (wordsIn (now bytes)) ⌝ }
     ensures answer { λ r. ⌜ r ≡ answerOf (recoverOf l (wordsIn (now (bytes .entry)))) allowance ⌝ }
     ensures bytes { λ _. ⌜ now (bytes .exit) ≡ bytesAfter (recoverOf l (wordsIn (now (bytes .entry)))) allowance (now (bytes .entry)) ⌝ }
@@ -221,6 +234,19 @@ fn recover_in(bytes: &mut [u8], l: Layout, allowance: u16) -> Answer
     let mut forwards = survey::column();
     let mut backs = survey::column();
     recover_with(bytes, l, &mut idents[..n], &mut forwards[..n], &mut backs[..n], allowance)
+}
+
+// Recovers a store of this layout.
+fn recover_in(bytes: &mut [u8], l: Layout, allowance: u16) -> Answer
+    requires { ⌜ Laid l (wordsIn (now bytes)) ⌝ }
+    ensures answer { λ r. ⌜ r ≡ answerOf (recoverOf l (wordsIn (now (bytes .entry)))) allowance ⌝ }
+    ensures bytes { λ _. ⌜ now (bytes .exit) ≡ bytesAfter (recoverOf l (wordsIn (now (bytes .entry)))) allowance (now (bytes .entry)) ⌝ }
+{
+    if l.cell_count() <= survey::SHORT {
+        recover_small(bytes, l, allowance)
+    } else {
+        recover_large(bytes, l, allowance)
+    }
 }
 
 // Recovers any store.

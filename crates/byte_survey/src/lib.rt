@@ -9,7 +9,7 @@ ghost use mathlib.Core.Path.{_≡_};
 ghost use Prim.Native.Nat.{ℕ, _<_, _≤_};
 ghost use lib.ListN.{length, getD};
 ghost use Rattle.byte_form.specs.Bytes.{wordsIn};
-ghost use Rattle.layout.specs.Words.{Laid, opened, countAt};
+ghost use Rattle.layout.specs.Words.{Laid, cellCount, opened, countAt};
 ghost use Rattle.survey.specs.Survey.{Columns, Loaded};
 ghost use Rattle.requests.specs.Requests.{siteOf, lookOf};
 
@@ -77,7 +77,20 @@ fn site_in(bytes: &[u8], l: Layout, q: Request, idents: &mut [u16], forwards: &m
     requests::site_by(idents, forwards, backs, all_counts(bytes, l), l, q)
 }
 
-fn site_of(bytes: &[u8], l: Layout, q: Request) -> Sited
+// The same, with short columns.
+fn site_small(bytes: &[u8], l: Layout, q: Request) -> Sited
+    requires { ⌜ Laid l (wordsIn (now bytes)) × (cellCount l ≤ 256) ⌝ }
+    ensures { λ r. ⌜ r ≡ siteOf l (wordsIn (now (bytes .entry))) q ⌝ }
+{
+    let n = l.cell_count() as usize;
+    let mut idents = survey::short_column();
+    let mut forwards = survey::short_column();
+    let mut backs = survey::short_column();
+    site_in(bytes, l, q, &mut idents[..n], &mut forwards[..n], &mut backs[..n])
+}
+
+// The same, with whole columns.
+fn site_large(bytes: &[u8], l: Layout, q: Request) -> Sited
     requires { ⌜ Laid l (wordsIn (now bytes)) ⌝ }
     ensures { λ r. ⌜ r ≡ siteOf l (wordsIn (now (bytes .entry))) q ⌝ }
 {
@@ -86,6 +99,18 @@ fn site_of(bytes: &[u8], l: Layout, q: Request) -> Sited
     let mut forwards = survey::column();
     let mut backs = survey::column();
     site_in(bytes, l, q, &mut idents[..n], &mut forwards[..n], &mut backs[..n])
+}
+
+// The site that a request gets.
+fn site_of(bytes: &[u8], l: Layout, q: Request) -> Sited
+    requires { ⌜ Laid l (wordsIn (now bytes)) ⌝ }
+    ensures { λ r. ⌜ r ≡ siteOf l (wordsIn (now (bytes .entry))) q ⌝ }
+{
+    if l.cell_count() <= survey::SHORT {
+        site_small(bytes, l, q)
+    } else {
+        site_large(bytes, l, q)
+    }
 }
 
 // All questions of a call.

@@ -44,6 +44,10 @@ pub column-part : (l : Layout) (n : ℕ) (xs : List ℕ) → InRange l → n ≡
     → n ≡ length (take n xs)
 column-part l n xs r e h = sym (length-take-le n xs (omega arith))
 
+pub short-part : (l : Layout) (n : ℕ) (xs : List ℕ) → cellCount l ≤ 256 → n ≡ cellCount l → 256 ≡ length xs
+    → n ≡ length (take n xs)
+short-part l n xs r e h = sym (length-take-le n xs (omega arith))
+
 -- a cell beyond the last would stand behind the last word
 cell-beyond : (l : Layout) (c : ℕ) → cellCount l ≤ c → sizeOf l ≤ cellAt l c
 unfolding sizeOf nodeAt

@@ -42,6 +42,16 @@ pub fn column() -> [u16; 2008]
     [0; 2008]
 }
 
+// The most cells of a store that a short column is for.
+pub const SHORT: u16 = 256;
+
+// A short column: a small store does not pay for setting a whole one to 0.
+pub fn short_column() -> [u16; 256]
+    ensures { λ r. ⌜ 256 ≡ length r ⌝ }
+{
+    [0; 256]
+}
+
 // Reads each cell into the columns.
 pub fn load(words: &[u16], l: Layout, idents: &mut [u16], forwards: &mut [u16], backs: &mut [u16])
     requires { ⌜ Laid l (now words) × Columns l (now idents) (now forwards) (now backs) ⌝ }

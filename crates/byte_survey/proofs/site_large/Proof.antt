@@ -1,9 +1,9 @@
--- `byte_survey::site_of` meets its contract. The parts of the columns that are lent have one entry for each cell.
+-- `byte_survey::site_large` meets its contract. The parts of the columns that are lent have one entry for each cell.
 use mathlib.Core.Path.{sym, _∙_}
 use borrow.Author.Needs.{needs}
 use Rattle.survey.proofs.Laws.{column-part}
-use Rattle.byte_survey.proofs.site_of.Statement.{statement}
-use Rattle.byte_survey.proofs.site_of.Tie as tie
+use Rattle.byte_survey.proofs.site_large.Statement.{statement}
+use Rattle.byte_survey.proofs.site_large.Tie as tie
 
 cell-count-requires : tie.Need-cell-count-requires
 cell-count-requires c κs = search needs
@@ -66,8 +66,8 @@ site-in-requires c κs =
 returns : tie.Need-returns
 returns c = search needs
 
-pub site-of-spec : {M : Type 1} → statement M
-site-of-spec =
+pub site-large-spec : {M : Type 1} → statement M
+site-large-spec =
     tie.close
     (tie.spec
     cell-count-requires
