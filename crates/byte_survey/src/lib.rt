@@ -6,8 +6,8 @@ use requests::Looked;
 use requests::Request;
 use requests::Sited;
 ghost use mathlib.Core.Path.{_≡_};
-ghost use Prim.Native.Nat.{ℕ, _<_, _≤_};
-ghost use lib.ListN.{length, getD};
+ghost use Prim.Native.Nat.{ℕ, _+_, _<_, _≤_};
+ghost use lib.ListN.{length, getD, set};
 ghost use Rattle.byte_form.specs.Bytes.{wordsIn};
 ghost use Rattle.layout.specs.Words.{Laid, cellCount, opened, countAt};
 ghost use Rattle.survey.specs.Survey.{Columns, Loaded};
@@ -38,18 +38,28 @@ pub fn open(bytes: &[u8]) -> Opened
     layout::open_with(n, head(bytes))
 }
 
-// Reads each cell into the columns.
+// Reads cell i, which begins at word a, into the columns.
+fn load_cell(bytes: &[u8], a: usize, i: u16, idents: &mut [u16], forwards: &mut [u16], backs: &mut [u16])
+    requires { ⌜ (a + 2 < length (wordsIn (now bytes))) × (i < length (now idents)) × (i < length (now forwards)) × (i < length (now backs)) ⌝ }
+    ensures { λ _. ⌜ (now (idents .exit) ≡ set (now (idents .entry)) i (getD (wordsIn (now (bytes .entry))) a 0)) × (now (forwards .exit) ≡ set (now (forwards .entry)) i (getD (wordsIn (now (bytes .entry))) (a + 1) 0)) × (now (backs .exit) ≡ set (now (backs .entry)) i (getD (wordsIn (now (bytes .entry))) (a + 2) 0)) ⌝ }
+{
+    idents[i as usize] = byte_form::word(bytes, a);
+    forwards[i as usize] = byte_form::word(bytes, a + Layout::FORWARD);
+    backs[i as usize] = byte_form::word(bytes, a + Layout::BACK);
+}
+
+// Reads each cell into the columns, the headers and then the nodes.
 pub fn load(bytes: &[u8], l: Layout, idents: &mut [u16], forwards: &mut [u16], backs: &mut [u16])
     requires { ⌜ Laid l (wordsIn (now bytes)) × Columns l (now idents) (now forwards) (now backs) ⌝ }
     ensures { λ _. ⌜ Loaded l (wordsIn (now (bytes .entry))) (now (idents .exit)) (now (forwards .exit)) (now (backs .exit)) ⌝ }
 {
-    let n = l.cell_count();
     let mut i: u16 = 0;
-    while i < n {
-        let a = l.cell(i);
-        idents[i as usize] = byte_form::word(bytes, a);
-        forwards[i as usize] = byte_form::word(bytes, a + Layout::FORWARD);
-        backs[i as usize] = byte_form::word(bytes, a + Layout::BACK);
+    while i < l.first_node() {
+        load_cell(bytes, Layout::header(i), i, idents, forwards, backs);
+        i += 1;
+    }
+    while i < l.cell_count() {
+        load_cell(bytes, l.node(i), i, idents, forwards, backs);
         i += 1;
     }
 }
