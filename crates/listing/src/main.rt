@@ -2,17 +2,21 @@
 use libc::STDIN_FILENO;
 use libc::STDOUT_FILENO;
 ghost use mathlib.Core.Path.{_≡_};
+ghost use Prim.Native.Nat.{_+_};
 ghost use lib.ListN.{length};
+ghost use Rattle.listing_text.specs.Text.{longest};
+ghost use Rattle.listing_text.specs.Listing.{mostBytes};
 
 // One byte more than a store has, so that too many are seen.
 fn input() -> [u8; listing_text::MAX_BYTES + 1]
-    ensures { λ r. ⌜ 64081 ≡ length r ⌝ }
+    ensures { λ r. ⌜ mostBytes + 1 ≡ length r ⌝ }
 {
     [0; listing_text::MAX_BYTES + 1]
 }
 
+// Room for any listing.
 fn output() -> [u8; listing_text::LONGEST]
-    ensures { λ r. ⌜ 180190 ≡ length r ⌝ }
+    ensures { λ r. ⌜ longest ≡ length r ⌝ }
 {
     [0; listing_text::LONGEST]
 }

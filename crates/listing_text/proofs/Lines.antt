@@ -1,10 +1,10 @@
 -- Laws of the lines of a listing: each text is its first part and the rest.
-use Prim.Native.Nat.{ℕ, zero, suc, _+_, _*_, _-_, _≤_, _<_}
-use mathlib.Core.Path.{_≡_, refl, sym, ap, _∙_}
+use Prim.Native.Nat.{ℕ, suc, _+_, _-_, _≤_, _<_}
+use mathlib.Core.Path.{_≡_, ap, _∙_}
 use mathlib.Core.List.{List, [], _∷_, _++_, append-assoc}
 use native.Mathlib.Omega.{arith}
 use native.Mathlib.Numerals.{add-one}
-use lib.ListN.{length, getD, take, drop}
+use lib.ListN.{length, getD, drop}
 use mathlib.Core.Bool.{true}
 use Rattle.sequences.proofs.Members.{all-in, at-in}
 use Rattle.sequences.proofs.Trail.{trail-inside}
@@ -13,8 +13,9 @@ use Rattle.layout.specs.Words.{Laid, Node, isNode, recordAt}
 use Rattle.layout.proofs.Laws.{is-node, node-fits}
 use Rattle.requests.specs.Requests.{sequenceBy, Closed}
 use Rattle.requests.proofs.Laws.{before-in, member-before}
+use Rattle.edits.specs.Edited.{recordIn}
 use Rattle.listing_text.specs.Text.{codes, decimal}
-use Rattle.listing_text.specs.Listing.{spaced, recordLine, recordWords, recordLines, listLine, listLines, listsFrom}
+use Rattle.listing_text.specs.Listing.{spaced, recordLine, recordLines, listLine, listLines, listsFrom}
 use Rattle.listing_text.proofs.Writing.{drop-next, drop-end}
 
 -- the numbers of a row from i on
@@ -47,7 +48,7 @@ module _ {l : Layout} {f : List ℕ} {k n : ℕ} (h : Closed l f k n) (w : List 
       rw (member-is q) (is-node l (getD s p 0) (all-in (λ x. isNode l x ≡ true) s i (at-in s p (omega (arith, h .count)))))
 
   -- one record more
-  pub record-next : (rec : List ℕ) → p < n → rec ≡ recordWords l w (getD f c 0)
+  pub record-next : (rec : List ℕ) → p < n → rec ≡ recordIn l w (getD f c 0)
       → recordLines l w p (drop p (sequenceBy l f k)) ≡ recordLine p (getD f c 0) rec ++ recordLines l w (p + 1) (drop (p + 1) (sequenceBy l f k))
   unfolding recordLines
   record-next rec q r =

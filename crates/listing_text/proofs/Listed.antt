@@ -1,12 +1,12 @@
 -- Laws of a whole listing: its cases, and that it is never too long.
 use Prim.Native.Nat.{ℕ, zero, suc, _+_, _*_, _%_, _≤_, _<_}
-use mathlib.Core.Path.{_≡_, refl, sym, ap, _∙_}
+use mathlib.Core.Path.{_≡_, refl, ap}
 use mathlib.Core.List.{List, [], _∷_, _++_}
-use mathlib.Core.Bool.{Bool, true, false, _&&_, and-eq-true-iff}
+use mathlib.Core.Bool.{Bool, true, false, and-eq-true-iff}
 use native.Mathlib.Omega.{arith}
 use native.Mathlib.Numerals.{add-one}
 use lib.Dec.{eqb}
-use lib.ListN.{length, getD, take, drop, length-append, length-take}
+use lib.ListN.{length, getD, drop, length-append, length-take}
 use lib.Seq.{getD-take, getD-drop}
 use borrow.Author.Tests.{le-leb, lt-leb, eq-eqb, ne-eqb, eqb-true}
 use Rattle.sequences.proofs.Trail.{trail-length}
@@ -14,14 +14,13 @@ use Rattle.layout.specs.declared.Layout.{Layout}
 use Rattle.layout.specs.declared.Opened.the-variants as O
 use Rattle.layout.specs.Words.{ask, InRange, firstNode, isNode, recordAt, opened}
 use Rattle.lists.specs.Decide.{View, viewOf, countIn, sequenceIn, soundIn, allHold, members, used, soundOf}
-use Rattle.survey.specs.Survey.{columns, Columns, Loaded}
-use Rattle.survey.proofs.Laws.{loaded-view, sound-loaded, before-cell, members-more, members-none, used-length}
-use Rattle.requests.specs.declared.Request.the-variants.{Check}
+use Rattle.survey.specs.Survey.{columns, Loaded}
+use Rattle.survey.proofs.Laws.{loaded-view, sound-loaded, before-cell, members-more, used-length}
 use Rattle.requests.specs.Requests.{siteIn, lookOf}
-use Rattle.requests.proofs.Laws.{sound-closed}
+use Rattle.edits.specs.Edited.{recordIn}
 use Rattle.byte_form.specs.Bytes.{wordsIn}
 use Rattle.listing_text.specs.Text.{codes, decimal, Room}
-use Rattle.listing_text.specs.Listing.{spaced, recordLine, recordWords, recordLines, listLine, listLines, listsFrom, refusedLine, soundLines, listedBy, listedOf, listingOf, byteListing}
+use Rattle.listing_text.specs.Listing.{spaced, recordLine, recordLines, listLine, listLines, listsFrom, refusedLine, soundLines, listedBy, listedOf, listingOf, byteListing}
 use Rattle.listing_text.proofs.Writing.{decimal-short}
 
 -- the cases of a listing
@@ -101,7 +100,7 @@ refused-room n h = record { ends = omega (arith, length-append (decimal n) (code
 
 -- the listing of words of 16 bits
 module _ (l : Layout) (w : List ℕ) (r : InRange l) (small : (i : ℕ) → getD w i 0 < 65536) where
-  words-small : (c : ℕ) → Small (recordWords l w c)
+  words-small : (c : ℕ) → Small (recordIn l w c)
   words-small c i h =
       let n = length-take (l .width) (drop (recordAt l c) w) in
       rw (getD-take (l .width) (drop (recordAt l c) w) i 0 (omega arith), getD-drop (recordAt l c) w i 0) (small (recordAt l c + i))
@@ -112,8 +111,8 @@ module _ (l : Layout) (w : List ℕ) (r : InRange l) (small : (i : ℕ) → getD
   records-short p (c ∷ s) h q =
       omega (
         arith,
-        length-append (recordLine p c (recordWords l w c)) (recordLines l w (suc p) s),
-        record-short p c (recordWords l w c) (omega arith) (h 0 (omega arith)) (words-small c)
+        length-append (recordLine p c (recordIn l w c)) (recordLines l w (suc p) s),
+        record-short p c (recordIn l w c) (omega arith) (h 0 (omega arith)) (words-small c)
             (omega (arith, length-take (l .width) (drop (recordAt l c) w), r .width)),
         records-short (suc p) s (λ i g. h (suc i) (omega arith)) (omega arith),
       )

@@ -2,12 +2,13 @@
 use Prim.Native.Nat.{ℕ, zero, suc, _%_, _<_}
 use mathlib.Core.List.{List, [], _∷_, _++_}
 use lib.Dec.{eqb, leb}
-use lib.ListN.{length, getD, take, drop}
+use lib.ListN.{length, getD}
 use Rattle.layout.specs.declared.Layout.{Layout}
-use Rattle.layout.specs.Words.{ask, recordAt}
+use Rattle.layout.specs.Words.{ask}
 use Rattle.lists.specs.Decide.{View, viewOf, countIn, sequenceIn, soundIn, sequenceOf}
 use Rattle.requests.specs.declared.Request.the-variants.{Check}
 use Rattle.requests.specs.Requests.{lookOf, withLook, Closed}
+use Rattle.edits.specs.Edited.{recordIn}
 use Rattle.byte_form.specs.Bytes.{wordsIn}
 use Rattle.listing_text.specs.Text.{codes, decimal}
 
@@ -20,14 +21,10 @@ spaced (x ∷ xs) = codes " " ++ (decimal x ++ spaced xs)
 unfoldable pub recordLine : ℕ → ℕ → List ℕ → List ℕ
 recordLine p c words = decimal p ++ (spaced (c ∷ words) ++ codes "\n")
 
--- the words of the record in node c
-abbrev pub recordWords : Layout → List ℕ → ℕ → List ℕ
-recordWords l w c = take (l .width) (drop (recordAt l c) w)
-
 -- the records in the cells of s, from position p on
 unfoldable pub recordLines : Layout → List ℕ → ℕ → List ℕ → List ℕ
 recordLines l w p [] = []
-recordLines l w p (c ∷ s) = recordLine p c (recordWords l w c) ++ recordLines l w (suc p) s
+recordLines l w p (c ∷ s) = recordLine p c (recordIn l w c) ++ recordLines l w (suc p) s
 
 -- "list k count c"
 unfoldable pub listLine : ℕ → ℕ → List ℕ
@@ -50,7 +47,21 @@ refusedLine n = codes "refused " ++ (decimal n ++ codes "\n")
 unfoldable pub soundLines : Layout → List ℕ → (ℕ → List ℕ) → List ℕ
 soundLines l w sequence = listsFrom l w sequence 0 (l .lists) ++ codes "sound\n"
 
--- the listing by a view of the cells and the counts of the lists: question 6, and the lists
+-- the listing of the words w: check's questions, and the lists of a sound store
+unfoldable pub listingOf : List ℕ → List ℕ
+listingOf w = withLook (lookOf w Check) refusedLine (λ l t. soundLines l w (sequenceOf l w))
+
+-- "It reads a store in that byte form .. More than 64,080 bytes, or an odd number, gives `refused 4`"
+abbrev pub mostBytes : ℕ
+mostBytes = 64080
+
+unfoldable pub byteListing : List ℕ → List ℕ
+byteListing bytes =
+    ask (leb (length bytes) mostBytes) (refusedLine 4)
+    (ask (eqb (length bytes % 2) 0) (refusedLine 4)
+    (listingOf (wordsIn bytes)))
+
+-- the same as the code comes to it: by a view of the cells and the counts of the lists, question 6 and then the lists
 unfoldable pub listedBy : Layout → List ℕ → View → (ℕ → ℕ) → List ℕ
 listedBy l w v count = ask (soundIn l v count) (refusedLine 6) (soundLines l w (sequenceIn l v))
 
@@ -61,14 +72,3 @@ listedOf l w = listedBy l w (viewOf l w) (countIn w)
 -- a forward column in which the links of each list lead round as many members as it counts
 abbrev pub AllClosed : Layout → List ℕ → List ℕ → Type 0
 AllClosed l f counts = (k : ℕ) → k < l .lists → Closed l f k (getD counts k 0)
-
--- the listing of the words w: check's questions, and the lists of a sound store
-unfoldable pub listingOf : List ℕ → List ℕ
-listingOf w = withLook (lookOf w Check) refusedLine (λ l t. soundLines l w (sequenceOf l w))
-
--- "It reads a store in that byte form .. More than 64,080 bytes, or an odd number, gives `refused 4`"
-unfoldable pub byteListing : List ℕ → List ℕ
-byteListing bytes =
-    ask (leb (length bytes) 64080) (refusedLine 4)
-    (ask (eqb (length bytes % 2) 0) (refusedLine 4)
-    (listingOf (wordsIn bytes)))

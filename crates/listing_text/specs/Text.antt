@@ -42,7 +42,7 @@ pub record Wrote (o : List ℕ) (n : ℕ) (text : List ℕ) (o′ : List ℕ) (m
 
 -- no listing is longer: 8 lines of at most 23 characters, 2,000 of at most 90, and one of 6
 abbrev pub longest : ℕ
-longest = 180190
+longest = 8 * 23 + 2000 * 90 + 6
 
 -- a text from place n on ends by then, so no place wraps
 pub record Room (n : ℕ) (text : List ℕ) : Type 0 where

@@ -11,15 +11,22 @@ ghost use lib.ListN.{length, getD};
 ghost use Rattle.layout.specs.Words.{Laid, Node};
 ghost use Rattle.survey.specs.Survey.{columns, Columns};
 ghost use Rattle.requests.specs.Requests.{sequenceBy, Closed};
+ghost use Rattle.edits.specs.Edited.{recordIn};
 ghost use Rattle.listing_text.specs.Text.{codes, decimal, overwritten, Wrote, Room, longest};
 ghost use Rattle.byte_form.specs.Bytes.{wordsIn};
-ghost use Rattle.listing_text.specs.Listing.{spaced, recordLine, recordWords, recordLines, listLine, listLines, listsFrom, refusedLine, listedBy, listedOf, listingOf, byteListing, AllClosed};
+ghost use Rattle.listing_text.specs.Listing.{spaced, recordLine, recordLines, listLine, listLines, listsFrom, refusedLine, listedBy, listedOf, listingOf, mostBytes, byteListing, AllClosed};
 
-// The most bytes of a store, two for each word.
-pub const MAX_BYTES: usize = 64080;
+// The most words and bytes of a store.
+pub const MAX_WORDS: usize = Layout::HEAD_WORDS
+    + Layout::HEADER_WORDS * (Layout::MAX_LISTS as usize)
+    + (Layout::LINK_WORDS + Layout::MAX_WIDTH as usize) * (Layout::MAX_NODES as usize);
 
-// The most bytes of a listing.
-pub const LONGEST: usize = 180190;
+pub const MAX_BYTES: usize = 2 * MAX_WORDS;
+
+// The most bytes of a listing: a line for each list and each record, and the last.
+pub const LONGEST: usize = 23 * (Layout::MAX_LISTS as usize)
+    + 90 * (Layout::MAX_NODES as usize)
+    + 6;
 
 // One character.
 fn put(out: &mut [u8], n: usize, b: u8) -> usize
@@ -124,7 +131,7 @@ fn refused_line(out: &mut [u8], n: usize, refusal: u16) -> usize
 // The record in node c, as a part of the lent words.
 fn record_of(words: &[u16], l: Layout, c: u16) -> &[u16]
     requires { ⌜ Laid l (now words) × Node l c ⌝ }
-    ensures { λ r. ⌜ now r ≡ recordWords l (now (words .entry)) c ⌝ }
+    ensures { λ r. ⌜ now r ≡ recordIn l (now (words .entry)) c ⌝ }
 {
     let a = l.node(c) + Layout::LINK_WORDS;
     let e = a + l.width as usize;
@@ -237,6 +244,7 @@ fn listing_in(
     )
 }
 
+// The same with columns of its own.
 fn listing_with(out: &mut [u8], words: &[u16], l: Layout) -> usize
     requires { ⌜ Laid l (now words) × Room 0 (listedOf l (now words)) ⌝ }
     ensures { λ r. ⌜ Wrote (now (out .entry)) 0 (listedOf l (now (words .entry))) (now (out .exit)) r ⌝ }
@@ -290,11 +298,11 @@ fn listing_through(bytes: &[u8], words: &mut [u16], out: &mut [u8]) -> usize
     listing(words, out)
 }
 
-// The most words of a store.
-fn most_words() -> [u16; 32040]
-    ensures { λ r. ⌜ 32040 ≡ length r ⌝ }
+// Room for the words of any store.
+fn most_words() -> [u16; MAX_WORDS]
+    ensures { λ r. ⌜ mostBytes ≡ 2 * length r ⌝ }
 {
-    [0; 32040]
+    [0; MAX_WORDS]
 }
 
 // The listing of a store in byte form.

@@ -1,7 +1,6 @@
 -- `number` writes the digits of x / 10, by itself, and then the last one. The measure is the number.
 use borrow.Author.Needs.{needs}
-use Prim.Native.Nat.{ℕ, _/_, _<_}
-use mathlib.Core.Path.{sym, subst}
+use Prim.Native.Nat.{ℕ, _<_}
 use native.Mathlib.Omega.{arith}
 use borrow.Fn.Kinds.{In}
 use borrow.Fn.PlainCycle.{Measures, is, falls, and}

@@ -1,10 +1,8 @@
 -- `listing` writes the refusal of questions 1 to 4, or the listing by the layout.
 use borrow.Author.Needs.{needs}
-use Prim.Native.Nat.{ℕ, _<_}
 use mathlib.Core.Path.{_≡_, sym, _∙_}
 use native.Mathlib.Omega.{arith}
-use lib.ListN.{getD}
-use Rattle.layout.specs.declared.Opened.the-variants.{Open, Refused}
+use Rattle.layout.specs.declared.Opened.the-variants.{Open}
 use Rattle.layout.specs.Words.{opened, Laid}
 use Rattle.lists.specs.Decide.{viewOf, countIn}
 use Rattle.requests.proofs.Laws.{opened-laid}

@@ -1,8 +1,6 @@
 -- `listing_in` lists by the columns and the counts that it reads: they are those of the words.
 use borrow.Author.Needs.{needs}
-use Prim.Native.Nat.{ℕ}
 use mathlib.Core.Path.{_≡_}
-use mathlib.Core.List.{List}
 use lib.ListN.{getD}
 use Rattle.survey.specs.Survey.{columns}
 use Rattle.listing_text.specs.Listing.{listedBy, listedOf}

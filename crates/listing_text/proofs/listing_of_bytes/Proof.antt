@@ -1,7 +1,7 @@
 -- `listing_of_bytes` refuses too many bytes and an odd number of bytes, and lists the words of all others.
 use borrow.Author.Needs.{needs}
-use Prim.Native.Nat.{ℕ, _/_}
-use mathlib.Core.Path.{_≡_, sym}
+use Prim.Native.Nat.{_/_}
+use mathlib.Core.Path.{sym}
 use native.Mathlib.Omega.{arith}
 use lib.ListN.{length}
 use lib.Seq.{length-take-le}
@@ -35,7 +35,7 @@ array-borrow-prefix-words : tie.Need-array-borrow-prefix-words
 array-borrow-prefix-words c = search needs
 
 slice-aggregate-listing-through : tie.Need-slice-aggregate-listing-through
-slice-aggregate-listing-through c =     sym (length-take-le (length (c .before .before .before .before .before .before .args .bytes .now) / 2) (c .before .most-words .result) (omega (arith, c .before .most-words .ensures)))
+slice-aggregate-listing-through c = sym (length-take-le (length (c .before .before .before .before .before .before .args .bytes .now) / 2) (c .before .most-words .result) (omega (arith, c .before .most-words .ensures)))
 
 listing-through-requires : tie.Need-listing-through-requires
 listing-through-requires c κs = omega (arith, slice-aggregate-listing-through (c .before), c .before .before .before .if2 .left)

@@ -1,6 +1,6 @@
 -- `record_lines` writes record by record. The loop's invariant: c is the cell in front of position p, and the records from p on are still to be written.
 use borrow.Author.Needs.{needs}
-use Prim.Native.Nat.{ℕ, _-_, _≤_, _<_}
+use Prim.Native.Nat.{_-_, _≤_, _<_}
 use mathlib.Core.Path.{_≡_, refl}
 use mathlib.Core.List.{_∷_}
 use native.Mathlib.Omega.{arith}

@@ -1,11 +1,10 @@
 -- `record_of` hands back the part of the words where the record stands: it lies in the store.
 use borrow.Author.Needs.{needs}
-use Prim.Native.Nat.{ℕ, _+_, _*_, _≤_}
-use mathlib.Core.Path.{_≡_, ap, _∙_}
+use Prim.Native.Nat.{ℕ, _+_, _≤_}
+use mathlib.Core.Path.{ap, _∙_}
 use native.Mathlib.Omega.{arith}
 use native.Mathlib.Nat.{add-sub-cancel-left}
 use lib.ListN.{length, take, drop}
-use Rattle.layout.specs.Words.{recordAt}
 use Rattle.listing_text.proofs.Lines.{record-fits}
 use Rattle.listing_text.proofs.record_of.Statement.{statement}
 use Rattle.listing_text.proofs.record_of.Tie as tie

@@ -1,7 +1,7 @@
 -- `text` writes character by character. The loop's invariant: the characters from i on are still to be written.
 use Prim.Native.Nat.{_-_, _≤_}
 use native.Mathlib.Omega.{arith}
-use lib.ListN.{length, getD, drop}
+use lib.ListN.{length, drop}
 use Rattle.listing_text.proofs.Writing.{Writing, writing-start, writing-room, writing-step, writing-done, writing-length, drop-next, drop-end}
 use Rattle.listing_text.proofs.text.Statement.{statement}
 use Rattle.listing_text.proofs.text.Tie as tie

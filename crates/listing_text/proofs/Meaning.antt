@@ -1,0 +1,56 @@
+-- What a listing says: it follows check, and a sound store's lists are the sequences that the document speaks of.
+use Prim.Native.Nat.{ℕ, zero, suc, _+_, _≤_, _<_}
+use mathlib.Core.Path.{_≡_, refl, ap, ap₂, _∙_}
+use mathlib.Core.List.{List, [], _∷_, _++_}
+use native.Mathlib.Omega.{arith}
+use Rattle.layout.specs.declared.Layout.{Layout}
+use Rattle.layout.specs.Words.{layoutOf, nodeAt, cellAt, sizeOf, marked, isNode, inRange, openedBy}
+use Rattle.sequences.specs.Sequence.{trail}
+use Rattle.lists.specs.Lists.{Sound}
+use Rattle.lists.specs.Decide.{viewOf, countIn, sequenceOf, turn, holds, allHold, members, used, soundIn}
+use Rattle.lists.proofs.Unique.{list-sequence}
+use Rattle.requests.specs.declared.Request.the-variants.{Check}
+use Rattle.requests.specs.declared.Looked.{Looked}
+use Rattle.requests.specs.declared.Looked.the-variants as K
+use Rattle.requests.specs.Requests.{siteIn, lookOf, withLook}
+use Rattle.axle_store.specs.declared.Checked.the-variants as C
+use Rattle.axle_store.specs.Calls.{checkAnswer}
+use Rattle.axle_store.proofs.Calls.{sound-opened, sound-decided}
+use Rattle.listing_text.specs.Text.{codes, digits, decimal}
+use Rattle.listing_text.specs.Listing.{spaced, recordLine, recordLines, listLine, listLines, listsFrom, refusedLine, soundLines, listingOf}
+use Rattle.listing_text.proofs.Listed.{listed-sound, listing-open}
+
+-- a refusal of check
+pub listing-refused : (w : List ℕ) (n : ℕ) → checkAnswer w ≡ C.Refused n → listingOf w ≡ refusedLine n
+unfolding checkAnswer listingOf
+listing-refused w n = by (lookOf w Check)
+  where
+    by : (x : Looked) → withLook x C.Refused (λ l t. C.Sound) ≡ C.Refused n
+        → withLook x refusedLine (λ l t. soundLines l w (sequenceOf l w)) ≡ refusedLine n
+    by (K.Refused m) e = let q : m ≡ n = cc in ap refusedLine q
+    by (K.At l t) e = let z : _≡_ {A = ℕ} 0 1 = cc in absurd (omega arith)
+
+-- lists that have the same sequences are listed the same
+lists-same : (l : Layout) (w : List ℕ) (s t : ℕ → List ℕ) (k n : ℕ) → k + n ≤ l .lists → ((j : ℕ) → j < l .lists → s j ≡ t j)
+    → listsFrom l w s k n ≡ listsFrom l w t k n
+unfolding listsFrom
+lists-same l w s t k zero h e = refl
+lists-same l w s t k (suc n) h e =
+    ap₂ (λ (x y : List ℕ). listLines l w k x ++ y) (e k (omega arith)) (lists-same l w s t (suc k) n (omega arith) e)
+
+-- a sound store
+pub listing-sound : (w : List ℕ) (s : Sound w) → listingOf w ≡ soundLines (layoutOf w) w (s .lists .sequence)
+unfolding soundLines
+listing-sound w s =
+    let l = layoutOf w in
+    listing-open w (sound-opened w s) ∙ listed-sound l w (viewOf l w) (countIn w) (sound-decided w s)
+    ∙ ap (λ (x : List ℕ). x ++ codes "sound\n")
+    (lists-same l w (sequenceOf l w) (s .lists .sequence) 0 (l .lists) (omega arith)
+    (λ k h. list-sequence l w k h (s .lists .sequence k) (s .lists .lists k h)))
+
+-- "The listing of C3 is, whole: .."
+pub listing-C3
+    : listingOf (82 ∷ 66 ∷ 83 ∷ 1 ∷ 1 ∷ 3 ∷ 1 ∷ 0 ∷ 42400 ∷ 2 ∷ 3 ∷ 2 ∷ 0 ∷ 0 ∷ 0 ∷ 0 ∷ 42400 ∷ 3 ∷ 0 ∷ 700 ∷ 42400 ∷ 0 ∷ 2 ∷ 512 ∷ [])
+    ≡ codes "list 0 count 2\n0 2 700\n1 3 512\nsound\n"
+unfolding trail isNode nodeAt cellAt sizeOf marked inRange openedBy turn holds allHold members used soundIn siteIn lookOf digits decimal spaced recordLine recordLines listLine listLines listsFrom refusedLine soundLines listingOf
+listing-C3 = refl
