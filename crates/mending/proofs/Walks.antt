@@ -2,10 +2,11 @@
 use Prim.Native.Nat.{ℕ, suc, _+_, _-_, _≤_, _<_}
 use mathlib.Core.Path.{_≡_, refl, ap, _∙_}
 use mathlib.Core.List.{List, [], _∷_}
-use mathlib.Core.Bool.{true, false}
+use mathlib.Core.Bool.{true, false, false≢true}
 use native.Mathlib.Omega.{arith}
+use lib.Dec.{eqb}
 use lib.ListN.{length}
-use borrow.Author.Tests.{eq-eqb, ne-eqb}
+use borrow.Author.Tests.{eq-eqb, ne-eqb, not-true}
 use Rattle.sequences.specs.Sequence.{trail}
 use Rattle.sequences.proofs.Trail.{trail-on, trail-out, trail-none}
 use Rattle.layout.specs.declared.Layout.{Layout}
@@ -13,6 +14,8 @@ use Rattle.layout.specs.Words.{isNode, identOf}
 use Rattle.lists.specs.Decide.{View}
 use Rattle.mending.specs.declared.Faults.{Faults}
 use Rattle.mending.specs.declared.Faults.the-variants as F
+use Rattle.mending.specs.declared.Fitted.the-variants as G
+use Rattle.mending.specs.Mending.{decides, choose}
 use Rattle.mending.specs.Mending.{plus, fault, turnFaults, faultsOf, walked, walkFaults}
 
 -- no faults more
@@ -37,6 +40,12 @@ no-fault x c f v e = rw (eq-eqb _ _ e)
 
 pub one-fault : (x c f v : ℕ) → (x ≡ v → ⊥) → fault x c f v ≡ F.One c f v
 one-fault x c f v h = rw (ne-eqb _ _ h)
+
+-- where the first candidate decides, it is chosen, whatever the second is
+pub decided-alone : (f g : Faults) → decides f ≡ true → choose f g ≡ G.Forward f
+decided-alone F.None g e = refl
+decided-alone (F.One c w v) g e = rw (not-true (eqb w 2) e)
+decided-alone F.Many g e = absurd (false≢true e)
 
 -- the cells that a walk has yet to meet when it comes to y with `left` steps left
 abbrev pub rest : Layout → View → ℕ → ℕ → List ℕ

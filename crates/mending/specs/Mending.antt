@@ -2,7 +2,7 @@
 use Prim.Native.Nat.{ℕ, zero, suc, _+_, _<_, _≤_}
 use mathlib.Core.Path.{_≡_}
 use mathlib.Core.List.{List, [], _∷_, _++_}
-use mathlib.Core.Bool.{Bool, true, false, cond}
+use mathlib.Core.Bool.{Bool, true, false, not, cond}
 use lib.Dec.{eqb}
 use lib.ListN.{length, getD, set, take}
 use Rattle.sequences.specs.Sequence.{All, trail}
@@ -70,6 +70,12 @@ choose (F.One c f v) g = cond (eqb f 2) (twoFit (F.One c f v) g) (G.Forward (F.O
 choose F.Many F.None = G.Backward F.None
 choose F.Many (F.One c f v) = G.Backward (F.One c f v)
 choose F.Many F.Many = G.Nothing
+
+-- the first candidate alone decides: no fault, or one that is no back link
+abbrev pub decides : Faults → Bool
+decides F.None = true
+decides (F.One c f v) = not (eqb f 2)
+decides F.Many = false
 
 unfoldable pub fitIn : Layout → View → ℕ → ℕ → Fitted
 fitIn l v k n = choose (walkFaults l v 1 2 k n) (walkFaults l (turned v) 2 1 k n)

@@ -1,7 +1,7 @@
 // Recovery by correction. Only two sequences can fit a list: what the forward links lead through, and what the back links do. Each
-// is walked once and its wrong words are summed up as none, one or many; no sequence is kept. If exactly one fits each list, its
-// wrong word is to be stored, list 0 first, and then 0 to each identifier of a node in no list. These stores are listed before the first
-// is made.
+// is walked at most once and its wrong words are summed up as none, one or many; no sequence is kept. If exactly one fits each list,
+// its wrong word is to be stored, list 0 first, and then 0 to each identifier of a node in no list. These stores are listed before the
+// first is made.
 use layout::Layout;
 use stores::Answer;
 use stores::Rows;
@@ -14,7 +14,7 @@ ghost use Rattle.stores.specs.Stores.{writesIn, Held, answerOf, wordsAfter};
 ghost use Rattle.layout.specs.Words.{Laid, InRange, cellCount, firstNode, sizeOf};
 ghost use Rattle.survey.specs.Survey.{columns, Columns};
 ghost use Rattle.recovery.specs.Plan.{recoverOf};
-ghost use Rattle.mending.specs.Mending.{plus, fault, walkFaults, choose, fitIn, mendOf, numberOf, faultIn, isBackward, FaultFits, MendsOf, walked, erased, erasedFrom, clearsIn, listed, Listed, Told, planOf};
+ghost use Rattle.mending.specs.Mending.{plus, fault, walkFaults, decides, choose, fitIn, mendOf, numberOf, faultIn, isBackward, FaultFits, MendsOf, walked, erased, erasedFrom, clearsIn, listed, Listed, Told, planOf};
 
 // The wrong words of a sequence: word f of cell c is to hold v.
 pub enum Faults {
@@ -57,6 +57,18 @@ impl Faults {
             Faults::None => Faults::One(c, f, v),
             Faults::One(_, _, _) => Faults::Many,
             Faults::Many => Faults::Many,
+        }
+    }
+
+    // Do these faults of the forward walk decide alone? With none, or with one that is no back link, the back links lead through the
+    // same sequence.
+    fn decide(self) -> bool
+        ensures { λ r. ⌜ r ≡ decides self ⌝ }
+    {
+        match self {
+            Faults::None => true,
+            Faults::One(_, w, _) => w != 2,
+            Faults::Many => false,
         }
     }
 }
@@ -124,28 +136,24 @@ fn walk(idents: &[u16], onward: &[u16], back: &[u16], n: u16, l: Layout, k: u16,
     faults.and(n, k, 3, l.nodes - left)
 }
 
-// Of the two candidates, which fit.
+// Of the two candidates, which fit, where the first does not decide alone.
 fn choice(f: Faults, g: Faults) -> Fitted
+    requires { ⌜ decides f ≡ false ⌝ }
     ensures { λ r. ⌜ r ≡ choose f g ⌝ }
 {
     match f {
         Faults::None => Fitted::Forward(f),
-        Faults::One(_, w, _) => {
-            if w != 2 {
-                return Fitted::Forward(f);
-            }
-            match g {
-                Faults::None => Fitted::Forward(f),
-                Faults::One(_, u, _) => {
-                    if u == 1 {
-                        Fitted::Several
-                    } else {
-                        Fitted::Forward(f)
-                    }
+        Faults::One(_, _, _) => match g {
+            Faults::None => Fitted::Forward(f),
+            Faults::One(_, w, _) => {
+                if w == 1 {
+                    Fitted::Several
+                } else {
+                    Fitted::Forward(f)
                 }
-                Faults::Many => Fitted::Forward(f),
             }
-        }
+            Faults::Many => Fitted::Forward(f),
+        },
         Faults::Many => match g {
             Faults::None => Fitted::Backward(g),
             Faults::One(_, _, _) => Fitted::Backward(g),
@@ -154,15 +162,16 @@ fn choice(f: Faults, g: Faults) -> Fitted
     }
 }
 
-// Which sequence fits list k, whose count is n.
+// Which sequence fits list k, whose count is n. The back links are walked only if the forward walk does not decide.
 fn fit(idents: &[u16], forwards: &[u16], backs: &[u16], n: u16, l: Layout, k: u16) -> Fitted
     requires { ⌜ Columns l (now idents) (now forwards) (now backs) × (k < l .lists) ⌝ }
     ensures { λ r. ⌜ r ≡ fitIn l (columns (now (idents .entry)) (now (forwards .entry)) (now (backs .entry))) k n ⌝ }
 {
-    choice(
-        walk(idents, forwards, backs, n, l, k, 1, 2),
-        walk(idents, backs, forwards, n, l, k, 2, 1),
-    )
+    let f = walk(idents, forwards, backs, n, l, k, 1, 2);
+    if f.decide() {
+        return Fitted::Forward(f);
+    }
+    choice(f, walk(idents, backs, forwards, n, l, k, 2, 1))
 }
 
 // The mend of a fault behind the others.
