@@ -31,7 +31,7 @@ use Rattle.axle_store.proofs.Calls.{sound-opened, sound-decided, sound-read}
 use Rattle.reader.specs.Reader.{nextAt, handOuts}
 
 -- the position behind p
-next-below : (p : ℕ) → p < 65535 → nextAt p ≡ suc p
+pub next-below : (p : ℕ) → p < 65535 → nextAt p ≡ suc p
 unfolding nextAt
 next-below p h = rw (lt-ltb p 65535 h) (add-one p)
 

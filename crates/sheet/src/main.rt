@@ -10,18 +10,16 @@ fn store() -> [u16; 52]
     [0; 52]
 }
 
-// The records of a list, until the reader hands out an empty part.
+// The records of a list, until the reader hands out an empty part. No list has a record at the last position.
 fn print_list(words: &[u16], list: u16) {
     let mut place = Place { list, at: 0 };
-    let mut left: u16 = 2000;
-    while left > 0 {
+    while place.at < 65535 {
         let rec = reader::handed(words, place.list, place.at);
         if rec.len() == 0 {
             return;
         }
         printing::words(rec);
         place = place.step();
-        left -= 1;
     }
 }
 
