@@ -22,14 +22,8 @@ impl Place {
     pub fn step(self) -> Place
         ensures { λ r. ⌜ r ≡ nextPlace self ⌝ }
     {
-        if self.at < 65535 {
-            Place {
-                list: self.list,
-                at: self.at + 1,
-            }
-        } else {
-            self
-        }
+        let at = if self.at < 65535 { self.at + 1 } else { self.at };
+        Place { list: self.list, at }
     }
 }
 

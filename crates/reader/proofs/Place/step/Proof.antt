@@ -6,8 +6,8 @@ use Rattle.reader.specs.Reader.{nextAt}
 use Rattle.reader.proofs.Place.step.Statement.{statement}
 use Rattle.reader.proofs.Place.step.Tie as tie
 
-add-t4 : tie.Need-add-t4
-add-t4 c = search needs
+add-at : tie.Need-add-at
+add-at c = search needs
 
 returns : tie.Need-returns
 unfolding nextAt
@@ -18,4 +18,4 @@ unfolding nextAt
 returns-2 c = rw (le-ltb (c .before .before .args .self .at) 65535 (omega arith))
 
 pub step-spec : {M : Type 1} → statement M
-step-spec = tie.close (tie.spec add-t4 returns returns-2)
+step-spec = tie.close (tie.spec add-at returns returns-2)
