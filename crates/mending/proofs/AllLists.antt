@@ -1,8 +1,8 @@
 -- Laws of the mends of all lists, and of the columns after all of them are erased.
 use Prim.Native.Nat.{ℕ, suc, _+_, _-_, _≤_, _<_}
-use mathlib.Core.Path.{_≡_, refl, ap, _∙_, sym, subst}
+use mathlib.Core.Path.{_≡_, refl, ap, ap₂, _∙_, sym, subst}
 use mathlib.Core.List.{List, [], _∷_, _++_, append-nil, append-assoc}
-use mathlib.Core.Bool.{Bool, true, false, cond}
+use mathlib.Core.Bool.{Bool, true, false, cond, _&&_, and-eq-true-iff}
 use native.Mathlib.Omega.{arith}
 use native.Mathlib.Nat.{mul-le-mul}
 use native.Mathlib.Numerals.{add-one}
@@ -25,7 +25,8 @@ use Rattle.mending.specs.declared.Faults.the-variants as F
 use Rattle.mending.specs.declared.Fitted.{Fitted}
 use Rattle.mending.specs.declared.Fitted.the-variants as G
 use Rattle.mending.specs.Mending.{plus, fault, turnFaults, faultsOf, walked, walkFaults, turned, choose, twoFit, fitIn}
-use Rattle.mending.specs.Mending.{mendOf, numberOf, faultIn, isBackward, refusalIn, mendsIn, FaultFits, MendsOf}
+use Rattle.mending.specs.Mending.{mendOf, numberOf, faultIn, isBackward, refusalIn, mendsIn, lengthBy, carries, total, Each, FaultFits, MendsOf}
+use Rattle.mending.proofs.Walks.{Every, every-plus, every-fault, plus-assoc}
 use Rattle.mending.specs.Mending.{erased, membersBy, erasedFrom}
 
 -- a word's number fits a `u16`
@@ -36,78 +37,68 @@ size-small l r =
     let b : l .nodes ≤ 2000 = r .nodes in
     omega (arith, mul-le-mul a b)
 
--- `FaultFits` as a record, so that f can be told from it
-record Fits (l : Layout) (f : Faults) : Type 0 where
-  pub fits : FaultFits l f
+-- the cell and the word of a fault are the store's
+abbrev Inside : Layout → ℕ → ℕ → Type 0
+Inside l c f = (c < cellCount l) × (cellAt l c + f < sizeOf l)
 
--- the faults of two parts fit if those of each do
-plus-fits : {l : Layout} {f g : Faults} → Fits l f → Fits l g → Fits l (plus f g)
-plus-fits {l} {f = F.None} {g} p q = q
-plus-fits {l} {f = F.One c f v} {g = F.None} p q = p
-plus-fits {l} {f = F.One c f v} {g = F.One d g u} p q = record { fits = tt }
-plus-fits {l} {f = F.One c f v} {g = F.Many} p q = record { fits = tt }
-plus-fits {l} {f = F.Many} {g} p q = record { fits = tt }
-
--- those of the candidate that is chosen fit
-choose-fits : {l : Layout} {f g : Faults} → Fits l f → Fits l g → FaultFits l (faultIn (choose f g))
-choose-fits {l} {f = F.None} {g} p q = tt
-choose-fits {l} {f = F.One c f v} {g} p q = by (eqb f 2) g
+-- what holds of both candidates' faults holds of those of the candidate that is chosen
+choose-each : {P : ℕ → ℕ → Type 0} {f g : Faults} → Every P f → Every P g → Each P (faultIn (choose f g))
+choose-each {f = F.None} p q = tt
+choose-each {P} {f = F.One c f v} {g} p q = by (eqb f 2) g
   where
-    two : (b : Bool) → FaultFits l (faultIn (cond b G.Several (G.Forward (F.One c f v))))
+    two : (b : Bool) → Each P (faultIn (cond b G.Several (G.Forward (F.One c f v))))
     two true = tt
-    two false = p .fits
+    two false = p .each
 
-    by : (b : Bool) (g : Faults) → FaultFits l (faultIn (cond b (twoFit (F.One c f v) g) (G.Forward (F.One c f v))))
-    by false g = p .fits
-    by true F.None = p .fits
+    by : (b : Bool) (g : Faults) → Each P (faultIn (cond b (twoFit (F.One c f v) g) (G.Forward (F.One c f v))))
+    by false g = p .each
+    by true F.None = p .each
     by true (F.One d e u) = two (eqb e 1)
-    by true F.Many = p .fits
-choose-fits {l} {f = F.Many} {g = F.None} p q = tt
-choose-fits {l} {f = F.Many} {g = F.One c f v} p q = q .fits
-choose-fits {l} {f = F.Many} {g = F.Many} p q = tt
+    by true F.Many = p .each
+choose-each {f = F.Many} {g = F.None} p q = tt
+choose-each {f = F.Many} {g = F.One c f v} p q = q .each
+choose-each {f = F.Many} {g = F.Many} p q = tt
+
+-- what holds of the first three words of every cell holds of the faults of a turn round list k
+module _ (l : Layout) (P : ℕ → ℕ → Type 0) (link : (c f : ℕ) → c < cellCount l → f < 3 → P c f)
+    (v : View) (a b k : ℕ) (ha : a < 3) (hb : b < 3) (hk : k < l .lists) where
+  word-every : (x c f v : ℕ) → c < cellCount l → f < 3 → Every P (fault x c f v)
+  word-every x c f v h g = every-fault x c f v (link c f h g)
+
+  -- the rest of it
+  turn-every : (x : ℕ) (s : List ℕ) → x < cellCount l → All (Node l) s → Every P (turnFaults v a b k x s)
+  unfolding turnFaults
+  turn-every x [] h t =
+      every-plus (word-every (v .forward x) x a k h ha) (word-every (v .back k) k b x (omega arith) hb)
+  turn-every x (y ∷ s) h t =
+      let c : y < cellCount l = t .0 .high in
+      every-plus (word-every (v .forward x) x a y h ha)
+      (every-plus (word-every (v .ident y) y 0 (identOf k) c (omega arith))
+      (every-plus (word-every (v .back y) y b x c hb)
+      (turn-every y s c (t .1))))
+
+  -- all of it
+  pub round-every : (s : List ℕ) → All (Node l) s → Every P (plus (fault (v .ident k) k 0 (identOf k)) (turnFaults v a b k k s))
+  round-every s t = every-plus (word-every (v .ident k) k 0 (identOf k) (omega arith) (omega arith)) (turn-every k s (omega arith) t)
 
 module _ (l : Layout) (r : InRange l) where
-  -- a word of the store
-  word-fits : (x c f v : ℕ) → cellAt l c + f < sizeOf l → Fits l (fault x c f v)
-  word-fits x c f v h = by (eqb x v)
-    where
-      by : (b : Bool) → Fits l (cond b F.None (F.One c f v))
-      by true = record { fits = tt }
-      by false = record { fits = h }
-
-  -- one of the first three words of a cell
-  link-fits : (x c f v : ℕ) → c < cellCount l → f < 3 → Fits l (fault x c f v)
-  link-fits x c f v h g = word-fits x c f v (omega (arith, cell-fits l c r h))
-
-  module _ (v : View) (a b k : ℕ) (ha : a < 3) (hb : b < 3) (hk : k < l .lists) where
-    -- the rest of a turn round list k
-    turn-fits : (x : ℕ) (s : List ℕ) → x < cellCount l → All (Node l) s → Fits l (turnFaults v a b k x s)
-    unfolding turnFaults
-    turn-fits x [] h t =
-        plus-fits (link-fits (v .forward x) x a k h ha) (link-fits (v .back k) k b x (omega arith) hb)
-    turn-fits x (y ∷ s) h t =
-        let c : y < cellCount l = t .0 .high in
-        plus-fits (link-fits (v .forward x) x a y h ha)
-        (plus-fits (link-fits (v .ident y) y 0 (identOf k) c (omega arith))
-        (plus-fits (link-fits (v .back y) y b x c hb)
-        (turn-fits y s c (t .1))))
-
-    -- a walk of list k
-    walk-fits : (n : ℕ) → Fits l (walkFaults l v a b k n)
-    unfolding walkFaults faultsOf
-    walk-fits n =
-        let s = walked l v k in
-        let t = all-nodes l s (trail-inside (v .forward) (isNode l) (l .nodes) (v .forward k)) in
-        plus-fits (link-fits (v .ident k) k 0 (identOf k) (omega arith) (omega arith))
-        (plus-fits (turn-fits k s (omega arith) t)
-        (word-fits n k 3 (length s) (omega (arith, cell-header l k hk, header-fits l k hk))))
+  -- the faults of a walk of list k
+  walk-fits : (v : View) (a b k n : ℕ) → a < 3 → b < 3 → k < l .lists → Every (Inside l) (walkFaults l v a b k n)
+  unfolding walkFaults faultsOf
+  walk-fits v a b k n ha hb hk =
+      let s = walked l v k in
+      let t = all-nodes l s (trail-inside (v .forward) (isNode l) (l .nodes) (v .forward k)) in
+      let o : cellAt l k + 3 < sizeOf l = omega (arith, cell-header l k hk, header-fits l k hk) in
+      rw (← plus-assoc)
+      (every-plus (round-every l (Inside l) (λ c f h g. (h, omega (arith, cell-fits l c r h))) v a b k ha hb hk s t)
+      (every-fault n k 3 (length s) (omega arith, o)))
 
   -- so the mend of list k is a word of the store
   pub fit-fits : (v : View) (k n : ℕ) → k < l .lists → FaultFits l (faultIn (fitIn l v k n))
   unfolding fitIn
   fit-fits v k n h =
-      choose-fits (walk-fits v 1 2 k (omega arith) (omega arith) h n)
-      (walk-fits (turned v) 2 1 k (omega arith) (omega arith) h n)
+      choose-each (walk-fits v 1 2 k n (omega arith) (omega arith) h)
+      (walk-fits (turned v) 2 1 k n (omega arith) (omega arith) h)
 
 -- a fault has one mend at most
 mend-few : (l : Layout) (f : Faults) → length (mendOf l f) ≤ 1
@@ -115,10 +106,17 @@ mend-few l F.None = omega arith
 mend-few l (F.One c f v) = omega arith
 mend-few l F.Many = omega arith
 
--- where the search stands at list k: no list before it is refused, their mends are in the rows and their directions in back
-pub record Found (l : Layout) (v : View) (count : ℕ → ℕ) (back : List Bool) (rows : Rows) (k : ℕ) : Type 0 where
+-- of list k: the faults of the sequence that fits
+abbrev pub faultAt : Layout → View → (ℕ → ℕ) → ℕ → Faults
+faultAt l v count k = faultIn (fitIn l v k (count k))
+
+-- where the search stands at list k: no list before it is refused, their members are counted, their mends are in the rows and their
+-- directions in back
+pub record Found (l : Layout) (v : View) (count : ℕ → ℕ) (m : ℕ) (a : Bool) (back : List Bool) (rows : Rows) (k : ℕ) : Type 0 where
   pub inside : k ≤ l .lists
   pub refusal : refusalIn l v count k (l .lists - k) ≡ refusalIn l v count 0 (l .lists)
+  pub members : m ≡ total (λ j. lengthBy (faultAt l v count j) (count j)) k
+  pub carried : a ≡ true → (j : ℕ) → j < k → carries (v .ident) (faultAt l v count j) ≡ true
   pub mends : writesIn rows ++ mendsIn l v count k (l .lists - k) ≡ mendsIn l v count 0 (l .lists)
   pub held : Held (sizeOf l) rows (writesIn rows)
   pub few : rows .len ≤ k
@@ -127,12 +125,15 @@ pub record Found (l : Layout) (v : View) (count : ℕ → ℕ) (back : List Bool
 
 module _ (l : Layout) (r : InRange l) (v : View) (count : ℕ → ℕ) where
   -- before list 0
-  pub found-none : (back : List Bool) (rows : Rows) → length back ≡ 8 → Held (sizeOf l) rows [] → Found l v count back rows 0
+  pub found-none : (back : List Bool) (rows : Rows) → length back ≡ 8 → Held (sizeOf l) rows [] → Found l v count 0 true back rows 0
+  unfolding total
   found-none back rows e h =
       let z : l .lists - 0 ≡ l .lists = omega arith in
       record {
         inside = omega arith;
         refusal = rw z;
+        members = refl;
+        carried = λ i j p. absurd (omega arith);
         mends = rw (h .same, z);
         held = rw (h .same) h;
         few = omega (arith, h .len);
@@ -140,18 +141,25 @@ module _ (l : Layout) (r : InRange l) (v : View) (count : ℕ → ℕ) where
         ways = λ j p. absurd (omega arith);
       }
 
-  module _ {back : List Bool} {rows : Rows} {k : ℕ} (w : Found l v count back rows k) where
+  module _ {members : ℕ} {carried : Bool} {back : List Bool} {rows : Rows} {k : ℕ} (w : Found l v count members carried back rows k) where
     -- a list more, whose fit f is not refused
-    pub found-more : {f : Fitted} {n : ℕ} {b : Bool} {g : Faults} {rows′ : Rows} → k < l .lists → f ≡ fitIn l v k (count k)
-        → n ≡ numberOf f → n ≡ 0 → b ≡ isBackward f → g ≡ faultIn f → Held (sizeOf l) rows′ (writesIn rows ++ mendOf l g)
-        → Found l v count (set back k b) rows′ (k + 1)
-    unfolding refusalIn mendsIn
-    found-more {b = b} {g = g} h e en z eb eg held =
+    pub found-more : {f : Fitted} {n m : ℕ} {a b : Bool} {g : Faults} {rows′ : Rows} → k < l .lists → f ≡ fitIn l v k (count k)
+        → n ≡ numberOf f → n ≡ 0 → g ≡ faultIn f → m ≡ lengthBy g (count k) → a ≡ carries (v .ident) g → b ≡ isBackward f
+        → Held (sizeOf l) rows′ (writesIn rows ++ mendOf l g)
+        → Found l v count (members + m) (carried && a) (set back k b) rows′ (k + 1)
+    unfolding refusalIn mendsIn total
+    found-more {m = m} {a = a} {b = b} {g = g} h e en z eg em ea eb held =
         let s : l .lists - k ≡ suc (l .lists - (k + 1)) = omega arith in
         let q : numberOf (fitIn l v k (count k)) ≡ 0 = ap numberOf (sym e) ∙ sym en ∙ z in
+        let d : g ≡ faultAt l v count k = eg ∙ ap faultIn e in
         record {
           inside = omega arith;
           refusal = (rw (s, refusalIn, eq-eqb _ _ q, ← add-one k) at (w .refusal));
+          members = rw (add-one k) (ap₂ _+_ (w .members) (em ∙ ap (λ (x : Faults). lengthBy x (count k)) d));
+          carried =
+              λ i.
+              let o = and-eq-true-iff carried a .0 i in
+              below-more _ k (w .carried (o .0)) (ap (carries (v .ident)) (sym d) ∙ sym ea ∙ o .1);
           mends = rw (held .same, eg, e, append-assoc) (rw (s, mendsIn, ← add-one k) at (w .mends));
           held = rw (held .same) held;
           few = omega (arith, held .len, length-append (writesIn rows) (mendOf l g), mend-few l g, w .held .len);
@@ -163,25 +171,30 @@ module _ (l : Layout) (r : InRange l) (v : View) (count : ℕ → ℕ) where
 
     -- list k is refused
     pub found-refused : {f : Fitted} {n : ℕ} → k < l .lists → f ≡ fitIn l v k (count k) → n ≡ numberOf f → (n ≡ 0 → ⊥)
-        → MendsOf l v count (record { refusal = n; back = back; rows = rows })
+        → MendsOf l v count (record { refusal = n; members = members; carried = carried; back = back; rows = rows })
     unfolding refusalIn
     found-refused {n = n} h e en z =
         let s : l .lists - k ≡ suc (l .lists - (k + 1)) = omega arith in
         let m : n ≡ numberOf (fitIn l v k (count k)) = en ∙ ap numberOf e in
         record {
           refusal = m ∙ (rw (s, refusalIn, ne-eqb _ _ (λ i. z (m ∙ i))) at (w .refusal));
+          members = λ i. absurd (z i);
+          carried = λ i. absurd (z i);
           rows = λ i. absurd (z i);
           few = λ i. absurd (z i);
           back = λ i. absurd (z i);
         }
 
     -- no list is left
-    pub found-all : l .lists ≤ k → MendsOf l v count (record { refusal = 0; back = back; rows = rows })
+    pub found-all : l .lists ≤ k → MendsOf l v count (record { refusal = 0; members = members; carried = carried; back = back; rows = rows })
     unfolding refusalIn mendsIn
     found-all h =
         let s : l .lists - k ≡ 0 = omega arith in
+        let e : k ≡ l .lists = omega arith in
         record {
           refusal = rw s at (w .refusal);
+          members = λ i. w .members ∙ ap (total (λ j. lengthBy (faultAt l v count j) (count j))) e;
+          carried = λ i c j p. w .carried c j (omega arith);
           rows = λ i. subst (Held (sizeOf l) rows) (sym (append-nil (writesIn rows)) ∙ (rw s at (w .mends))) (w .held);
           few = λ i. omega arith;
           back = λ i j p. w .ways j (omega arith);

@@ -23,8 +23,8 @@ use Rattle.mending.specs.declared.Faults.the-variants as F
 use Rattle.mending.specs.declared.Fitted.{Fitted}
 use Rattle.mending.specs.declared.Fitted.the-variants as G
 use Rattle.mending.specs.Mending.{plus, fault, turnFaults, faultsOf, walked, walkFaults, turned, choose, fitIn}
-use Rattle.mending.specs.Mending.{mendOf, numberOf, isBackward, refusalIn, mendsIn, membersBy}
-use Rattle.mending.proofs.Walks.{plus-none, plus-assoc}
+use Rattle.mending.specs.Mending.{mendOf, numberOf, faultIn, isBackward, refusalIn, mendsIn, membersBy}
+use Rattle.mending.proofs.Walks.{plus-none, plus-assoc, Every, every-plus, every-fault}
 
 -- f sums up these wrong words
 abbrev pub Summed : Layout → Faults → List Write → Type 0
@@ -246,12 +246,12 @@ summed-many l (F.One c f v) ps p e = absurd (omega (arith, ap length p))
 summed-many l F.Many ps p e = refl
 
 -- at most one word
-abbrev Few : Faults → Type 0
+abbrev pub Few : Faults → Type 0
 Few F.None = Unit {0}
 Few (F.One c f v) = Unit {0}
 Few F.Many = ⊥
 
-few-summed : (l : Layout) (f : Faults) (ps : List Write) → Summed l f ps → length ps ≤ 1 → Few f
+pub few-summed : (l : Layout) (f : Faults) (ps : List Write) → Summed l f ps → length ps ≤ 1 → Few f
 few-summed l F.None ps p e = tt
 few-summed l (F.One c f v) ps p e = tt
 few-summed l F.Many ps p e = absurd (omega arith)
@@ -282,46 +282,34 @@ choose-second (F.One c f v) h = refl
 choose-second F.Many h = absurd h
 
 -- all faults are of word b
-abbrev Word : ℕ → Faults → Type 0
-Word b F.None = Unit {0}
-Word b (F.One c f v) = f ≡ b
-Word b F.Many = Unit {0}
+abbrev OfWord : ℕ → ℕ → ℕ → Type 0
+OfWord b c f = f ≡ b
 
-word-plus : (b : ℕ) (f g : Faults) → Word b f → Word b g → Word b (plus f g)
-word-plus b F.None g p q = q
-word-plus b (F.One c f v) F.None p q = p
-word-plus b (F.One c f v) (F.One d g u) p q = tt
-word-plus b (F.One c f v) F.Many p q = tt
-word-plus b F.Many g p q = tt
-
-word-fault : (x c b v : ℕ) → Word b (fault x c b v)
-word-fault x c b v = by (eqb x v) refl
-  where
-    by : (a : Bool) → eqb x v ≡ a → Word b (fault x c b v)
-    by true q = rw q tt
-    by false q = rw q refl
-
-word-sum : (b : ℕ) (g : Step → Faults) → ((p : Step) → Word b (g p)) → (ps : List Step) → Word b (sumAll g ps)
+word-sum : (b : ℕ) (g : Step → Faults) → ((p : Step) → Every (OfWord b) (g p)) → (ps : List Step) → Every (OfWord b) (sumAll g ps)
 unfolding sumAll
-word-sum b g h [] = tt
-word-sum b g h (p ∷ ps) = word-plus b (g p) (sumAll g ps) (h p) (word-sum b g h ps)
+word-sum b g h [] = record { each = tt }
+word-sum b g h (p ∷ ps) = every-plus (h p) (word-sum b g h ps)
 
 -- one fault, of word b
 abbrev OneOf : ℕ → Faults → Type 0
 OneOf b f = (c : ℕ) × (v : ℕ) × (f ≡ F.One c b v)
 
 one-summed
-    : (l : Layout) (b : ℕ) (f : Faults) (ps : List Write) → Word b f → Summed l f ps → (length ps ≡ 0 → ⊥) → length ps ≤ 1 → OneOf b f
+    : (l : Layout) (b : ℕ) (f : Faults) (ps : List Write) → Every (OfWord b) f → Summed l f ps → (length ps ≡ 0 → ⊥) → length ps ≤ 1 → OneOf b f
 one-summed l b F.None ps q p n e = absurd (n (ap length p))
-one-summed l b (F.One c f v) ps q p n e = (c, v, ap (λ (x : ℕ). F.One c x v) q)
+one-summed l b (F.One c f v) ps q p n e = (c, v, ap (λ (x : ℕ). F.One c x v) (q .each))
 one-summed l b F.Many ps q p n e = absurd (omega arith)
+
+-- only s fits, and f are its faults
+abbrev Chosen : Layout → List ℕ → ℕ → List ℕ → Faults → Type 0
+Chosen l w k s f = (fitOf l w k ≡ only s) × (mendOf l f ≡ wrong w (asked l k s)) × (f ≡ faultSum l w k s)
 
 -- what the decision from the columns says of the decision on the words
 abbrev pub Told : Layout → List ℕ → ℕ → Fitted → Type 0
 Told l w k G.Nothing = fitOf l w k ≡ none
 Told l w k G.Several = fitOf l w k ≡ several
-Told l w k (G.Forward f) = (fitOf l w k ≡ only (sequenceOf l w k)) × (mendOf l f ≡ wrong w (asked l k (sequenceOf l w k)))
-Told l w k (G.Backward f) = (fitOf l w k ≡ only (backwardOf l w k)) × (mendOf l f ≡ wrong w (asked l k (backwardOf l w k)))
+Told l w k (G.Forward f) = Chosen l w k (sequenceOf l w k) f
+Told l w k (G.Backward f) = Chosen l w k (backwardOf l w k) f
 
 module _ (l : Layout) (w : List ℕ) (k : ℕ) (h : k < l .lists) where
   -- with at most one wrong word, a wrong back link is the only fault, and so is a wrong forward link
@@ -341,7 +329,7 @@ module _ (l : Layout) (w : List ℕ) (k : ℕ) (h : k < l .lists) where
       subst (OneOf 2) (sym e)
       (one-summed l 2 (backSum l w k s) (wrong w (backsAsked l k s))
       (word-sum 2 (λ (p : Step). fault (viewOf l w .back (p .target)) (p .target) 2 (p .source))
-      (λ p. word-fault (viewOf l w .back (p .target)) (p .target) 2 (p .source)) (steps k s k))
+      (λ p. every-fault (viewOf l w .back (p .target)) (p .target) 2 (p .source) refl) (steps k s k))
       (summed-back l w k s) n b)
 
   onward-only
@@ -360,7 +348,7 @@ module _ (l : Layout) (w : List ℕ) (k : ℕ) (h : k < l .lists) where
       subst (OneOf 1) (sym e)
       (one-summed l 1 (onwardSum l w k s) (wrong w (forwardsAsked l k s))
       (word-sum 1 (λ (p : Step). fault (viewOf l w .forward (p .source)) (p .source) 1 (p .target))
-      (λ p. word-fault (viewOf l w .forward (p .source)) (p .source) 1 (p .target)) (steps k s k))
+      (λ p. every-fault (viewOf l w .forward (p .source)) (p .source) 1 (p .target) refl) (steps k s k))
       (summed-onward l w k s) n b)
 
   -- a candidate that fits has at most one fault, which its mend mends; one that does not has many
@@ -399,7 +387,7 @@ module _ (l : Layout) (w : List ℕ) (k : ℕ) (h : k < l .lists) where
           (sym (ap (λ (s : List ℕ). choose (faultSum l w k (sequenceOf l w k)) (faultSum l w k s))
             (sym (same-yes (sequenceOf l w k) (backwardOf l w k) e))
             ∙ choose-same (faultSum l w k (sequenceOf l w k)) (few-yes-sum (sequenceOf l w k) p)))
-          (fit-by true true true p q e, mend-yes (sequenceOf l w k) p)
+          (fit-by true true true p q e, mend-yes (sequenceOf l w k) p, refl)
       by true p true q false e =
           let n : sequenceOf l w k ≡ backwardOf l w k → ⊥ =
                 λ d. true≢false (sym (same-refl (sequenceOf l w k)) ∙ ap (same (sequenceOf l w k)) d ∙ e) in
@@ -417,12 +405,12 @@ module _ (l : Layout) (w : List ℕ) (k : ℕ) (h : k < l .lists) where
           subst (Told l w k)
           (sym (ap (choose (faultSum l w k (sequenceOf l w k))) (many-no (backwardOf l w k) q)
             ∙ choose-first (faultSum l w k (sequenceOf l w k)) (few-yes-sum (sequenceOf l w k) p)))
-          (fit-by true false c p q e, mend-yes (sequenceOf l w k) p)
+          (fit-by true false c p q e, mend-yes (sequenceOf l w k) p, refl)
       by false p true q c e =
           subst (Told l w k)
           (sym (ap (λ (f : Faults). choose f (faultSum l w k (backwardOf l w k))) (many-no (sequenceOf l w k) p)
             ∙ choose-second (faultSum l w k (backwardOf l w k)) (few-yes-sum (backwardOf l w k) q)))
-          (fit-by false true c p q e, mend-yes (backwardOf l w k) q)
+          (fit-by false true c p q e, mend-yes (backwardOf l w k) q, refl)
       by false p false q c e =
           subst (Told l w k)
           (sym (ap (λ (f : Faults). choose f (faultSum l w k (backwardOf l w k))) (many-no (sequenceOf l w k) p)
@@ -491,3 +479,16 @@ members-told l w k h z c = by (fitIn l (viewOf l w) k (countIn w k)) z (fit-told
     by (G.Backward f) z t =
         rw (t .0)
         ((λ m. reverse-in (walked l (turned (viewOf l w)) k) m), (λ m. in-reverse (walked l (turned (viewOf l w)) k) m))
+
+-- the sequence that fits, and its faults
+pub chosen-told
+    : (l : Layout) (w : List ℕ) (k : ℕ) → k < l .lists → numberOf (fitIn l (viewOf l w) k (countIn w k)) ≡ 0
+    → (fitOf l w k ≡ only (fittingOf l w k)) × (faultIn (fitIn l (viewOf l w) k (countIn w k)) ≡ faultSum l w k (fittingOf l w k))
+chosen-told l w k h z = by (fitIn l (viewOf l w) k (countIn w k)) z (fit-told l w k h)
+  where
+    by : (r : Fitted) → numberOf r ≡ 0 → Told l w k r
+        → (fitOf l w k ≡ only (fittingOf l w k)) × (faultIn r ≡ faultSum l w k (fittingOf l w k))
+    by G.Nothing z t = absurd (omega (arith, z))
+    by G.Several z t = absurd (omega (arith, z))
+    by (G.Forward f) z t = rw (t .0) (refl, t .2)
+    by (G.Backward f) z t = rw (t .0) (refl, t .2)

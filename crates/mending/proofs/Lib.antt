@@ -4,4 +4,5 @@ pub mod AllLists
 pub mod Listing
 pub mod Cleared
 pub mod Fitting
+pub mod LeftOver
 pub mod Recovered

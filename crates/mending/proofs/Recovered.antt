@@ -1,8 +1,8 @@
 -- What the columns told is the plan of recovery.
 use Prim.Native.Nat.{ℕ, zero, suc, _+_, _<_, _≤_}
 use mathlib.Core.Path.{_≡_, refl, ap, ap₂, _∙_, sym, subst}
-use mathlib.Core.List.{List, _++_}
-use mathlib.Core.Bool.{Bool, true, false, cond}
+use mathlib.Core.List.{List, _++_, append-nil}
+use mathlib.Core.Bool.{Bool, true, false, cond, _&&_, and-eq-true-iff}
 use native.Mathlib.Omega.{arith}
 use native.Mathlib.Nat.{eq-or-lt-of-le}
 use mathlib.Core.Logic.{⊎-elim}
@@ -13,15 +13,16 @@ use Rattle.sequences.specs.Sequence.{_∈_}
 use Rattle.stores.specs.Stores.{Write, refuse, stores, writesIn}
 use Rattle.layout.specs.declared.Layout.{Layout}
 use Rattle.layout.specs.Words.{firstNode}
-use Rattle.lists.specs.Decide.{View, viewOf, countIn}
+use Rattle.lists.specs.Decide.{View, viewOf, countIn, used}
 use Rattle.survey.specs.Survey.{columns, Loaded}
-use Rattle.survey.proofs.Laws.{loaded-view}
+use Rattle.survey.proofs.Laws.{loaded-view, used-same}
 use Rattle.recovery.specs.Plan.{joined, clears, fittingOf, refusalFrom, recoverOf}
 use Rattle.mending.specs.declared.Mends.{Mends}
-use Rattle.mending.specs.Mending.{fitIn, mendOf, numberOf, faultIn, isBackward, refusalIn, mendsIn, erasedFrom, clearsIn, MendsOf, membersBy, erased}
+use Rattle.mending.specs.Mending.{fitIn, mendOf, numberOf, faultIn, isBackward, refusalIn, mendsIn, lengthBy, carries, total, erasedFrom, clearsIn, MendsOf, membersBy, erased}
 use Rattle.mending.proofs.AllLists.{length-erased}
 use Rattle.mending.proofs.Cleared.{cleared-told}
 use Rattle.mending.proofs.Fitting.{refusal-told, mends-told, members-told}
+use Rattle.mending.proofs.LeftOver.{total-same, nothing-left}
 
 -- the counts of lists below L are all that matters
 refusal-counts : (l : Layout) (v : View) (c d : ℕ → ℕ) (k n : ℕ) → ((j : ℕ) → k ≤ j → j < k + n → c j ≡ d j)
@@ -71,32 +72,66 @@ module _ (l : Layout) (w idents forwards backs : List ℕ) (loaded : Loaded l w 
   unfolding recoverOf
   recover-refused n = rw (ne-eqb _ _ (λ e. n (refusal ∙ e))) (ap refuse (sym refusal))
 
-  -- the stores: the mends, and the clears by what is left of the identifiers
-  abbrev Clears : List Write
-  Clears = clearsIn l (erasedFrom l (columns idents forwards backs) (λ k. getD (m .back) k false) 0 (l .lists) idents) (firstNode l) (l .nodes)
+  -- no refusal
+  module _ (z : m .refusal ≡ 0) where
+    none : refusalIn l v (countIn w) 0 (l .lists) ≡ 0
+    none = sym counted ∙ sym (told-words .refusal) ∙ z
 
-  pub recover-stores : m .refusal ≡ 0 → recoverOf l w ≡ stores (writesIn (m .rows) ++ Clears)
-  unfolding recoverOf
-  recover-stores z =
-      rw (eq-eqb _ _ (sym refusal ∙ z))
-      (ap stores
-      (sym
-      (ap₂ (λ (ps qs : List Write). ps ++ qs)
-        (told-words .rows z .same ∙ mends-counts l v counts (countIn w) 0 (l .lists) (λ j p q. same j (omega arith)))
-        cleared
-      ∙ mends-told l w 0 (l .lists) (omega arith) none)))
-    where
-      none : refusalIn l v (countIn w) 0 (l .lists) ≡ 0
-      none = sym counted ∙ sym (told-words .refusal) ∙ z
-      back : (k : ℕ) → k < l .lists → getD (m .back) k false ≡ isBackward (fitIn l v k (countIn w k))
-      back k h = told-words .back z k h ∙ ap (λ (n : ℕ). isBackward (fitIn l v k n)) (same k h)
-      cleared : Clears ≡ clears l w (joined (fittingOf l w) (l .lists)) (firstNode l) (l .nodes)
-      cleared =
-          ap (λ (u : View). clearsIn l (erasedFrom l u (λ k. getD (m .back) k false) 0 (l .lists) idents) (firstNode l) (l .nodes))
-          (loaded-view l w idents forwards backs loaded)
-          ∙ cleared-told l w idents v (λ k. getD (m .back) k false) (fittingOf l w) (λ c _. loaded .idents c)
-            (λ k h. subst (λ (b : Bool). (c : ℕ) → (c ∈ membersBy l v b k → c ∈ fittingOf l w k) × (c ∈ fittingOf l w k → c ∈ membersBy l v b k)) (sym (back k h))
-              (members-told l w k h (none-refused l v (countIn w) 0 (l .lists) none k (omega arith) (omega arith))))
+    fitted : (k : ℕ) → k < l .lists → numberOf (fitIn l v k (countIn w k)) ≡ 0
+    fitted k h = none-refused l v (countIn w) 0 (l .lists) none k (omega arith) (omega arith)
+
+    -- the stores: the mends, and the clears ..
+    abbrev Left : List Write
+    Left = clears l w (joined (fittingOf l w) (l .lists)) (firstNode l) (l .nodes)
+
+    stores-told : recoverOf l w ≡ stores (writesIn (m .rows) ++ Left)
+    unfolding recoverOf
+    stores-told =
+        rw (eq-eqb _ _ (sym refusal ∙ z))
+        (ap stores
+        (sym
+        (ap (λ (ps : List Write). ps ++ Left)
+          (told-words .rows z .same ∙ mends-counts l v counts (countIn w) 0 (l .lists) (λ j p q. same j (omega arith)))
+        ∙ mends-told l w 0 (l .lists) (omega arith) none)))
+
+    -- .. by what is left of the identifiers
+    abbrev Clears : List Write
+    Clears = clearsIn l (erasedFrom l (columns idents forwards backs) (λ k. getD (m .back) k false) 0 (l .lists) idents) (firstNode l) (l .nodes)
+
+    pub recover-stores : recoverOf l w ≡ stores (writesIn (m .rows) ++ Clears)
+    recover-stores = stores-told ∙ ap (λ (ps : List Write). stores (writesIn (m .rows) ++ ps)) (sym cleared)
+      where
+        back : (k : ℕ) → k < l .lists → getD (m .back) k false ≡ isBackward (fitIn l v k (countIn w k))
+        back k h = told-words .back z k h ∙ ap (λ (n : ℕ). isBackward (fitIn l v k n)) (same k h)
+        cleared : Clears ≡ Left
+        cleared =
+            ap (λ (u : View). clearsIn l (erasedFrom l u (λ k. getD (m .back) k false) 0 (l .lists) idents) (firstNode l) (l .nodes))
+            (loaded-view l w idents forwards backs loaded)
+            ∙ cleared-told l w idents v (λ k. getD (m .back) k false) (fittingOf l w) (λ c _. loaded .idents c)
+              (λ k h. subst (λ (b : Bool). (c : ℕ) → (c ∈ membersBy l v b k → c ∈ fittingOf l w k) × (c ∈ fittingOf l w k → c ∈ membersBy l v b k)) (sym (back k h))
+                (members-told l w k h (fitted k h)))
+
+    -- .. or none, if nobody is left over
+    pub recover-mends : (m .carried && eqb (m .members) (length (used (columns idents idents idents) (firstNode l) (l .nodes)))) ≡ true
+        → recoverOf l w ≡ stores (writesIn (m .rows))
+    recover-mends e =
+        stores-told
+        ∙ ap (λ (ps : List Write). stores (writesIn (m .rows) ++ ps)) (nothing-left l w fitted carried number)
+        ∙ ap stores (append-nil (writesIn (m .rows)))
+      where
+        both : (m .carried ≡ true) × (eqb (m .members) (length (used (columns idents idents idents) (firstNode l) (l .nodes))) ≡ true)
+        both = and-eq-true-iff _ _ .0 e
+        carried : (k : ℕ) → k < l .lists → carries (v .ident) (faultIn (fitIn l v k (countIn w k))) ≡ true
+        carried k h =
+            ap (λ (n : ℕ). carries (v .ident) (faultIn (fitIn l v k n))) (sym (same k h)) ∙ told-words .carried z (both .0) k h
+        idents-same : columns idents idents idents .ident ≡ v .ident
+        idents-same = ap (λ (u : View). u .ident) (loaded-view l w idents forwards backs loaded)
+        number : total (λ k. lengthBy (faultIn (fitIn l v k (countIn w k))) (countIn w k)) (l .lists) ≡ length (used v (firstNode l) (l .nodes))
+        number =
+            total-same _ _ (l .lists) (λ k h. ap (λ (n : ℕ). lengthBy (faultIn (fitIn l v k n)) n) (sym (same k h)))
+            ∙ sym (told-words .members z)
+            ∙ eqb-true _ _ (both .1)
+            ∙ ap length (used-same (columns idents idents idents) v (firstNode l) (l .nodes) idents-same)
 
 -- a column with members erased has its length
 pub length-from : (l : Layout) (v : View) (back : ℕ → Bool) (k n : ℕ) (xs : List ℕ) → length (erasedFrom l v back k n xs) ≡ length xs

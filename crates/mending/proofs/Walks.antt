@@ -2,7 +2,7 @@
 use Prim.Native.Nat.{ℕ, suc, _+_, _-_, _≤_, _<_}
 use mathlib.Core.Path.{_≡_, refl, ap, _∙_}
 use mathlib.Core.List.{List, [], _∷_}
-use mathlib.Core.Bool.{true, false, false≢true}
+use mathlib.Core.Bool.{Bool, true, false, cond, false≢true}
 use native.Mathlib.Omega.{arith}
 use lib.Dec.{eqb}
 use lib.ListN.{length}
@@ -16,7 +16,7 @@ use Rattle.mending.specs.declared.Faults.{Faults}
 use Rattle.mending.specs.declared.Faults.the-variants as F
 use Rattle.mending.specs.declared.Fitted.the-variants as G
 use Rattle.mending.specs.Mending.{decides, choose}
-use Rattle.mending.specs.Mending.{plus, fault, turnFaults, faultsOf, walked, walkFaults}
+use Rattle.mending.specs.Mending.{Each, plus, fault, turnFaults, faultsOf, walked, walkFaults}
 
 -- no faults more
 pub plus-none : (f : Faults) → plus f F.None ≡ f
@@ -33,6 +33,32 @@ plus-assoc (F.One c w v) (F.One d u t) (F.One e s r) = refl
 plus-assoc (F.One c w v) (F.One d u t) F.Many = refl
 plus-assoc (F.One c w v) F.Many h = refl
 plus-assoc F.Many g h = refl
+
+-- a property that follows from another
+pub each-map : {P Q : ℕ → ℕ → Type 0} (f : Faults) → ((c w : ℕ) → P c w → Q c w) → Each P f → Each Q f
+each-map F.None h p = tt
+each-map (F.One c w v) h p = h c w p
+each-map F.Many h p = tt
+
+-- `Each` as a record, so that P and f can be told from it
+pub record Every (P : ℕ → ℕ → Type 0) (f : Faults) : Type 0 where
+  pub each : Each P f
+
+-- of the faults of two parts, if of those of each
+pub every-plus : {P : ℕ → ℕ → Type 0} {f g : Faults} → Every P f → Every P g → Every P (plus f g)
+every-plus {f = F.None} p q = q
+every-plus {f = F.One c f v} {g = F.None} p q = p
+every-plus {f = F.One c f v} {g = F.One d g u} p q = record { each = tt }
+every-plus {f = F.One c f v} {g = F.Many} p q = record { each = tt }
+every-plus {f = F.Many} p q = record { each = tt }
+
+-- of one word
+pub every-fault : {P : ℕ → ℕ → Type 0} (x c f v : ℕ) → P c f → Every P (fault x c f v)
+every-fault {P} x c f v h = by (eqb x v)
+  where
+    by : (b : Bool) → Every P (cond b F.None (F.One c f v))
+    by true = record { each = tt }
+    by false = record { each = h }
 
 -- a word that holds what it is to hold is no fault, any other is one
 pub no-fault : (x c f v : ℕ) → x ≡ v → fault x c f v ≡ F.None

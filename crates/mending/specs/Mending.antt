@@ -105,6 +105,23 @@ isBackward G.Several = false
 isBackward (G.Forward f) = false
 isBackward (G.Backward f) = true
 
+-- the number of members, by the faults and the count n: what the count holds, or is to hold
+abbrev pub lengthBy : Faults → ℕ → ℕ
+lengthBy F.None n = n
+lengthBy (F.One c f v) n = cond (eqb f 3) v n
+lengthBy F.Many n = n
+
+-- whether every member carries an identifier: the wrong word is none that holds 0
+abbrev pub carries : (ℕ → ℕ) → Faults → Bool
+carries ident F.None = true
+carries ident (F.One c f v) = cond (eqb f 0) (not (eqb (ident c) 0)) true
+carries ident F.Many = true
+
+-- the sum of the first n
+unfoldable pub total : (ℕ → ℕ) → ℕ → ℕ
+total f zero = 0
+total f (suc n) = total f n + f n
+
 -- of the n lists from k on: the first number that is not 0, and the mends in order
 unfoldable pub refusalIn : Layout → View → (ℕ → ℕ) → ℕ → ℕ → ℕ
 refusalIn l v count k zero = 0
@@ -156,15 +173,21 @@ pub record Told (l : Layout) (w idents forwards backs counts : List ℕ) : Type 
   pub loaded : Loaded l w idents forwards backs
   pub counted : (k : ℕ) → k < l .lists → getD counts k 0 ≡ countIn w k
 
+-- a property of the cell and the word of a fault
+abbrev pub Each : (ℕ → ℕ → Type 0) → Faults → Type 0
+Each P F.None = Unit {0}
+Each P (F.One c f v) = P c f
+Each P F.Many = Unit {0}
+
 -- a fault of a cell of the store
 abbrev pub FaultFits : Layout → Faults → Type 0
-FaultFits l F.None = Unit {0}
-FaultFits l (F.One c f v) = cellAt l c + f < sizeOf l
-FaultFits l F.Many = Unit {0}
+FaultFits l = Each (λ c f. (c < cellCount l) × (cellAt l c + f < sizeOf l))
 
--- what is found of all lists; the mends and the directions count only where no list is refused
+-- what is found of all lists; all but the refusal counts only where no list is refused
 pub record MendsOf (l : Layout) (v : View) (count : ℕ → ℕ) (m : Mends) : Type 0 where
   pub refusal : m .refusal ≡ refusalIn l v count 0 (l .lists)
+  pub members : m .refusal ≡ 0 → m .members ≡ total (λ k. lengthBy (faultIn (fitIn l v k (count k))) (count k)) (l .lists)
+  pub carried : m .refusal ≡ 0 → m .carried ≡ true → (k : ℕ) → k < l .lists → carries (v .ident) (faultIn (fitIn l v k (count k))) ≡ true
   pub rows : m .refusal ≡ 0 → Held (sizeOf l) (m .rows) (mendsIn l v count 0 (l .lists))
   pub few : m .refusal ≡ 0 → m .rows .len ≤ l .lists
   pub back : m .refusal ≡ 0 → (k : ℕ) → k < l .lists → getD (m .back) k false ≡ isBackward (fitIn l v k (count k))

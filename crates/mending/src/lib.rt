@@ -8,13 +8,15 @@ use stores::Rows;
 ghost use mathlib.Core.Path.{_≡_};
 ghost use Prim.Native.Nat.{ℕ, _+_, _<_, _≤_};
 ghost use mathlib.Core.List.{List, _++_};
-ghost use mathlib.Core.Bool.{false};
+ghost use mathlib.Core.Bool.{false, _&&_};
+ghost use lib.Dec.{eqb};
 ghost use lib.ListN.{length, getD};
 ghost use Rattle.stores.specs.Stores.{writesIn, Held, answerOf, wordsAfter};
 ghost use Rattle.layout.specs.Words.{Laid, InRange, cellCount, firstNode, sizeOf};
+ghost use Rattle.lists.specs.Decide.{used};
 ghost use Rattle.survey.specs.Survey.{columns, Columns};
 ghost use Rattle.recovery.specs.Plan.{recoverOf};
-ghost use Rattle.mending.specs.Mending.{plus, fault, walkFaults, decides, choose, fitIn, mendOf, numberOf, faultIn, isBackward, FaultFits, MendsOf, walked, erased, erasedFrom, clearsIn, listed, Listed, Told, planOf};
+ghost use Rattle.mending.specs.Mending.{plus, fault, walkFaults, decides, lengthBy, carries, choose, fitIn, mendOf, numberOf, faultIn, isBackward, Each, FaultFits, MendsOf, walked, erased, erasedFrom, clearsIn, listed, Listed, Told, planOf};
 
 // The wrong words of a sequence: word f of cell c is to hold v.
 pub enum Faults {
@@ -31,10 +33,12 @@ pub enum Fitted {
     Backward(Faults),
 }
 
-// What is found of all lists: the number of the first that is refused, 0 for none; the mends, list 0 first; and which lists go by
-// their back links.
+// What is found of all lists: the number of the first that is refused, 0 for none; how many members they have, and whether each
+// carries an identifier; which lists go by their back links; and the mends, list 0 first.
 pub struct Mends {
     pub refusal: u16,
+    pub members: u32,
+    pub carried: bool,
     pub back: [bool; 8],
     pub rows: Rows,
 }
@@ -69,6 +73,35 @@ impl Faults {
             Faults::None => true,
             Faults::One(_, w, _) => w != 2,
             Faults::Many => false,
+        }
+    }
+
+    // The number of members, in a list whose count is n: what the count holds, or is to hold.
+    fn members(self, n: u16) -> u16
+        ensures { λ r. ⌜ r ≡ lengthBy self n ⌝ }
+    {
+        match self {
+            Faults::None => n,
+            Faults::One(_, w, v) => {
+                if w == 3 {
+                    v
+                } else {
+                    n
+                }
+            }
+            Faults::Many => n,
+        }
+    }
+
+    // Does every member carry an identifier, right or wrong?
+    fn carried(self, idents: &[u16]) -> bool
+        requires { ⌜ Each (λ c f. c < length (now idents)) self ⌝ }
+        ensures { λ r. ⌜ r ≡ carries (λ c. getD (now (idents .entry)) c 0) self ⌝ }
+    {
+        match self {
+            Faults::None => true,
+            Faults::One(c, w, _) => w != 0 || idents[c as usize] != 0,
+            Faults::Many => true,
         }
     }
 }
@@ -197,25 +230,35 @@ fn all_mends(
     requires { ⌜ Columns l (now idents) (now forwards) (now backs) ⌝ }
     ensures { λ r. ⌜ MendsOf l (columns (now (idents .entry)) (now (forwards .entry)) (now (backs .entry))) (λ k. getD counts k 0) r ⌝ }
 {
+    let mut members: u32 = 0;
+    let mut carried = true;
     let mut back = [false; 8];
     let mut rows = Rows::new();
     let mut k: u16 = 0;
     while k < l.lists {
-        let f = fit(idents, forwards, backs, counts[k as usize], l, k);
+        let n = counts[k as usize];
+        let f = fit(idents, forwards, backs, n, l, k);
         let refusal = f.number();
         if refusal != 0 {
             return Mends {
                 refusal,
+                members,
+                carried,
                 back,
                 rows,
             };
         }
+        let fault = f.fault();
+        members += fault.members(n) as u32;
+        carried &= fault.carried(idents);
         back[k as usize] = f.is_backward();
-        rows = mended(rows, l, f.fault());
+        rows = mended(rows, l, fault);
         k += 1;
     }
     Mends {
         refusal: 0,
+        members,
+        carried,
         back,
         rows,
     }
@@ -289,8 +332,16 @@ fn list_clears(idents: &[u16], l: Layout, at: &mut [u16], values: &mut [u16], n:
     n
 }
 
+// Is every node with an identifier a member? It is if the members all carry one and are as many as the nodes that do.
+fn none_left(idents: &[u16], l: Layout, members: u32, carried: bool) -> bool
+    requires { ⌜ InRange l × (length (now idents) ≡ cellCount l) ⌝ }
+    ensures { λ r. ⌜ r ≡ (carried && eqb members (length (used (columns (now (idents .entry)) (now (idents .entry)) (now (idents .entry))) (firstNode l) (l .nodes)))) ⌝ }
+{
+    carried && members == survey::used_nodes(idents, l) as u32
+}
+
 // Decides recovery by the columns and the counts. The stores are listed in the columns of links: addresses in the forward one, values
-// in the back one.
+// in the back one. The members are told from the other nodes only if one of those carries an identifier.
 pub fn plan(idents: &mut [u16], forwards: &mut [u16], backs: &mut [u16], counts: [u16; 8], l: Layout) -> Finding
     requires { ⌜ Columns l (now idents) (now forwards) (now backs) ⌝ }
     ensures { λ r. ⌜ ((w : List ℕ) → Told l w (now (idents .entry)) (now (forwards .entry)) (now (backs .entry)) counts → recoverOf l w ≡ planOf r (now (forwards .exit)) (now (backs .exit))) ⌝ }
@@ -303,10 +354,17 @@ pub fn plan(idents: &mut [u16], forwards: &mut [u16], backs: &mut [u16], counts:
             stores: 0,
         };
     }
-    let back = m.back;
-    erase_all(idents, forwards, backs, back, l);
     let rows = m.rows;
     let n = rows.len;
+    if none_left(idents, l, m.members, m.carried) {
+        list_mends(rows, l, forwards, backs);
+        return Finding {
+            refusal: 0,
+            stores: n,
+        };
+    }
+    let back = m.back;
+    erase_all(idents, forwards, backs, back, l);
     list_mends(rows, l, forwards, backs);
     Finding {
         refusal: 0,

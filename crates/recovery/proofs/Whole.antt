@@ -101,7 +101,8 @@ none-clear l w ms a (suc n) e c p q o = by (eqb (getD w (identAt l a) 0) 0 || is
     by true z below (inr d) = below (sym (clear-skip l ms w a n z) ∙ e) d
     by false z below d = absurd (omega (arith, ap length (sym (clear-here l ms w a n z) ∙ e)))
 
-clear-none : (l : Layout) (w ms : List ℕ) (a n : ℕ) → ((c : ℕ) → a ≤ c → c < a + n → (c ∈ ms → ⊥) → getD w (identAt l c) 0 ≡ 0)
+-- where every node in none of the sequences has identifier 0, nothing is to be cleared
+pub clear-none : (l : Layout) (w ms : List ℕ) (a n : ℕ) → ((c : ℕ) → a ≤ c → c < a + n → (c ∈ ms → ⊥) → getD w (identAt l c) 0 ≡ 0)
     → clears l w ms a n ≡ []
 unfolding clears
 clear-none l w ms a zero h = refl

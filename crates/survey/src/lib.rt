@@ -127,7 +127,7 @@ fn ring(idents: &[u16], forwards: &[u16], backs: &[u16], l: Layout, k: u16) -> R
 }
 
 // The number of nodes whose identifier is not 0.
-fn used_nodes(idents: &[u16], l: Layout) -> u16
+pub fn used_nodes(idents: &[u16], l: Layout) -> u16
     requires { ⌜ InRange l × (length (now idents) ≡ cellCount l) ⌝ }
     ensures { λ r. ⌜ r ≡ length (used (columns (now (idents .entry)) (now (idents .entry)) (now (idents .entry))) (firstNode l) (l .nodes)) ⌝ }
 {

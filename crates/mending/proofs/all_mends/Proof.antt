@@ -1,20 +1,22 @@
 -- `mending::all_mends` meets its contract. The loop's invariant: where the search stands at list k.
-use Prim.Native.Nat.{ℕ, _-_}
-use mathlib.Core.Path.{refl}
+use Prim.Native.Nat.{ℕ, _-_, _*_, _≤_}
+use mathlib.Core.Path.{refl, ap, sym, subst, _∙_}
 use native.Mathlib.Omega.{arith}
-use lib.ListN.{getD}
+use lib.ListN.{length, getD}
 use Rattle.lists.specs.Decide.{View}
 use Rattle.survey.specs.Survey.{columns}
+use Rattle.mending.specs.Mending.{faultIn, FaultFits}
+use Rattle.mending.proofs.Walks.{each-map}
 use Rattle.mending.proofs.AllLists.{Found, found-none, found-more, found-refused, found-all, fit-fits}
 use Rattle.mending.proofs.all_mends.Statement.{statement}
 use Rattle.mending.proofs.all_mends.Tie as tie
 
 abbrev Inv-loop : tie.InvT-loop
-Inv-loop idents forwards backs l counts back₀ rows₀ k₀ back rows k =
-    Found l (columns idents forwards backs) (λ j. getD counts j 0) back rows k
+Inv-loop idents forwards backs l counts members₀ carried₀ back₀ rows₀ k₀ members carried back rows k =
+    Found l (columns idents forwards backs) (λ j. getD counts j 0) members carried back rows k × (members ≤ 65535 * k)
 
 abbrev μ-loop : tie.MeasureT-loop
-μ-loop idents forwards backs l counts back₀ rows₀ k₀ back rows k = l .lists - k
+μ-loop idents forwards backs l counts members₀ carried₀ back₀ rows₀ k₀ members carried back rows k = l .lists - k
 
 -- the places in the loop, the columns and the counts
 abbrev start : tie.At-loop Inv-loop μ-loop → tie.Start Inv-loop μ-loop
@@ -29,22 +31,31 @@ view s = columns (s .args .idents .now) (s .args .forwards .now) (s .args .backs
 abbrev count : tie.Start Inv-loop μ-loop → ℕ → ℕ
 count s k = getD (s .args .t4) k 0
 
+-- the fault of list k is of the store
+fault-inside : (c : tie.After-fault Inv-loop μ-loop) → FaultFits (start (at (c .before .before .before)) .args .l) (c .fault .result)
+fault-inside c =
+    let f = c .before .before .before in
+    let t = at f in
+    let s = start t in
+    subst (FaultFits (s .args .l)) (sym (c .fault .ensures ∙ ap faultIn (f .fit .ensures)))
+    (fit-fits (s .args .l) (s .pre .inRange) (view s) (t .loop .k) (count s (t .loop .k)) (omega arith))
+
 new-requires : tie.Need-new-requires Inv-loop μ-loop
 new-requires c κs = omega arith
 
 loop-holds : tie.Need-loop-holds Inv-loop μ-loop
 loop-holds c =
     let s = c .before .before .before .before in
-    found-none (s .args .l) (s .pre .inRange) (view s) (count s) _ (c .new .result) refl (c .new .ensures _)
+    (found-none (s .args .l) (s .pre .inRange) (view s) (count s) _ (c .new .result) refl (c .new .ensures _), omega arith)
 
-cast-fit : tie.Need-cast-fit Inv-loop μ-loop
-cast-fit c = omega arith
+cast-n : tie.Need-cast-n Inv-loop μ-loop
+cast-n c = omega arith
 
-mul-fit : tie.Need-mul-fit Inv-loop μ-loop
-mul-fit c = omega arith
+mul-n : tie.Need-mul-n Inv-loop μ-loop
+mul-n c = omega arith
 
-array-read-fit : tie.Need-array-read-fit Inv-loop μ-loop
-array-read-fit c = omega arith
+array-read-n : tie.Need-array-read-n Inv-loop μ-loop
+array-read-n c = omega arith
 
 fit-requires : tie.Need-fit-requires Inv-loop μ-loop
 fit-requires c κs = omega arith
@@ -57,8 +68,25 @@ returns c =
     let n = c .before in
     let t = at (n .before) in
     let s = start t in
-    found-refused (s .args .l) (s .pre .inRange) (view s) (count s) (t .loop .inv) (omega arith)
+    found-refused (s .args .l) (s .pre .inRange) (view s) (count s) (t .loop .inv .0) (omega arith)
     (n .before .fit .ensures) (n .number .ensures) (c .if2 .taken)
+
+fault-requires : tie.Need-fault-requires Inv-loop μ-loop
+fault-requires c κs = omega arith
+
+members-requires : tie.Need-members-requires Inv-loop μ-loop
+members-requires c κs = omega arith
+
+cast-members : tie.Need-cast-members Inv-loop μ-loop
+cast-members c = omega arith
+
+add-members : tie.Need-add-members Inv-loop μ-loop
+add-members c = omega arith
+
+carried-requires : tie.Need-carried-requires Inv-loop μ-loop
+carried-requires c κs =
+    let s = start (at (c .before .before .before .before)) in
+    each-map (c .before .fault .result) (λ x f h. omega (arith, h .0, s .pre .idents)) (fault-inside (c .before))
 
 is-backward-requires : tie.Need-is-backward-requires Inv-loop μ-loop
 is-backward-requires c κs = omega arith
@@ -69,20 +97,12 @@ cast-back c = omega arith
 array-write-back : tie.Need-array-write-back Inv-loop μ-loop
 array-write-back c = omega arith
 
-fault-requires : tie.Need-fault-requires Inv-loop μ-loop
-fault-requires c κs = omega arith
-
 mended-requires : tie.Need-mended-requires Inv-loop μ-loop
 mended-requires c κs =
-    let f = c .before .before .before .before in
-    let t = at f in
-    let s = start t in (
-      s .pre .inRange,
-      t .loop .inv .held,
-      omega arith,
-      rw (c .fault .ensures, f .fit .ensures)
-          (fit-fits (s .args .l) (s .pre .inRange) (view s) (t .loop .k) (count s (t .loop .k)) (omega arith)),
-    )
+    let g = c .before .before .before in
+    let t = at (g .before .before .before) in
+    let s = start t in
+    (s .pre .inRange, t .loop .inv .0 .held, omega arith, fault-inside g)
 
 add-k : tie.Need-add-k Inv-loop μ-loop
 add-k c = omega arith
@@ -92,20 +112,24 @@ loop-less c = omega arith
 
 loop-again : tie.Need-loop-again Inv-loop μ-loop
 loop-again c =
-    let g = c .before in
-    let n = g .before .before .before in
+    let b = c .before in
+    let a = b .before in
+    let m = a .before in
+    let g = m .before in
+    let n = g .before .before in
     let f = n .before in
     let t = at f in
     let s = start t in
-    found-more (s .args .l) (s .pre .inRange) (view s) (count s) (t .loop .inv) (omega arith)
-    (f .fit .ensures) (n .number .ensures) (g .before .before .if2 .left)
-    (g .before .is-backward .ensures) (g .fault .ensures) (c .mended .ensures)
+    (found-more (s .args .l) (s .pre .inRange) (view s) (count s) (t .loop .inv .0) (omega arith)
+      (f .fit .ensures) (n .number .ensures) (g .before .if2 .left) (g .fault .ensures) (m .members .ensures)
+      (a .carried .ensures) (b .is-backward .ensures) (c .mended .ensures),
+    omega arith)
 
 returns-2 : tie.Need-returns-2 Inv-loop μ-loop
 returns-2 c =
     let t = c .before .before in
     let s = start t in
-    found-all (s .args .l) (s .pre .inRange) (view s) (count s) (t .loop .inv) (omega arith)
+    found-all (s .args .l) (s .pre .inRange) (view s) (count s) (t .loop .inv .0) (omega arith)
 
 pub all-mends-spec : {M : Type 1} → statement M
 all-mends-spec =
@@ -115,16 +139,20 @@ all-mends-spec =
     μ-loop
     new-requires
     loop-holds
-    cast-fit
-    mul-fit
-    array-read-fit
+    cast-n
+    mul-n
+    array-read-n
     fit-requires
     number-requires
     returns
+    fault-requires
+    members-requires
+    cast-members
+    add-members
+    carried-requires
     is-backward-requires
     cast-back
     array-write-back
-    fault-requires
     mended-requires
     add-k
     loop-less
