@@ -15,7 +15,7 @@ use Rattle.stores.specs.Stores.{Write, write, run, Plan, refuse, stores, answer
 use Rattle.stores.proofs.Laws.{run-append}
 use Rattle.byte_form.specs.Bytes.{wordsIn, byteWrites, appliedBytes, bytesAfter}
 use Rattle.byte_form.proofs.Laws.{byte-append}
-use Rattle.axle.specs.Interface.{recordIn}
+use Rattle.axle.specs.Interface.{recordWords}
 
 -- a refusal, and a run of the stores of a plan
 pub byte-refused : {p : Plan} {n : ℕ} (m : ℕ) (b : List ℕ) → p ≡ refuse n → (A.Refused n ≡ answerOf p m) × (b ≡ bytesAfter p m b)
@@ -29,8 +29,8 @@ byte-run m b e h x y =
     (x ∙ ap (λ (p : Plan). answerOf p m) q, y ∙ ap (λ (p : Plan). bytesAfter p m b) q)
 
 -- a record's words are words of its bytes
-pub record-inside : (b : List ℕ) (i : ℕ) → i < length (recordIn b) → (i < length (wordsIn b)) × (getD (wordsIn b) i 0 ≡ getD (recordIn b) i 0)
-unfolding recordIn
+pub record-inside : (b : List ℕ) (i : ℕ) → i < length (recordWords b) → (i < length (wordsIn b)) × (getD (wordsIn b) i 0 ≡ getD (recordWords b) i 0)
+unfolding recordWords
 record-inside b i = by (eqb (length b % 2) 0)
   where
     by : (e : Bool) → i < length (cond e (wordsIn b) []) → (i < length (wordsIn b)) × (getD (wordsIn b) i 0 ≡ getD (cond e (wordsIn b) []) i 0)

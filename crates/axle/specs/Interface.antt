@@ -20,8 +20,8 @@ abbrev pub evenly {ℓ} : {A : Type ℓ} → List ℕ → A → (List ℕ → A)
 evenly bytes refusal call = ask (eqb (length bytes % 2) 0) refusal (call (wordsIn bytes))
 
 -- "a record of odd byte length is answered 9 in its turn": it counts as a record of no words, and P is at least 1
-unfoldable pub recordIn : List ℕ → List ℕ
-recordIn bytes = evenly bytes [] (λ w. w)
+unfoldable pub recordWords : List ℕ → List ℕ
+recordWords bytes = evenly bytes [] (λ w. w)
 
 -- "a refusal's number, ..; 65,536 plus the length or the number of stores done; 131,072 plus the number where stopped"
 abbrev pub codeOf : Answer → ℕ
@@ -60,7 +60,7 @@ unfoldable pub byteFormat : Layout → List ℕ → Plan
 byteFormat l bytes = evenly bytes (refuse 4) (formatPlan l)
 
 unfoldable pub byteInsert : List ℕ → ℕ → ℕ → ℕ → List ℕ → Plan
-byteInsert bytes k p c rec = evenly bytes (refuse 4) (λ w. insertPlan w k p c (recordIn rec))
+byteInsert bytes k p c rec = evenly bytes (refuse 4) (λ w. insertPlan w k p c (recordWords rec))
 
 unfoldable pub byteDelete : List ℕ → ℕ → ℕ → Plan
 byteDelete bytes k p = evenly bytes (refuse 4) (λ w. deletePlan w k p)

@@ -16,7 +16,7 @@ ghost use Rattle.survey.specs.Survey.{Columns};
 ghost use Rattle.recovery.specs.Plan.{recoverOf, recoverPlan};
 ghost use Rattle.mending.specs.Mending.{listed, Listed, planOf};
 ghost use Rattle.axle_store.specs.Calls.{insertPlan, deletePlan};
-ghost use Rattle.axle.specs.Interface.{recordIn, codeOf, checkCode, lengthCode, formatPlan, wholeCode, wholeBytes, byteFormat, byteInsert, byteDelete, byteRecover};
+ghost use Rattle.axle.specs.Interface.{recordWords, codeOf, checkCode, lengthCode, formatPlan, wholeCode, wholeBytes, byteFormat, byteInsert, byteDelete, byteRecover};
 
 // The number of an answer.
 fn code(answer: Answer) -> u32
@@ -99,7 +99,7 @@ pub extern "C" fn axle_length(store: &[u8], list: u16) -> u32
 
 // The number of a record's words, 0 if its bytes are odd.
 fn record_size(rec: &[u8]) -> usize
-    ensures { λ r. ⌜ r ≡ length (recordIn (now (rec .entry))) ⌝ }
+    ensures { λ r. ⌜ r ≡ length (recordWords (now (rec .entry))) ⌝ }
 {
     if rec.len() % 2 != 0 {
         return 0;
@@ -109,8 +109,8 @@ fn record_size(rec: &[u8]) -> usize
 
 // The words of a record of n words, at the front.
 fn record_of(rec: &[u8], n: usize) -> [u16; 13]
-    requires { ⌜ (n ≡ length (recordIn (now rec))) × (n ≤ 13) ⌝ }
-    ensures { λ r. ⌜ (13 ≡ length r) × (take n r ≡ recordIn (now (rec .entry))) ⌝ }
+    requires { ⌜ (n ≡ length (recordWords (now rec))) × (n ≤ 13) ⌝ }
+    ensures { λ r. ⌜ (13 ≡ length r) × (take n r ≡ recordWords (now (rec .entry))) ⌝ }
 {
     let mut words = [0u16; 13];
     let mut i: usize = 0;
@@ -123,8 +123,8 @@ fn record_of(rec: &[u8], n: usize) -> [u16; 13]
 
 // Inserts a record.
 fn insert(bytes: &mut [u8], list: u16, position: u16, start: u16, rec: &[u8], allowance: u16) -> Answer
-    ensures answer { λ r. ⌜ r ≡ answerOf (insertPlan (wordsIn (now (bytes .entry))) list position start (recordIn (now (rec .entry)))) allowance ⌝ }
-    ensures bytes { λ _. ⌜ now (bytes .exit) ≡ bytesAfter (insertPlan (wordsIn (now (bytes .entry))) list position start (recordIn (now (rec .entry)))) allowance (now (bytes .entry)) ⌝ }
+    ensures answer { λ r. ⌜ r ≡ answerOf (insertPlan (wordsIn (now (bytes .entry))) list position start (recordWords (now (rec .entry)))) allowance ⌝ }
+    ensures bytes { λ _. ⌜ now (bytes .exit) ≡ bytesAfter (insertPlan (wordsIn (now (bytes .entry))) list position start (recordWords (now (rec .entry)))) allowance (now (bytes .entry)) ⌝ }
 {
     let n = record_size(rec);
     match byte_survey::look(bytes, Request::Gap(list, position, start, n)) {

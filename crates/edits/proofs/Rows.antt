@@ -3,28 +3,19 @@ use Prim.Native.Nat.{ℕ, zero, suc, _+_, _≤_, _<_}
 use mathlib.Core.Path.{_≡_, refl, ap, ap₂, _∙_, sym, subst}
 use mathlib.Core.List.{List, [], _∷_, _++_, append-nil, append-assoc}
 use native.Mathlib.Omega.{arith}
-use native.Mathlib.Nat.{mul-le-mul}
 use native.Mathlib.Numerals.{add-one}
 use lib.ListN.{length, getD, take, length-append}
 use lib.Seq.{take-suc, take-all, length-take-le}
 use Rattle.sequences.specs.Sequence.{All}
 use Rattle.sequences.proofs.Members.{all-nth}
 use Rattle.layout.specs.declared.Layout.{Layout}
-use Rattle.layout.specs.Words.{nodeWords, cellAt, countAt, recordAt, sizeOf, InRange}
-use Rattle.layout.proofs.Laws.{cell-fits, header-fits, node-fits}
+use Rattle.layout.specs.Words.{cellAt, countAt, recordAt, sizeOf}
+use Rattle.layout.proofs.Laws.{size-small, cell-fits, header-fits, node-fits}
 use Rattle.stores.specs.declared.Rows.{Rows}
 use Rattle.stores.specs.Stores.{Write, write, inRow, writesIn, Held}
 use Rattle.stores.proofs.Laws.{length-row}
 use Rattle.requests.specs.declared.Site.{Site}
 use Rattle.edits.specs.Edits.{insertLinks, deleteWrites, Placed}
-
--- a word's number fits a `u16`
-pub size-small : (l : Layout) → InRange l → sizeOf l ≤ 65536
-unfolding sizeOf
-size-small l r =
-    let a : nodeWords l ≤ 16 = omega arith in
-    let b : l .nodes ≤ 2000 = r .nodes in
-    omega (arith, mul-le-mul a b)
 
 -- the rows hold the stores ps and the first i of the stores qs, and have room for the rest of them
 pub record Filled (n : ℕ) (ps qs : List Write) (i : ℕ) (r : Rows) : Type 0 where

@@ -50,6 +50,14 @@ pub header-fits : (l : Layout) (k : ℕ) → k < firstNode l → headerAt k + he
 unfolding sizeOf
 header-fits l k h = omega arith
 
+-- a word's number fits a `u16`
+pub size-small : (l : Layout) → InRange l → sizeOf l ≤ 65536
+unfolding sizeOf
+size-small l r =
+    let a : nodeWords l ≤ 16 = omega arith in
+    let b : l .nodes ≤ 2000 = r .nodes in
+    omega (arith, mul-le-mul a b)
+
 -- the first three words of a cell stand within the store
 pub cell-fits : (l : Layout) (i : ℕ) → InRange l → i < cellCount l → cellAt l i + 3 ≤ sizeOf l
 cell-fits l i r h = split (ltb i (firstNode l)) refl
@@ -182,12 +190,7 @@ length-formatted l =
       length-replicate {A = ℕ} (nodeWords l * l .nodes) 0,
     )
 
--- what a formatted store holds: its first eight words
-pub formatted-word : (l : Layout) (j : ℕ) → j < 8 → getD (formatted l) j 0 ≡ getD (head l) j 0
-unfolding formatted
-formatted-word l j h = front (head l) (headersOf l ++ nodesOf l) j j refl h
-
--- its headers
+-- what a formatted store holds: its headers
 pub formatted-header : (l : Layout) (k j : ℕ) → k < l .lists → j < 4 → getD (formatted l) (headerAt k + j) 0 ≡ getD (identOf k ∷ k ∷ k ∷ 0 ∷ []) j 0
 unfolding formatted
 formatted-header l k j h g =

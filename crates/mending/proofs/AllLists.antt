@@ -4,7 +4,6 @@ use mathlib.Core.Path.{_≡_, refl, ap, ap₂, _∙_, sym, subst}
 use mathlib.Core.List.{List, [], _∷_, _++_, append-nil, append-assoc}
 use mathlib.Core.Bool.{Bool, true, false, cond, _&&_, and-eq-true-iff}
 use native.Mathlib.Omega.{arith}
-use native.Mathlib.Nat.{mul-le-mul}
 use native.Mathlib.Numerals.{add-one}
 use lib.Dec.{eqb}
 use lib.ListN.{length, getD, set, length-set, length-append}
@@ -16,7 +15,7 @@ use Rattle.sequences.proofs.Trail.{trail-inside}
 use Rattle.stores.specs.declared.Rows.{Rows}
 use Rattle.stores.specs.Stores.{writesIn, Held}
 use Rattle.layout.specs.declared.Layout.{Layout}
-use Rattle.layout.specs.Words.{InRange, Node, isNode, nodeWords, cellCount, cellAt, sizeOf, identOf}
+use Rattle.layout.specs.Words.{InRange, Node, isNode, cellCount, cellAt, sizeOf, identOf}
 use Rattle.layout.proofs.Laws.{cell-header, header-fits, cell-fits}
 use Rattle.lists.specs.Decide.{View}
 use Rattle.lists.proofs.Unique.{all-nodes}
@@ -28,14 +27,6 @@ use Rattle.mending.specs.Mending.{plus, fault, turnFaults, faultsOf, wal
 use Rattle.mending.specs.Mending.{mendOf, numberOf, faultIn, isBackward, refusalIn, mendsIn, lengthBy, carries, total, Each, FaultFits, MendsOf}
 use Rattle.mending.proofs.Walks.{Every, every-plus, every-fault, plus-assoc}
 use Rattle.mending.specs.Mending.{erased, membersBy, erasedFrom}
-
--- a word's number fits a `u16`
-pub size-small : (l : Layout) → InRange l → sizeOf l ≤ 65536
-unfolding sizeOf
-size-small l r =
-    let a : nodeWords l ≤ 16 = omega arith in
-    let b : l .nodes ≤ 2000 = r .nodes in
-    omega (arith, mul-le-mul a b)
 
 -- the cell and the word of a fault are the store's
 abbrev Inside : Layout → ℕ → ℕ → Type 0

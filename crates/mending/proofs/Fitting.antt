@@ -221,14 +221,6 @@ turned-faults v a b k n t =
         (ap (plus (identFaults v k (k ∷ t)))
         (plus-swap (backFaults (turned v) a (steps k t k)) (onwardFaults (turned v) b (steps k t k)) (fault n k 3 (length t))))
 
--- so the back walk's faults are the wrong words of its sequence in the list's order
-pub summed-backward
-    : (l : Layout) (w : List ℕ) (k : ℕ) → k < l .lists → (t : List ℕ)
-    → Summed l (faultsOf (turned (viewOf l w)) 2 1 k (countIn w k) t) (wrong w (asked l k (reverse t)))
-summed-backward l w k h t =
-    subst (λ (f : Faults). Summed l f (wrong w (asked l k (reverse t)))) (sym (turned-faults (viewOf l w) 1 2 k (countIn w k) t))
-    (summed-forward l w k (reverse t) h)
-
 -- what a sum says of its words: none of them, its mend, or more than one
 summed-none : (l : Layout) (f : Faults) (ps : List Write) → Summed l f ps → length ps ≡ 0 → f ≡ F.None
 summed-none l F.None ps p e = refl

@@ -14,7 +14,7 @@ use Rattle.edits.specs.Edits.{insertWrites}
 use Rattle.axle_store.proofs.Laws.{held-self}
 use Rattle.axle_store.proofs.Cases.{insert-refused, insert-at}
 use Rattle.axle_store.proofs.Sites.{gap-placed}
-use Rattle.axle.specs.Interface.{recordIn}
+use Rattle.axle.specs.Interface.{recordWords}
 use Rattle.axle.proofs.Laws.{byte-refused, byte-run}
 use borrow.Author.Needs.{needs}
 use Rattle.axle.proofs.insert.Statement.{statement}
@@ -34,7 +34,7 @@ enum-known-l c = search needs
 
 -- what the look found, and the record's size
 found : (c : tie.After-known-told2) → let a = c .before .before .before .before .before .before .before .before .args in
-    lookOf (wordsIn (a .bytes .now)) (Gap (a .list) (a .position) (a .start) (length (recordIn (a .rec .now))))
+    lookOf (wordsIn (a .bytes .now)) (Gap (a .list) (a .position) (a .start) (length (recordWords (a .rec .now))))
     ≡ K.At (c .before .l .given .0 .0) (c .before .l .given .0 .1 .0)
 found c =
     let a = c .before .before .before .before .before .before .before .before .args in
@@ -45,7 +45,7 @@ found c =
 short : (c : tie.After-known-told2) → c .before .before .before .before .before .record-size .result ≤ 13
 short c =
     let a = c .before .before .before .before .before .before .before .before .args in
-    let g = gap-placed (wordsIn (a .bytes .now)) (a .list) (a .position) _ _ (a .start) (length (recordIn (a .rec .now))) (found c) in
+    let g = gap-placed (wordsIn (a .bytes .now)) (a .list) (a .position) _ _ (a .start) (length (recordWords (a .rec .now))) (found c) in
     omega (arith, c .before .before .before .before .before .record-size .ensures, g .1, g .0 .inRange .width)
 
 record-of-requires : tie.Need-record-of-requires
@@ -60,14 +60,14 @@ slice-aggregate-insert-rows c = sym (length-take-le (c .before .before .before .
 insert-rows-requires : tie.Need-insert-rows-requires
 insert-rows-requires c κs =
     let a = c .before .before .before .before .before .before .before .before .before .before .before .args in
-    let g = gap-placed (wordsIn (a .bytes .now)) (a .list) (a .position) _ _ (a .start) (length (recordIn (a .rec .now))) (found (c .before .before .before)) in
+    let g = gap-placed (wordsIn (a .bytes .now)) (a .list) (a .position) _ _ (a .start) (length (recordWords (a .rec .now))) (found (c .before .before .before)) in
     (g .0, sym (slice-aggregate-insert-rows c) ∙ c .before .before .before .before .before .before .before .before .record-size .ensures ∙ g .1)
 
 run-rows-requires : tie.Need-run-rows-requires
 run-rows-requires c κs =
     let a = c .before .before .before .before .before .before .before .before .before .before .before .before .args in
     held-self (c .insert-rows .ensures)
-    (sym (gap-placed (wordsIn (a .bytes .now)) (a .list) (a .position) _ _ (a .start) (length (recordIn (a .rec .now))) (found (c .before .before .before .before)) .2))
+    (sym (gap-placed (wordsIn (a .bytes .now)) (a .list) (a .position) _ _ (a .start) (length (recordWords (a .rec .now))) (found (c .before .before .before .before)) .2))
 
 same-length : tie.Need-same-length
 same-length c = search needs
@@ -76,7 +76,7 @@ returns : tie.Need-returns
 returns c =
     let a = c .before .before .before .before .before .before .before .before .args in
     byte-refused (a .allowance) (a .bytes .now)
-    (insert-refused (wordsIn (a .bytes .now)) (a .list) (a .position) (a .start) (recordIn (a .rec .now))
+    (insert-refused (wordsIn (a .bytes .now)) (a .list) (a .position) (a .start) (recordWords (a .rec .now))
       (ap (λ (n : ℕ). lookOf (wordsIn (a .bytes .now)) (Gap (a .list) (a .position) (a .start) n)) (sym (c .before .before .before .before .before .record-size .ensures)) ∙ sym (c .before .before .before .look .ensures) ∙ c .before .r .given .1))
 
 same-length-2 : tie.Need-same-length-2
@@ -88,7 +88,7 @@ returns-2 c =
     let l = c .before .before .before .before .before .before .before .before .l .given .0 in
     let r = c .before .before .run-rows in
     byte-run (a .allowance) (a .bytes .now)
-    (insert-at (wordsIn (a .bytes .now)) (a .list) (a .position) (a .start) (recordIn (a .rec .now)) (found (c .before .before .before .before .before .before .before))
+    (insert-at (wordsIn (a .bytes .now)) (a .list) (a .position) (a .start) (recordWords (a .rec .now)) (found (c .before .before .before .before .before .before .before))
       ∙ ap (λ (x : List ℕ). stores (insertWrites (l .0) (a .list) (l .1 .0) x)) (sym (c .before .before .before .before .before .before .record-of .ensures .1)))
     (c .before .before .before .insert-rows .ensures) (r .ensures .0) (r .ensures .1)
 

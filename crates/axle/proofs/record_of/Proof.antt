@@ -5,14 +5,14 @@ use native.Mathlib.Omega.{arith}
 use lib.ListN.{length, set, take, length-set}
 use lib.Seq.{take-all}
 use Rattle.mending.proofs.Listing.{filled-more}
-use Rattle.axle.specs.Interface.{recordIn}
+use Rattle.axle.specs.Interface.{recordWords}
 use Rattle.axle.proofs.Laws.{record-inside}
 use Rattle.axle.proofs.record_of.Statement.{statement}
 use Rattle.axle.proofs.record_of.Tie as tie
 
 abbrev Inv-loop : tie.InvT-loop
 Inv-loop rec n words₀ i₀ words i = 
-    (i ≤ n) × (n ≡ length (recordIn rec)) × (n ≤ 13) × (length words ≡ 13) × (take i words ≡ take i (recordIn rec))
+    (i ≤ n) × (n ≡ length (recordWords rec)) × (n ≤ 13) × (length words ≡ 13) × (take i words ≡ take i (recordWords rec))
 
 abbrev μ-loop : tie.MeasureT-loop
 μ-loop rec n words₀ i₀ words i = n - i
@@ -45,7 +45,7 @@ loop-again c =
       t .inv .2,
       length-set (t .words) (t .i) _ ∙ t .inv .3,
       ap (λ (x : ℕ). take (t .i + 1) (set (t .words) (t .i) x)) e
-      ∙ filled-more (t .words) (recordIn r) (t .i) (omega arith) (omega arith) (t .inv .4),
+      ∙ filled-more (t .words) (recordWords r) (t .i) (omega arith) (omega arith) (t .inv .4),
     )
 
 returns : tie.Need-returns Inv-loop μ-loop
@@ -54,7 +54,7 @@ returns c =
     let t = c .before .loop in
     let e : t .i ≡ a .n = omega arith in
     (sym (t .inv .3),
-    subst (λ (m : ℕ). take m (t .words) ≡ take m (recordIn (a .rec .now))) e (t .inv .4) ∙ take-all (a .n) (recordIn (a .rec .now)) (omega arith))
+    subst (λ (m : ℕ). take m (t .words) ≡ take m (recordWords (a .rec .now))) e (t .inv .4) ∙ take-all (a .n) (recordWords (a .rec .now)) (omega arith))
 
 pub record-of-spec : {M : Type 1} → statement M
 record-of-spec =

@@ -4,16 +4,16 @@ use mathlib.Core.Path.{sym}
 use lib.ListN.{length}
 use borrow.Author.Tests.{eq-eqb, ne-eqb}
 use Rattle.byte_form.proofs.Laws.{length-words}
-use Rattle.axle.specs.Interface.{recordIn}
+use Rattle.axle.specs.Interface.{recordWords}
 use Rattle.axle.proofs.record_size.Statement.{statement}
 use Rattle.axle.proofs.record_size.Tie as tie
 
 returns : tie.Need-returns
-unfolding recordIn
+unfolding recordWords
 returns c = rw (ne-eqb (length (c .before .args .rec .now) % 2) 0 (c .if1 .taken))
 
 returns-2 : tie.Need-returns-2
-unfolding recordIn
+unfolding recordWords
 returns-2 c = rw (eq-eqb (length (c .before .args .rec .now) % 2) 0 (c .if1 .left)) (sym (length-words (c .before .args .rec .now)))
 
 pub record-size-spec : {M : Type 1} → statement M

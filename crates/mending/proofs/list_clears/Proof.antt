@@ -6,9 +6,8 @@ use mathlib.Core.Logic.{⊎-elim}
 use native.Mathlib.Omega.{arith}
 use lib.ListN.{length}
 use Rattle.layout.specs.Words.{InRange, cellCount, firstNode}
-use Rattle.layout.proofs.Laws.{cell-fits}
+use Rattle.layout.proofs.Laws.{size-small, cell-fits}
 use Rattle.mending.specs.Mending.{clearsIn, listed}
-use Rattle.mending.proofs.AllLists.{size-small}
 use Rattle.mending.proofs.Listing.{Clearing, clearing-one, clearing-skip, clearing-all}
 use Rattle.mending.proofs.list_clears.Statement.{statement}
 use Rattle.mending.proofs.list_clears.Tie as tie

@@ -3,7 +3,7 @@ use Prim.Native.Nat.{_+_, _≤_, _<_}
 use mathlib.Core.List.{append-nil}
 use native.Mathlib.Omega.{arith}
 use Rattle.layout.specs.Words.{sizeOf}
-use Rattle.mending.proofs.AllLists.{size-small}
+use Rattle.layout.proofs.Laws.{size-small}
 use Rattle.mending.proofs.mended.Statement.{statement}
 use Rattle.mending.proofs.mended.Tie as tie
 
