@@ -18,7 +18,8 @@ use Rattle.layout.specs.Words.{firstNode, cellCount, identAt}
 use Rattle.lists.specs.Decide.{View}
 use Rattle.recovery.specs.Plan.{joined, isIn, clears}
 use Rattle.recovery.proofs.Suffix.{isIn-in, isIn-true, one-joined, joined-one}
-use Rattle.mending.specs.Mending.{erased, membersBy, erasedFrom, clearsIn}
+use Rattle.fitting.specs.Fitting.{membersBy}
+use Rattle.mending.specs.Mending.{erased, erasedFrom, clearsIn}
 
 -- an entry set to 0 is 0, inside the column or behind it
 set-zero : (xs : List ℕ) (c : ℕ) → getD (set xs c 0) c 0 ≡ 0

@@ -1,7 +1,7 @@
 -- What the columns told is the plan of recovery.
 use Prim.Native.Nat.{ℕ, zero, suc, _+_, _<_, _≤_}
 use mathlib.Core.Path.{_≡_, refl, ap, ap₂, _∙_, sym, subst}
-use mathlib.Core.List.{List, _++_, append-nil}
+use mathlib.Core.List.{List, _++_, append-nil, append-assoc}
 use mathlib.Core.Bool.{Bool, true, false, cond, _&&_, and-eq-true-iff}
 use native.Mathlib.Omega.{arith}
 use native.Mathlib.Nat.{eq-or-lt-of-le}
@@ -13,16 +13,60 @@ use Rattle.sequences.specs.Sequence.{_∈_}
 use Rattle.stores.specs.Stores.{Write, refuse, stores, writesIn}
 use Rattle.layout.specs.declared.Layout.{Layout}
 use Rattle.layout.specs.Words.{firstNode}
-use Rattle.lists.specs.Decide.{View, viewOf, countIn, used}
+use Rattle.lists.specs.Lists.{asked}
+use Rattle.lists.specs.Decide.{View, viewOf, countIn, sequenceOf, used}
 use Rattle.survey.specs.Survey.{columns, Loaded}
 use Rattle.survey.proofs.Laws.{loaded-view, used-same}
-use Rattle.recovery.specs.Plan.{joined, clears, fittingOf, refusalFrom, recoverOf}
+use Rattle.recovery.specs.Fits.{wrong, backwardOf}
+use Rattle.recovery.specs.Plan.{joined, clears, storesFrom, fittingOf, refusalFrom, recoverOf}
+use Rattle.fitting.specs.declared.Fitted.{Fitted}
+use Rattle.fitting.specs.declared.Fitted.the-variants as G
+use Rattle.fitting.specs.Fitting.{fitIn, mendOf, numberOf, faultIn, isBackward, lengthBy, carries, membersBy}
+use Rattle.fitting.proofs.Told.{Told, fit-told, members-told}
 use Rattle.mending.specs.declared.Mends.{Mends}
-use Rattle.mending.specs.Mending.{fitIn, mendOf, numberOf, faultIn, isBackward, refusalIn, mendsIn, lengthBy, carries, total, erasedFrom, clearsIn, MendsOf, membersBy, erased}
+use Rattle.mending.specs.Mending.{refusalIn, mendsIn, total, erasedFrom, clearsIn, MendsOf, erased}
 use Rattle.mending.proofs.AllLists.{length-erased}
 use Rattle.mending.proofs.Cleared.{cleared-told}
-use Rattle.mending.proofs.Fitting.{refusal-told, mends-told, members-told}
 use Rattle.mending.proofs.LeftOver.{total-same, nothing-left}
+
+-- the first list that is refused is the same
+pub refusal-told
+    : (l : Layout) (w : List ℕ) (k n : ℕ) → k + n ≤ l .lists → refusalIn l (viewOf l w) (countIn w) k n ≡ refusalFrom l w k n
+unfolding refusalIn refusalFrom
+refusal-told l w k zero h = refl
+refusal-told l w k (suc n) h =
+    by (fitIn l (viewOf l w) k (countIn w k)) refl (fit-told l w k (omega arith)) (refusal-told l w (suc k) n (omega arith))
+  where
+    by : (r : Fitted) → fitIn l (viewOf l w) k (countIn w k) ≡ r → Told l w k r
+        → refusalIn l (viewOf l w) (countIn w) (suc k) n ≡ refusalFrom l w (suc k) n
+        → refusalIn l (viewOf l w) (countIn w) k (suc n) ≡ refusalFrom l w k (suc n)
+    by G.Nothing e t i = rw (e, t)
+    by G.Several e t i = rw (e, t)
+    by (G.Forward f) e t i = rw (e, t .0) i
+    by (G.Backward f) e t i = rw (e, t .0) i
+
+-- the mends are the wrong words of the sequences that fit, and with the clears behind them they are all stores
+pub mends-told
+    : (l : Layout) (w : List ℕ) (k n : ℕ) → k + n ≤ l .lists → refusalIn l (viewOf l w) (countIn w) k n ≡ 0
+    → mendsIn l (viewOf l w) (countIn w) k n ++ clears l w (joined (fittingOf l w) (l .lists)) (firstNode l) (l .nodes)
+    ≡ storesFrom l w (fittingOf l w) k n
+unfolding refusalIn mendsIn storesFrom
+mends-told l w k zero h z = refl
+mends-told l w k (suc n) h z =
+    by (fitIn l (viewOf l w) k (countIn w k)) refl (fit-told l w k (omega arith)) (λ q. mends-told l w (suc k) n (omega arith) q)
+  where
+    by : (r : Fitted) → fitIn l (viewOf l w) k (countIn w k) ≡ r → Told l w k r
+        → (refusalIn l (viewOf l w) (countIn w) (suc k) n ≡ 0
+          → mendsIn l (viewOf l w) (countIn w) (suc k) n ++ clears l w (joined (fittingOf l w) (l .lists)) (firstNode l) (l .nodes)
+          ≡ storesFrom l w (fittingOf l w) (suc k) n)
+        → mendsIn l (viewOf l w) (countIn w) k (suc n) ++ clears l w (joined (fittingOf l w) (l .lists)) (firstNode l) (l .nodes)
+        ≡ storesFrom l w (fittingOf l w) k (suc n)
+    by G.Nothing e t i = absurd (omega (arith, rw e at z))
+    by G.Several e t i = absurd (omega (arith, rw e at z))
+    by (G.Forward f) e t i =
+        rw (e, append-assoc, t .0, t .1) (ap (λ (ps : List Write). wrong w (asked l k (sequenceOf l w k)) ++ ps) (i (rw e at z)))
+    by (G.Backward f) e t i =
+        rw (e, append-assoc, t .0, t .1) (ap (λ (ps : List Write). wrong w (asked l k (backwardOf l w k)) ++ ps) (i (rw e at z)))
 
 -- the counts of lists below L are all that matters
 refusal-counts : (l : Layout) (v : View) (c d : ℕ → ℕ) (k n : ℕ) → ((j : ℕ) → k ≤ j → j < k + n → c j ≡ d j)

@@ -1,7 +1,6 @@
-// Recovery by correction. Only two sequences can fit a list: what the forward links lead through, and what the back links do. Each
-// is walked at most once and its wrong words are summed up as none, one or many; no sequence is kept. If exactly one fits each list,
-// its wrong word is to be stored, list 0 first, and then 0 to each identifier of a node in no list. These stores are listed before the
-// first is made.
+// Recovery by correction. If exactly one sequence fits each list, its wrong word is to be stored, list 0 first, and then 0 to each
+// identifier of a node in no list. These stores are listed before the first is made.
+use fitting::Faults;
 use layout::Layout;
 use stores::Answer;
 use stores::Rows;
@@ -16,22 +15,8 @@ ghost use Rattle.layout.specs.Words.{Laid, InRange, cellCount, firstNode, sizeO
 ghost use Rattle.lists.specs.Decide.{used};
 ghost use Rattle.survey.specs.Survey.{columns, Columns};
 ghost use Rattle.recovery.specs.Plan.{recoverOf};
-ghost use Rattle.mending.specs.Mending.{plus, fault, walkFaults, decides, lengthBy, carries, choose, fitIn, mendOf, numberOf, faultIn, isBackward, Each, FaultFits, MendsOf, walked, erased, erasedFrom, clearsIn, listed, Listed, Told, planOf};
-
-// The wrong words of a sequence: word f of cell c is to hold v.
-pub enum Faults {
-    None,
-    One(u16, u16, u16),
-    Many,
-}
-
-// Which sequence fits a list: what the forward links or what the back links lead through, with its faults.
-pub enum Fitted {
-    Nothing,
-    Several,
-    Forward(Faults),
-    Backward(Faults),
-}
+ghost use Rattle.fitting.specs.Fitting.{mendOf, FaultFits, walked};
+ghost use Rattle.mending.specs.Mending.{MendsOf, erased, erasedFrom, clearsIn, listed, Listed, Told, planOf};
 
 // What is found of all lists: the number of the first that is refused, 0 for none; how many members they have, and whether each
 // carries an identifier; which lists go by their back links; and the mends, list 0 first.
@@ -47,164 +32,6 @@ pub struct Mends {
 pub struct Finding {
     pub refusal: u16,
     pub stores: usize,
-}
-
-impl Faults {
-    // One word more is compared: it holds found and is to hold v.
-    fn and(self, found: u16, c: u16, f: u16, v: u16) -> Faults
-        ensures { λ r. ⌜ r ≡ plus self (fault found c f v) ⌝ }
-    {
-        if found == v {
-            return self;
-        }
-        match self {
-            Faults::None => Faults::One(c, f, v),
-            Faults::One(_, _, _) => Faults::Many,
-            Faults::Many => Faults::Many,
-        }
-    }
-
-    // Do these faults of the forward walk decide alone? With none, or with one that is no back link, the back links lead through the
-    // same sequence.
-    fn decide(self) -> bool
-        ensures { λ r. ⌜ r ≡ decides self ⌝ }
-    {
-        match self {
-            Faults::None => true,
-            Faults::One(_, w, _) => w != 2,
-            Faults::Many => false,
-        }
-    }
-
-    // The number of members, in a list whose count is n: what the count holds, or is to hold.
-    fn members(self, n: u16) -> u16
-        ensures { λ r. ⌜ r ≡ lengthBy self n ⌝ }
-    {
-        match self {
-            Faults::None => n,
-            Faults::One(_, w, v) => {
-                if w == 3 {
-                    v
-                } else {
-                    n
-                }
-            }
-            Faults::Many => n,
-        }
-    }
-
-    // Does every member carry an identifier, right or wrong?
-    fn carried(self, idents: &[u16]) -> bool
-        requires { ⌜ Each (λ c f. c < length (now idents)) self ⌝ }
-        ensures { λ r. ⌜ r ≡ carries (λ c. getD (now (idents .entry)) c 0) self ⌝ }
-    {
-        match self {
-            Faults::None => true,
-            Faults::One(c, w, _) => w != 0 || idents[c as usize] != 0,
-            Faults::Many => true,
-        }
-    }
-}
-
-impl Fitted {
-    // The number of the refusal, 0 for none.
-    fn number(self) -> u16
-        ensures { λ r. ⌜ r ≡ numberOf self ⌝ }
-    {
-        match self {
-            Fitted::Nothing => 11,
-            Fitted::Several => 12,
-            Fitted::Forward(_) => 0,
-            Fitted::Backward(_) => 0,
-        }
-    }
-
-    // The faults of the sequence that fits.
-    fn fault(self) -> Faults
-        ensures { λ r. ⌜ r ≡ faultIn self ⌝ }
-    {
-        match self {
-            Fitted::Nothing => Faults::None,
-            Fitted::Several => Faults::None,
-            Fitted::Forward(f) => f,
-            Fitted::Backward(f) => f,
-        }
-    }
-
-    // Is it what the back links lead through?
-    fn is_backward(self) -> bool
-        ensures { λ r. ⌜ r ≡ isBackward self ⌝ }
-    {
-        match self {
-            Fitted::Nothing => false,
-            Fitted::Several => false,
-            Fitted::Forward(_) => false,
-            Fitted::Backward(_) => true,
-        }
-    }
-}
-
-// The faults of what the links onward lead through from the header of list k. The link onward is word a of a cell, back word b.
-fn walk(idents: &[u16], onward: &[u16], back: &[u16], n: u16, l: Layout, k: u16, a: u16, b: u16) -> Faults
-    requires { ⌜ Columns l (now idents) (now onward) (now back) × (k < l .lists) ⌝ }
-    ensures { λ r. ⌜ r ≡ walkFaults l (columns (now (idents .entry)) (now (onward .entry)) (now (back .entry))) a b k n ⌝ }
-{
-    let id = Layout::ident(k);
-    let mut faults = Faults::None.and(idents[k as usize], k, 0, id);
-    let mut x = k;
-    let mut y = onward[k as usize];
-    let mut left = l.nodes;
-    while 0 < left {
-        if !l.is_node(y) {
-            break;
-        }
-        faults = faults.and(idents[y as usize], y, 0, id);
-        faults = faults.and(back[y as usize], y, b, x);
-        x = y;
-        y = onward[y as usize];
-        left -= 1;
-    }
-    faults = faults.and(y, x, a, k);
-    faults = faults.and(back[k as usize], k, b, x);
-    faults.and(n, k, 3, l.nodes - left)
-}
-
-// Of the two candidates, which fit, where the first does not decide alone.
-fn choice(f: Faults, g: Faults) -> Fitted
-    requires { ⌜ decides f ≡ false ⌝ }
-    ensures { λ r. ⌜ r ≡ choose f g ⌝ }
-{
-    match f {
-        Faults::None => Fitted::Forward(f),
-        Faults::One(_, _, _) => match g {
-            Faults::None => Fitted::Forward(f),
-            Faults::One(_, w, _) => {
-                if w == 1 {
-                    Fitted::Several
-                } else {
-                    Fitted::Forward(f)
-                }
-            }
-            Faults::Many => Fitted::Forward(f),
-        },
-        Faults::Many => match g {
-            Faults::None => Fitted::Backward(g),
-            Faults::One(_, _, _) => Fitted::Backward(g),
-            Faults::Many => Fitted::Nothing,
-        },
-    }
-}
-
-// Which sequence fits list k, whose count is n. The back links are walked only if the forward walk does not decide.
-fn fit(idents: &[u16], forwards: &[u16], backs: &[u16], n: u16, l: Layout, k: u16) -> Fitted
-    requires { ⌜ Columns l (now idents) (now forwards) (now backs) × (k < l .lists) ⌝ }
-    ensures { λ r. ⌜ r ≡ fitIn l (columns (now (idents .entry)) (now (forwards .entry)) (now (backs .entry))) k n ⌝ }
-{
-    let f = walk(idents, forwards, backs, n, l, k, 1, 2);
-    if f.decide() {
-        return Fitted::Forward(f);
-    }
-    choice(f, walk(idents, backs, forwards, n, l, k, 2, 1))
 }
 
 // The mend of a fault behind the others.
@@ -237,7 +64,7 @@ fn all_mends(
     let mut k: u16 = 0;
     while k < l.lists {
         let n = counts[k as usize];
-        let f = fit(idents, forwards, backs, n, l, k);
+        let f = fitting::fit(idents, forwards, backs, n, l, k);
         let refusal = f.number();
         if refusal != 0 {
             return Mends {

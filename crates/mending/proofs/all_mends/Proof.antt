@@ -5,9 +5,10 @@ use native.Mathlib.Omega.{arith}
 use lib.ListN.{getD}
 use Rattle.lists.specs.Decide.{View}
 use Rattle.survey.specs.Survey.{columns}
-use Rattle.mending.specs.Mending.{faultIn, FaultFits}
-use Rattle.mending.proofs.Walks.{each-map}
-use Rattle.mending.proofs.AllLists.{Found, found-none, found-more, found-refused, found-all, fit-fits}
+use Rattle.fitting.specs.Fitting.{faultIn, FaultFits}
+use Rattle.fitting.proofs.Walks.{each-map}
+use Rattle.fitting.proofs.Inside.{fit-fits}
+use Rattle.mending.proofs.AllLists.{Found, found-none, found-more, found-refused, found-all}
 use Rattle.mending.proofs.all_mends.Statement.{statement}
 use Rattle.mending.proofs.all_mends.Tie as tie
 

@@ -7,7 +7,8 @@ use native.Mathlib.Omega.{arith}
 use lib.ListN.{length, getD}
 use Rattle.lists.specs.Decide.{View}
 use Rattle.survey.specs.Survey.{columns}
-use Rattle.mending.specs.Mending.{erased, membersBy, erasedFrom}
+use Rattle.fitting.specs.Fitting.{membersBy}
+use Rattle.mending.specs.Mending.{erased, erasedFrom}
 use Rattle.mending.proofs.AllLists.{length-erased, erased-more, erased-all}
 use Rattle.mending.proofs.erase_all.Statement.{statement}
 use Rattle.mending.proofs.erase_all.Tie as tie

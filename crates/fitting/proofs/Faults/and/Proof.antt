@@ -1,8 +1,8 @@
--- `mending::Faults::and` meets its contract. The word is no fault, or one more than those summed up.
+-- `fitting::Faults::and` meets its contract. The word is no fault, or one more than those summed up.
 use borrow.Author.Needs.{needs}
-use Rattle.mending.proofs.Walks.{plus-none, no-fault, one-fault}
-use Rattle.mending.proofs.Faults.and.Statement.{statement}
-use Rattle.mending.proofs.Faults.and.Tie as tie
+use Rattle.fitting.proofs.Walks.{plus-none, no-fault, one-fault}
+use Rattle.fitting.proofs.Faults.and.Statement.{statement}
+use Rattle.fitting.proofs.Faults.and.Tie as tie
 
 returns : tie.Need-returns
 returns c = rw (no-fault _ _ _ _ (c .if1 .taken), plus-none (c .before .args .self))

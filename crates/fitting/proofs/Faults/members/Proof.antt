@@ -1,8 +1,8 @@
--- `mending::Faults::members` meets its contract. Each return is one case of `lengthBy`.
+-- `fitting::Faults::members` meets its contract. Each return is one case of `lengthBy`.
 use borrow.Author.Needs.{needs}
 use borrow.Author.Tests.{eq-eqb, ne-eqb}
-use Rattle.mending.proofs.Faults.members.Statement.{statement}
-use Rattle.mending.proofs.Faults.members.Tie as tie
+use Rattle.fitting.proofs.Faults.members.Statement.{statement}
+use Rattle.fitting.proofs.Faults.members.Tie as tie
 
 enum-told : tie.Need-enum-told
 enum-told c = search needs

@@ -1,11 +1,11 @@
--- `mending::choice` meets its contract. Each return is one case of `choose`.
+-- `fitting::choice` meets its contract. Each return is one case of `choose`.
 use mathlib.Core.Bool.{true}
 use mathlib.Core.Path.{_≡_}
 use lib.Dec.{eqb}
 use borrow.Author.Needs.{needs}
 use borrow.Author.Tests.{eq-eqb, ne-eqb, not-false}
-use Rattle.mending.proofs.choice.Statement.{statement}
-use Rattle.mending.proofs.choice.Tie as tie
+use Rattle.fitting.proofs.choice.Statement.{statement}
+use Rattle.fitting.proofs.choice.Tie as tie
 
 enum-told : tie.Need-enum-told
 enum-told c = search needs

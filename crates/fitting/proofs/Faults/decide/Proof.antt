@@ -1,7 +1,7 @@
--- `mending::Faults::decide` meets its contract. Each return is one case of `decides`.
+-- `fitting::Faults::decide` meets its contract. Each return is one case of `decides`.
 use borrow.Author.Needs.{needs}
-use Rattle.mending.proofs.Faults.decide.Statement.{statement}
-use Rattle.mending.proofs.Faults.decide.Tie as tie
+use Rattle.fitting.proofs.Faults.decide.Statement.{statement}
+use Rattle.fitting.proofs.Faults.decide.Tie as tie
 
 enum-told : tie.Need-enum-told
 enum-told c = search needs

@@ -1,9 +1,9 @@
--- `mending::Faults::carried` meets its contract. Each return is one case of `carries`.
+-- `fitting::Faults::carried` meets its contract. Each return is one case of `carries`.
 use native.Mathlib.Omega.{arith}
 use borrow.Author.Needs.{needs}
 use borrow.Author.Tests.{eq-eqb, ne-eqb}
-use Rattle.mending.proofs.Faults.carried.Statement.{statement}
-use Rattle.mending.proofs.Faults.carried.Tie as tie
+use Rattle.fitting.proofs.Faults.carried.Statement.{statement}
+use Rattle.fitting.proofs.Faults.carried.Tie as tie
 
 enum-told : tie.Need-enum-told
 enum-told c = search needs

@@ -1,4 +1,4 @@
--- `mending::walk` meets its contract. The loop's invariant: the walk has summed up the faults up to x, and comes to y.
+-- `fitting::walk` meets its contract. The loop's invariant: the walk has summed up the faults up to x, and comes to y.
 use Prim.Native.Nat.{_<_}
 use mathlib.Core.Bool.{true}
 use mathlib.Core.Logic.{⊎-elim}
@@ -8,9 +8,9 @@ use borrow.Author.Needs.{needs}
 use Rattle.layout.specs.Words.{isNode, cellCount}
 use Rattle.layout.proofs.Laws.{is-node, answered-no, answered-yes}
 use Rattle.survey.specs.Survey.{columns}
-use Rattle.mending.proofs.Walks.{Walking, walking-first, walking-next, rest-out, rest-none, walking-done}
-use Rattle.mending.proofs.walk.Statement.{statement}
-use Rattle.mending.proofs.walk.Tie as tie
+use Rattle.fitting.proofs.Walks.{Walking, walking-first, walking-next, rest-out, rest-none, walking-done}
+use Rattle.fitting.proofs.walk.Statement.{statement}
+use Rattle.fitting.proofs.walk.Tie as tie
 
 abbrev Inv-loop : tie.InvT-loop
 Inv-loop idents onward back n l k a b id faults₀ x₀ y₀ left₀ faults x y left =

@@ -1,10 +1,10 @@
--- `mending::fit` meets its contract. The back walk is the walk of the view the other way round.
+-- `fitting::fit` meets its contract. The back walk is the walk of the view the other way round.
 use mathlib.Core.Path.{sym, _∙_}
 use borrow.Author.Needs.{needs}
-use Rattle.mending.specs.Mending.{fitIn}
-use Rattle.mending.proofs.Walks.{decided-alone}
-use Rattle.mending.proofs.fit.Statement.{statement}
-use Rattle.mending.proofs.fit.Tie as tie
+use Rattle.fitting.specs.Fitting.{fitIn}
+use Rattle.fitting.proofs.Walks.{decided-alone}
+use Rattle.fitting.proofs.fit.Statement.{statement}
+use Rattle.fitting.proofs.fit.Tie as tie
 
 walk-requires : tie.Need-walk-requires
 walk-requires c κs = search needs

@@ -12,11 +12,11 @@ use Rattle.sequences.proofs.Trail.{trail-on, trail-out, trail-none}
 use Rattle.layout.specs.declared.Layout.{Layout}
 use Rattle.layout.specs.Words.{isNode, identOf}
 use Rattle.lists.specs.Decide.{View}
-use Rattle.mending.specs.declared.Faults.{Faults}
-use Rattle.mending.specs.declared.Faults.the-variants as F
-use Rattle.mending.specs.declared.Fitted.the-variants as G
-use Rattle.mending.specs.Mending.{decides, choose}
-use Rattle.mending.specs.Mending.{Each, plus, fault, turnFaults, faultsOf, walked, walkFaults}
+use Rattle.fitting.specs.declared.Faults.{Faults}
+use Rattle.fitting.specs.declared.Faults.the-variants as F
+use Rattle.fitting.specs.declared.Fitted.the-variants as G
+use Rattle.fitting.specs.Fitting.{decides, choose}
+use Rattle.fitting.specs.Fitting.{Each, plus, fault, turnFaults, faultsOf, walked, walkFaults}
 
 -- no faults more
 pub plus-none : (f : Faults) → plus f F.None ≡ f

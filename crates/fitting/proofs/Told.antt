@@ -1,7 +1,7 @@
 -- The sums of the faults of the two candidates decide which of them fit, as the words themselves do.
-use Prim.Native.Nat.{ℕ, zero, suc, _+_, _<_, _≤_}
+use Prim.Native.Nat.{ℕ, _+_, _<_, _≤_}
 use mathlib.Core.Path.{_≡_, refl, ap, _∙_, sym, subst}
-use mathlib.Core.List.{List, [], _∷_, _++_, map, reverse, reverse-cons, append-assoc}
+use mathlib.Core.List.{List, [], _∷_, _++_, map, reverse, reverse-cons}
 use mathlib.Core.Bool.{Bool, true, false, true≢false}
 use native.Mathlib.Omega.{arith}
 use lib.Dec.{eqb}
@@ -11,20 +11,20 @@ use Rattle.sequences.specs.Sequence.{_∈_, Step, steps}
 use Rattle.sequences.proofs.Reversed.{in-reverse, reverse-in}
 use Rattle.stores.specs.Stores.{Write, write}
 use Rattle.layout.specs.declared.Layout.{Layout}
-use Rattle.layout.specs.Words.{firstNode, cellAt, identAt, forwardAt, backAt, countAt, identOf}
+use Rattle.layout.specs.Words.{cellAt, identAt, forwardAt, backAt, countAt, identOf}
 use Rattle.lists.specs.Lists.{asked, identsAsked, forwardsAsked, backsAsked, countAsked}
 use Rattle.lists.specs.Decide.{View, viewOf, countIn, sequenceOf}
 use Rattle.lists.proofs.Same.{ident-word, count-word}
 use Rattle.recovery.specs.Fits.{wrong, backwardOf, fewWrong, same, none, only, several, fitting, fitOf}
-use Rattle.recovery.specs.Plan.{joined, clears, storesFrom, fittingOf, refusalFrom}
+use Rattle.recovery.specs.Plan.{fittingOf}
 use Rattle.recovery.proofs.Candidates.{same-yes, same-refl, wrong-append, wrong-parts, few-fits, forward-candidate, back-candidate, forward-nodes, back-nodes}
-use Rattle.mending.specs.declared.Faults.{Faults}
-use Rattle.mending.specs.declared.Faults.the-variants as F
-use Rattle.mending.specs.declared.Fitted.{Fitted}
-use Rattle.mending.specs.declared.Fitted.the-variants as G
-use Rattle.mending.specs.Mending.{plus, fault, turnFaults, faultsOf, walked, walkFaults, turned, choose, fitIn}
-use Rattle.mending.specs.Mending.{mendOf, numberOf, faultIn, isBackward, refusalIn, mendsIn, membersBy}
-use Rattle.mending.proofs.Walks.{plus-none, plus-assoc, Every, every-plus, every-fault}
+use Rattle.fitting.specs.declared.Faults.{Faults}
+use Rattle.fitting.specs.declared.Faults.the-variants as F
+use Rattle.fitting.specs.declared.Fitted.{Fitted}
+use Rattle.fitting.specs.declared.Fitted.the-variants as G
+use Rattle.fitting.specs.Fitting.{plus, fault, turnFaults, faultsOf, walked, walkFaults, turned, choose, fitIn}
+use Rattle.fitting.specs.Fitting.{mendOf, numberOf, faultIn, isBackward, membersBy}
+use Rattle.fitting.proofs.Walks.{plus-none, plus-assoc, Every, every-plus, every-fault}
 
 -- f sums up these wrong words
 abbrev pub Summed : Layout → Faults → List Write → Type 0
@@ -415,45 +415,6 @@ module _ (l : Layout) (w : List ℕ) (k : ℕ) (h : k < l .lists) where
   fit-told =
       subst (λ (g : Faults). Told l w k (choose (faultSum l w k (sequenceOf l w k)) g))
       (sym (turned-faults (viewOf l w) 1 2 k (countIn w k) (walked l (turned (viewOf l w)) k))) told-by
-
--- so the first list that is refused is the same
-pub refusal-told
-    : (l : Layout) (w : List ℕ) (k n : ℕ) → k + n ≤ l .lists → refusalIn l (viewOf l w) (countIn w) k n ≡ refusalFrom l w k n
-unfolding refusalIn refusalFrom
-refusal-told l w k zero h = refl
-refusal-told l w k (suc n) h =
-    by (fitIn l (viewOf l w) k (countIn w k)) refl (fit-told l w k (omega arith)) (refusal-told l w (suc k) n (omega arith))
-  where
-    by : (r : Fitted) → fitIn l (viewOf l w) k (countIn w k) ≡ r → Told l w k r
-        → refusalIn l (viewOf l w) (countIn w) (suc k) n ≡ refusalFrom l w (suc k) n
-        → refusalIn l (viewOf l w) (countIn w) k (suc n) ≡ refusalFrom l w k (suc n)
-    by G.Nothing e t i = rw (e, t)
-    by G.Several e t i = rw (e, t)
-    by (G.Forward f) e t i = rw (e, t .0) i
-    by (G.Backward f) e t i = rw (e, t .0) i
-
--- the mends are the wrong words of the sequences that fit, and with the clears behind them they are all stores
-pub mends-told
-    : (l : Layout) (w : List ℕ) (k n : ℕ) → k + n ≤ l .lists → refusalIn l (viewOf l w) (countIn w) k n ≡ 0
-    → mendsIn l (viewOf l w) (countIn w) k n ++ clears l w (joined (fittingOf l w) (l .lists)) (firstNode l) (l .nodes)
-    ≡ storesFrom l w (fittingOf l w) k n
-unfolding refusalIn mendsIn storesFrom
-mends-told l w k zero h z = refl
-mends-told l w k (suc n) h z =
-    by (fitIn l (viewOf l w) k (countIn w k)) refl (fit-told l w k (omega arith)) (λ q. mends-told l w (suc k) n (omega arith) q)
-  where
-    by : (r : Fitted) → fitIn l (viewOf l w) k (countIn w k) ≡ r → Told l w k r
-        → (refusalIn l (viewOf l w) (countIn w) (suc k) n ≡ 0
-          → mendsIn l (viewOf l w) (countIn w) (suc k) n ++ clears l w (joined (fittingOf l w) (l .lists)) (firstNode l) (l .nodes)
-          ≡ storesFrom l w (fittingOf l w) (suc k) n)
-        → mendsIn l (viewOf l w) (countIn w) k (suc n) ++ clears l w (joined (fittingOf l w) (l .lists)) (firstNode l) (l .nodes)
-        ≡ storesFrom l w (fittingOf l w) k (suc n)
-    by G.Nothing e t i = absurd (omega (arith, rw e at z))
-    by G.Several e t i = absurd (omega (arith, rw e at z))
-    by (G.Forward f) e t i =
-        rw (e, append-assoc, t .0, t .1) (ap (λ (ps : List Write). wrong w (asked l k (sequenceOf l w k)) ++ ps) (i (rw e at z)))
-    by (G.Backward f) e t i =
-        rw (e, append-assoc, t .0, t .1) (ap (λ (ps : List Write). wrong w (asked l k (backwardOf l w k)) ++ ps) (i (rw e at z)))
 
 -- the members by the walk that was chosen are those of the sequence that fits
 pub members-told

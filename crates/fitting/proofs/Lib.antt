@@ -1,0 +1,4 @@
+pub mod Walks
+pub mod Inside
+pub mod Told
+pub mod Members
