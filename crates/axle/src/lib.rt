@@ -2,7 +2,6 @@
 // words of the bytes; the stores are made in the lent bytes, in the same order.
 use layout::Layout;
 use layout::Opened;
-use mending::Finding;
 use requests::Looked;
 use requests::Request;
 use stores::Answer;
@@ -11,10 +10,8 @@ ghost use Prim.Native.Nat.{_+_, _≤_};
 ghost use lib.ListN.{length, take};
 ghost use Rattle.stores.specs.Stores.{answerOf};
 ghost use Rattle.byte_form.specs.Bytes.{wordsIn, bytesAfter};
-ghost use Rattle.layout.specs.Words.{InRange, Laid, cellCount, sizeOf};
-ghost use Rattle.survey.specs.Survey.{Columns};
-ghost use Rattle.recovery.specs.Plan.{recoverOf, recoverPlan};
-ghost use Rattle.mending.specs.Mending.{listed, Listed, planOf};
+ghost use Rattle.layout.specs.Words.{Laid};
+ghost use Rattle.recovery.specs.Plan.{recoverPlan};
 ghost use Rattle.axle_store.specs.Calls.{insertPlan, deletePlan};
 ghost use Rattle.axle.specs.Interface.{recordWords, codeOf, checkCode, lengthCode, formatPlan, wholeCode, wholeBytes, byteFormat, byteInsert, byteDelete, byteRecover};
 
@@ -178,77 +175,6 @@ pub extern "C" fn axle_delete(store: &mut [u8], list: u16, position: u16, allowa
     code(delete(store, list, position, allowance))
 }
 
-// Makes the stores that were found, up to the allowance.
-fn make(bytes: &mut [u8], f: Finding, l: Layout, at: &[u16], values: &[u16], allowance: u16) -> Answer
-    requires { ⌜ InRange l × (length (wordsIn (now bytes)) ≡ sizeOf l) × Listed l (now at) (now values) (f .stores) (listed (f .stores) (now at) (now values)) ⌝ }
-    ensures answer { λ r. ⌜ r ≡ answerOf (planOf f (now (at .entry)) (now (values .entry))) allowance ⌝ }
-    ensures bytes { λ _. ⌜ now (bytes .exit) ≡ bytesAfter (planOf f (now (at .entry)) (now (values .entry))) allowance (now (bytes .entry)) ⌝ }
-{
-    if f.refusal != 0 {
-        return Answer::Refused(f.refusal);
-    }
-    let n = f.stores;
-    byte_form::run(bytes, &at[..n], &values[..n], allowance)
-}
-
-// Recovers a store of this layout, with the columns to read its cells into.
-fn recover_with(
-    bytes: &mut [u8],
-    l: Layout,
-    idents: &mut [u16],
-    forwards: &mut [u16],
-    backs: &mut [u16],
-    allowance: u16,
-) -> Answer
-    requires { ⌜ Laid l (wordsIn (now bytes)) × Columns l (now idents) (now forwards) (now backs) ⌝ }
-    ensures answer { λ r. ⌜ r ≡ answerOf (recoverOf l (wordsIn (now (bytes .entry)))) allowance ⌝ }
-    ensures bytes { λ _. ⌜ now (bytes .exit) ≡ bytesAfter (recoverOf l (wordsIn (now (bytes .entry)))) allowance (now (bytes .entry)) ⌝ }
-{
-    byte_survey::load(bytes, l, idents, forwards, backs);
-    let counts = byte_survey::all_counts(bytes, l);
-    let f = mending::plan(idents, forwards, backs, counts, l);
-    make(bytes, f, l, forwards, backs, allowance)
-}
-
-// The same, with short columns.
-fn recover_small(bytes: &mut [u8], l: Layout, allowance: u16) -> Answer
-    requires { ⌜ Laid l (wordsIn (now bytes)) × (cellCount l ≤ 256) ⌝ }
-    ensures answer { λ r. ⌜ r ≡ answerOf (recoverOf l (wordsIn (now (bytes .entry)))) allowance ⌝ }
-    ensures bytes { λ _. ⌜ now (bytes .exit) ≡ bytesAfter (recoverOf l (wordsIn (now (bytes .entry)))) allowance (now (bytes .entry)) ⌝ }
-{
-    let n = l.cell_count() as usize;
-    let mut idents = survey::short_column();
-    let mut forwards = survey::short_column();
-    let mut backs = survey::short_column();
-    recover_with(bytes, l, &mut idents[..n], &mut forwards[..n], &mut backs[..n], allowance)
-}
-
-// The same, with whole columns.
-fn recover_large(bytes: &mut [u8], l: Layout, allowance: u16) -> Answer
-    requires { ⌜ Laid l (wordsIn (now bytes)) ⌝ }
-    ensures answer { λ r. ⌜ r ≡ answerOf (recoverOf l (wordsIn (now (bytes .entry)))) allowance ⌝ }
-    ensures bytes { λ _. ⌜ now (bytes .exit) ≡ bytesAfter (recoverOf l (wordsIn (now (bytes .entry)))) allowance (now (bytes .entry)) ⌝ }
-{
-    let n = l.cell_count() as usize;
-    let mut idents = survey::column();
-    let mut forwards = survey::column();
-    let mut backs = survey::column();
-    recover_with(bytes, l, &mut idents[..n], &mut forwards[..n], &mut backs[..n], allowance)
-}
-
-// Recovers a store of this layout.
-fn recover_in(bytes: &mut [u8], l: Layout, allowance: u16) -> Answer
-    requires { ⌜ Laid l (wordsIn (now bytes)) ⌝ }
-    ensures answer { λ r. ⌜ r ≡ answerOf (recoverOf l (wordsIn (now (bytes .entry)))) allowance ⌝ }
-    ensures bytes { λ _. ⌜ now (bytes .exit) ≡ bytesAfter (recoverOf l (wordsIn (now (bytes .entry)))) allowance (now (bytes .entry)) ⌝ }
-{
-    if l.cell_count() <= survey::SHORT {
-        recover_small(bytes, l, allowance)
-    } else {
-        recover_large(bytes, l, allowance)
-    }
-}
-
 // Recovers any store.
 fn recover(bytes: &mut [u8], allowance: u16) -> Answer
     ensures answer { λ r. ⌜ r ≡ answerOf (recoverPlan (wordsIn (now (bytes .entry)))) allowance ⌝ }
@@ -256,7 +182,7 @@ fn recover(bytes: &mut [u8], allowance: u16) -> Answer
 {
     match byte_survey::open(bytes) {
         Opened::Refused(n) => Answer::Refused(n),
-        Opened::Open(l) => recover_in(bytes, l, allowance),
+        Opened::Open(l) => byte_mending::recover_in(bytes, l, allowance),
     }
 }
 

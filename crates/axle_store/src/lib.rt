@@ -187,6 +187,6 @@ pub fn recover(words: &mut [u16], allowance: u16) -> Answer
 {
     match layout::open(words) {
         Opened::Refused(n) => Answer::Refused(n),
-        Opened::Open(l) => mending::recover_in(words, l, allowance),
+        Opened::Open(l) => word_mending::recover_in(words, l, allowance),
     }
 }

@@ -7,7 +7,7 @@ use native.Mathlib.Nat.{div-add-mod'}
 use native.Mathlib.Numerals.{add-one}
 use lib.ListN.{length, getD, set, take, length-set}
 use lib.Seq.{take-suc, take-all}
-use Rattle.stores.specs.Stores.{Write, write, store, run, Plan, refuse, stores, wordsAfter}
+use Rattle.stores.specs.Stores.{Write, write, run, Plan, refuse, stores, wordsAfter}
 use Rattle.stores.proofs.Laws.{run-append, length-run}
 use Rattle.byte_form.specs.Bytes.{wordsIn, byteWrites, appliedBytes, bytesAfter}
 

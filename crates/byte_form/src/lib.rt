@@ -3,7 +3,7 @@
 use stores::Answer;
 use stores::Rows;
 ghost use mathlib.Core.Path.{_≡_};
-ghost use Prim.Native.Nat.{_+_, _*_, _<_, _≤_};
+ghost use Prim.Native.Nat.{_+_, _*_, _<_};
 ghost use mathlib.Core.List.{[], _∷_};
 ghost use lib.ListN.{length, getD};
 ghost use Rattle.stores.specs.Stores.{write, stores, answerOf, run, writesOf, writesIn, Planned, Held};

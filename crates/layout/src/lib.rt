@@ -7,7 +7,7 @@
 // Cells 0 to L - 1 are the headers and cells L to L + N - 1 the nodes. Every number of the layout stands here, once.
 ghost use mathlib.Core.Path.{_≡_};
 ghost use Prim.Native.Nat.{_+_, _*_, _-_, _<_, _≤_};
-ghost use lib.ListN.{length, getD};
+ghost use lib.ListN.{getD};
 ghost use Rattle.layout.specs.Words.{firstNode, cellCount, isNode, headerAt, nodeAt, cellAt, sizeOf, identOf, between, inRange, InRange, marked, openedBy, opened, formatted};
 
 // L, N and P of a store.

@@ -4,7 +4,7 @@ use libc::STDOUT_FILENO;
 ghost use mathlib.Core.Path.{_≡_};
 ghost use Prim.Native.Nat.{_+_};
 ghost use lib.ListN.{length};
-ghost use Rattle.listing_text.specs.Text.{longest};
+ghost use Rattle.listing_text.specs.Listing.{longest};
 ghost use Rattle.listing_text.specs.Listing.{mostBytes};
 
 // One byte more than a store has, so that too many are seen.

@@ -14,19 +14,9 @@ use Rattle.layout.proofs.Laws.{is-node, node-fits}
 use Rattle.requests.specs.Requests.{sequenceBy, Closed}
 use Rattle.requests.proofs.Laws.{before-in, member-before}
 use Rattle.edits.specs.Edited.{recordIn}
-use Rattle.listing_text.specs.Text.{codes, decimal}
-use Rattle.listing_text.specs.Listing.{spaced, recordLine, recordLines, listLine, listLines, listsFrom}
-use Rattle.listing_text.proofs.Writing.{drop-next, drop-end}
-
--- the numbers of a row from i on
-module _ (row : List ℕ) (i : ℕ) where
-  pub spaced-next : i < length row → spaced (drop i row) ≡ (codes " " ++ decimal (getD row i 0)) ++ spaced (drop (i + 1) row)
-  unfolding spaced
-  spaced-next h = rw (drop-next row i h)
-
-  pub spaced-end : length row ≤ i → spaced (drop i row) ≡ []
-  unfolding spaced
-  spaced-end h = rw (drop-end row i h)
+use Rattle.writing.specs.Text.{codes, decimal, spaced}
+use Rattle.listing_text.specs.Listing.{recordLine, recordLines, listLine, listLines, listsFrom}
+use Rattle.writing.proofs.Writing.{drop-next, drop-end}
 
 -- a record lies in the store
 pub record-fits : {l : Layout} {w : List ℕ} {c : ℕ} → Laid l w → Node l c → recordAt l c + l .width ≤ length w

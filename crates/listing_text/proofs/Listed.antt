@@ -19,9 +19,9 @@ use Rattle.survey.proofs.Laws.{loaded-view, sound-loaded, before-cell, members-
 use Rattle.requests.specs.Requests.{siteIn, lookOf}
 use Rattle.edits.specs.Edited.{recordIn}
 use Rattle.byte_form.specs.Bytes.{wordsIn}
-use Rattle.listing_text.specs.Text.{codes, decimal, Room}
-use Rattle.listing_text.specs.Listing.{spaced, recordLine, recordLines, listLine, listLines, listsFrom, refusedLine, soundLines, listedBy, listedOf, listingOf, byteListing}
-use Rattle.listing_text.proofs.Writing.{decimal-short}
+use Rattle.writing.specs.Text.{codes, decimal, overwritten, Wrote, Room, spaced}
+use Rattle.listing_text.specs.Listing.{recordLine, recordLines, listLine, listLines, listsFrom, refusedLine, soundLines, listedBy, listedOf, listingOf, byteListing, longest}
+use Rattle.writing.proofs.Writing.{decimal-short, wrote-over}
 
 -- the cases of a listing
 module _ (l : Layout) (w : List ℕ) (v : View) (count : ℕ → ℕ) where
@@ -94,9 +94,17 @@ line-short k n hk hn =
       decimal-short n hn,
     )
 
-pub refused-room : (n : ℕ) → n < 65536 → Room 0 (refusedLine n)
+pub refused-short : (n : ℕ) → n < 65536 → length (refusedLine n) ≤ longest
 unfolding refusedLine
-refused-room n h = record { ends = omega (arith, length-append (decimal n) (codes "\n"), decimal-short n h) }
+refused-short n h = omega (arith, length-append (decimal n) (codes "\n"), decimal-short n h)
+
+-- there is room for a listing, and a listing u, written as t from the front on, is the answer and the bytes
+pub short-room : {t : List ℕ} → length t ≤ longest → Room 0 t
+short-room h = record { ends = omega arith }
+
+pub wrote-all : {o o′ : List ℕ} {m : ℕ} {t u : List ℕ} → u ≡ t → length t ≤ longest → Wrote o 0 t o′ m
+    → (m ≡ length u) × ((o′ ≡ overwritten u o) × (m ≤ longest))
+wrote-all e h w = let r = wrote-over w in rw e (r .0, (r .1, omega (arith, r .0)))
 
 -- the listing of words of 16 bits
 module _ (l : Layout) (w : List ℕ) (r : InRange l) (small : (i : ℕ) → getD w i 0 < 65536) where
@@ -154,25 +162,22 @@ module _ (l : Layout) (w : List ℕ) (r : InRange l) (small : (i : ℕ) → getD
         let b = and-eq-true-iff (allHold l v count (l .lists)) (eqb (length (members l v (l .lists))) (length u)) .0 e in
         omega (arith, eqb-true (length (members l v (l .lists))) (length u) (b .1), used-length v (firstNode l) (l .nodes))
 
-    pub listed-room : (count : ℕ → ℕ) → Room 0 (listedBy l w v count)
-    listed-room count = by (soundIn l v count) refl
+    pub listed-short : (count : ℕ → ℕ) → length (listedBy l w v count) ≤ longest
+    listed-short count = by (soundIn l v count) refl
       where
-        by : (b : Bool) → soundIn l v count ≡ b → Room 0 (listedBy l w v count)
-        by false e = rw (listed-unsound l w v count e) (refused-room 6 (omega arith))
+        by : (b : Bool) → soundIn l v count ≡ b → length (listedBy l w v count) ≤ longest
+        by false e = rw (listed-unsound l w v count e) (refused-short 6 (omega arith))
         by true e =
             let z : 0 + l .lists ≡ l .lists = omega arith in
             rw (listed-sound l w v count e)
-            (record {
-              ends =
-                  omega (
-                    arith,
-                    length-append (listsFrom l w (sequenceIn l v) 0 (l .lists)) (codes "sound\n"),
-                    rw z at (lists-short (l .lists) 0 (omega arith)),
-                    members-few count e,
-                    r .lists,
-                    r .nodes,
-                  );
-            })
+            (omega (
+              arith,
+              length-append (listsFrom l w (sequenceIn l v) 0 (l .lists)) (codes "sound\n"),
+              rw z at (lists-short (l .lists) 0 (omega arith)),
+              members-few count e,
+              r .lists,
+              r .nodes,
+            ))
 
 -- the cases of a listing of bytes
 module _ (bytes : List ℕ) where

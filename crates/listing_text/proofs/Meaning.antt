@@ -16,8 +16,8 @@ use Rattle.requests.specs.Requests.{siteIn, lookOf, withLook}
 use Rattle.axle_store.specs.declared.Checked.the-variants as C
 use Rattle.axle_store.specs.Calls.{checkAnswer}
 use Rattle.axle_store.proofs.Calls.{sound-opened, sound-decided}
-use Rattle.listing_text.specs.Text.{codes, digits, decimal}
-use Rattle.listing_text.specs.Listing.{spaced, recordLine, recordLines, listLine, listLines, listsFrom, refusedLine, soundLines, listingOf}
+use Rattle.writing.specs.Text.{codes, digits, decimal, spaced}
+use Rattle.listing_text.specs.Listing.{recordLine, recordLines, listLine, listLines, listsFrom, refusedLine, soundLines, listingOf}
 use Rattle.listing_text.proofs.Listed.{listed-sound, listing-open}
 
 -- a refusal of check

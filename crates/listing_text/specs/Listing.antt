@@ -1,5 +1,5 @@
 -- The listing of a store.
-use Prim.Native.Nat.{ℕ, zero, suc, _%_, _<_}
+use Prim.Native.Nat.{ℕ, zero, suc, _+_, _*_, _%_, _<_}
 use mathlib.Core.List.{List, [], _∷_, _++_}
 use lib.Dec.{eqb, leb}
 use lib.ListN.{length, getD}
@@ -10,12 +10,7 @@ use Rattle.requests.specs.declared.Request.the-variants.{Check}
 use Rattle.requests.specs.Requests.{lookOf, withLook, Closed}
 use Rattle.edits.specs.Edited.{recordIn}
 use Rattle.byte_form.specs.Bytes.{wordsIn}
-use Rattle.listing_text.specs.Text.{codes, decimal}
-
--- numbers, a space in front of each
-unfoldable pub spaced : List ℕ → List ℕ
-spaced [] = []
-spaced (x ∷ xs) = codes " " ++ (decimal x ++ spaced xs)
+use Rattle.writing.specs.Text.{codes, decimal, spaced}
 
 -- "for each record its position, cell and words, decimal and parted by one space"
 unfoldable pub recordLine : ℕ → ℕ → List ℕ → List ℕ
@@ -68,6 +63,10 @@ listedBy l w v count = ask (soundIn l v count) (refusedLine 6) (soundLines l w (
 -- and by the words of a store with layout l
 abbrev pub listedOf : Layout → List ℕ → List ℕ
 listedOf l w = listedBy l w (viewOf l w) (countIn w)
+
+-- no listing is longer: 8 lines of at most 23 characters, 2,000 of at most 90, and one of 6
+abbrev pub longest : ℕ
+longest = 8 * 23 + 2000 * 90 + 6
 
 -- a forward column in which the links of each list lead round as many members as it counts
 abbrev pub AllClosed : Layout → List ℕ → List ℕ → Type 0

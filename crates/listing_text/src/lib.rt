@@ -5,16 +5,15 @@
 use layout::Layout;
 use layout::Opened;
 ghost use mathlib.Core.Path.{_≡_};
-ghost use mathlib.Core.List.{[], _∷_, _++_};
 ghost use Prim.Native.Nat.{_*_, _≤_};
 ghost use lib.ListN.{length, getD};
 ghost use Rattle.layout.specs.Words.{Laid, Node};
 ghost use Rattle.survey.specs.Survey.{columns, Columns};
 ghost use Rattle.requests.specs.Requests.{sequenceBy, Closed};
 ghost use Rattle.edits.specs.Edited.{recordIn};
-ghost use Rattle.listing_text.specs.Text.{codes, decimal, overwritten, Wrote, Room, longest};
+ghost use Rattle.writing.specs.Text.{overwritten, Wrote, Room};
 ghost use Rattle.byte_form.specs.Bytes.{wordsIn};
-ghost use Rattle.listing_text.specs.Listing.{spaced, recordLine, recordLines, listLine, listLines, listsFrom, refusedLine, listedBy, listedOf, listingOf, mostBytes, byteListing, AllClosed};
+ghost use Rattle.listing_text.specs.Listing.{recordLine, recordLines, listLine, listLines, listsFrom, refusedLine, listedBy, listedOf, listingOf, mostBytes, byteListing, longest, AllClosed};
 
 // The most words and bytes of a store.
 pub const MAX_WORDS: usize = Layout::HEAD_WORDS
@@ -28,85 +27,15 @@ pub const LONGEST: usize = 23 * (Layout::MAX_LISTS as usize)
     + 90 * (Layout::MAX_NODES as usize)
     + 6;
 
-// One character.
-fn put(out: &mut [u8], n: usize, b: u8) -> usize
-    requires { ⌜ Room n (b ∷ []) ⌝ }
-    ensures { λ r. ⌜ Wrote (now (out .entry)) n (b ∷ []) (now (out .exit)) r ⌝ }
-{
-    if out.len() <= n {
-        return n + 1;
-    }
-    out[n] = b;
-    n + 1
-}
-
-// A given text.
-fn text(out: &mut [u8], n: usize, t: &[u8]) -> usize
-    requires { ⌜ Room n (now t) ⌝ }
-    ensures { λ r. ⌜ Wrote (now (out .entry)) n (now (t .entry)) (now (out .exit)) r ⌝ }
-{
-    let mut m = n;
-    let mut i: usize = 0;
-    while i < t.len() {
-        m = put(out, m, t[i]);
-        i += 1;
-    }
-    m
-}
-
-// A number in decimal.
-fn number(out: &mut [u8], n: usize, x: u16) -> usize
-    requires { ⌜ Room n (decimal x) ⌝ }
-    ensures { λ r. ⌜ Wrote (now (out .entry)) n (decimal x) (now (out .exit)) r ⌝ }
-{
-    if x < 10 {
-        return put(out, n, b'0' + x as u8);
-    }
-    let m = number(out, n, x / 10);
-    put(out, m, b'0' + (x % 10) as u8)
-}
-
-// A given text, and a number.
-fn labelled(out: &mut [u8], n: usize, t: &[u8], x: u16) -> usize
-    requires { ⌜ Room n (now t ++ decimal x) ⌝ }
-    ensures { λ r. ⌜ Wrote (now (out .entry)) n (now (t .entry) ++ decimal x) (now (out .exit)) r ⌝ }
-{
-    let m = text(out, n, t);
-    number(out, m, x)
-}
-
-// A number with a space in front.
-fn spaced_number(out: &mut [u8], n: usize, x: u16) -> usize
-    requires { ⌜ Room n (codes " " ++ decimal x) ⌝ }
-    ensures { λ r. ⌜ Wrote (now (out .entry)) n (codes " " ++ decimal x) (now (out .exit)) r ⌝ }
-{
-    let m = put(out, n, b' ');
-    number(out, m, x)
-}
-
-// Numbers, a space in front of each.
-fn spaced_numbers(out: &mut [u8], n: usize, row: &[u16]) -> usize
-    requires { ⌜ Room n (spaced (now row)) ⌝ }
-    ensures { λ r. ⌜ Wrote (now (out .entry)) n (spaced (now (row .entry))) (now (out .exit)) r ⌝ }
-{
-    let mut m = n;
-    let mut i: usize = 0;
-    while i < row.len() {
-        m = spaced_number(out, m, row[i]);
-        i += 1;
-    }
-    m
-}
-
 // The line of the record at position p, in cell c.
 fn record_line(out: &mut [u8], n: usize, p: u16, c: u16, rec: &[u16]) -> usize
     requires { ⌜ Room n (recordLine p c (now rec)) ⌝ }
     ensures { λ r. ⌜ Wrote (now (out .entry)) n (recordLine p c (now (rec .entry))) (now (out .exit)) r ⌝ }
 {
-    let a = number(out, n, p);
-    let b = spaced_number(out, a, c);
-    let d = spaced_numbers(out, b, rec);
-    put(out, d, b'\n')
+    let a = writing::number(out, n, p);
+    let b = writing::spaced_number(out, a, c);
+    let d = writing::spaced_numbers(out, b, rec);
+    writing::put(out, d, b'\n')
 }
 
 // The first line of list k, which has so many records.
@@ -114,9 +43,9 @@ fn list_line(out: &mut [u8], n: usize, k: u16, count: u16) -> usize
     requires { ⌜ Room n (listLine k count) ⌝ }
     ensures { λ r. ⌜ Wrote (now (out .entry)) n (listLine k count) (now (out .exit)) r ⌝ }
 {
-    let a = labelled(out, n, b"list ", k);
-    let b = labelled(out, a, b" count ", count);
-    put(out, b, b'\n')
+    let a = writing::labelled(out, n, b"list ", k);
+    let b = writing::labelled(out, a, b" count ", count);
+    writing::put(out, b, b'\n')
 }
 
 // The line of a refusal.
@@ -124,8 +53,8 @@ fn refused_line(out: &mut [u8], n: usize, refusal: u16) -> usize
     requires { ⌜ Room n (refusedLine refusal) ⌝ }
     ensures { λ r. ⌜ Wrote (now (out .entry)) n (refusedLine refusal) (now (out .exit)) r ⌝ }
 {
-    let a = labelled(out, n, b"refused ", refusal);
-    put(out, a, b'\n')
+    let a = writing::labelled(out, n, b"refused ", refusal);
+    writing::put(out, a, b'\n')
 }
 
 // The record in node c, as a part of the lent words.
@@ -217,7 +146,7 @@ fn listing_by(
         return refused_line(out, 0, 6);
     }
     let m = all_lists(out, 0, words, forwards, counts, l);
-    text(out, m, b"sound\n")
+    writing::text(out, m, b"sound\n")
 }
 
 // The same by the lent words, which are read into the columns.

@@ -5,7 +5,7 @@ use mathlib.Core.List.{List, [], _∷_, _++_, append-nil, append-assoc}
 use native.Mathlib.Omega.{arith}
 use native.Mathlib.Numerals.{add-one}
 use lib.ListN.{length, getD, set, take, length-set}
-use lib.Seq.{take-suc, take-suc-set, length-take-le}
+use lib.Seq.{take-suc-set, length-take-le}
 use Rattle.sequences.specs.Sequence.{All}
 use Rattle.sequences.proofs.Members.{all-append}
 use Rattle.stores.specs.Stores.{Write, write, writesOf, Planned}
@@ -15,15 +15,6 @@ use Rattle.layout.specs.Words.{InRange, cellCount, identAt, sizeOf}
 use Rattle.layout.proofs.Laws.{cell-fits}
 use Rattle.mending.specs.Mending.{clearsIn, listed, Listed}
 use Rattle.mending.proofs.Erasing.{clears-one, clears-skip, clears-none}
-
--- one entry more of a column is filled
-pub filled-more : (xs ys : List ℕ) (i : ℕ) → i < length xs → i < length ys → take i xs ≡ take i ys → take (i + 1) (set xs i (getD ys i 0)) ≡ take (i + 1) ys
-filled-more xs ys i h k e =
-    ap (λ (n : ℕ). take n (set xs i (getD ys i 0))) (add-one i)
-    ∙ take-suc-set xs i (getD ys i 0) h
-    ∙ ap (λ (t : List ℕ). t ++ getD ys i 0 ∷ []) e
-    ∙ sym (take-suc ys i 0 k)
-    ∙ ap (λ (n : ℕ). take n ys) (sym (add-one i))
 
 -- no store
 pub listed-none : (l : Layout) (at values : List ℕ) → length at ≡ cellCount l → length values ≡ cellCount l → Listed l at values 0 (listed 0 at values)

@@ -2,7 +2,6 @@
 // identifier of a node in no list. These stores are listed before the first is made.
 use fitting::Faults;
 use layout::Layout;
-use stores::Answer;
 use stores::Rows;
 ghost use mathlib.Core.Path.{_≡_};
 ghost use Prim.Native.Nat.{ℕ, _+_, _<_, _≤_};
@@ -10,8 +9,8 @@ ghost use mathlib.Core.List.{List, _++_};
 ghost use mathlib.Core.Bool.{false, _&&_};
 ghost use lib.Dec.{eqb};
 ghost use lib.ListN.{length, getD};
-ghost use Rattle.stores.specs.Stores.{writesIn, Held, answerOf, wordsAfter};
-ghost use Rattle.layout.specs.Words.{Laid, InRange, cellCount, firstNode, sizeOf};
+ghost use Rattle.stores.specs.Stores.{writesIn, Held};
+ghost use Rattle.layout.specs.Words.{InRange, cellCount, firstNode, sizeOf};
 ghost use Rattle.lists.specs.Decide.{used};
 ghost use Rattle.survey.specs.Survey.{columns, Columns};
 ghost use Rattle.recovery.specs.Plan.{recoverOf};
@@ -197,49 +196,4 @@ pub fn plan(idents: &mut [u16], forwards: &mut [u16], backs: &mut [u16], counts:
         refusal: 0,
         stores: list_clears(idents, l, forwards, backs, n),
     }
-}
-
-// Makes the stores that were found, up to the allowance.
-fn make(words: &mut [u16], f: Finding, l: Layout, at: &[u16], values: &[u16], allowance: u16) -> Answer
-    requires { ⌜ InRange l × (length (now words) ≡ sizeOf l) × Listed l (now at) (now values) (f .stores) (listed (f .stores) (now at) (now values)) ⌝ }
-    ensures answer { λ r. ⌜ r ≡ answerOf (planOf f (now (at .entry)) (now (values .entry))) allowance ⌝ }
-    ensures words { λ _. ⌜ now (words .exit) ≡ wordsAfter (planOf f (now (at .entry)) (now (values .entry))) allowance (now (words .entry)) ⌝ }
-{
-    if f.refusal != 0 {
-        return Answer::Refused(f.refusal);
-    }
-    let n = f.stores;
-    stores::run(words, &at[..n], &values[..n], allowance)
-}
-
-// Recovers a store of this layout, with the columns to read its cells into.
-fn recover_with(
-    words: &mut [u16],
-    l: Layout,
-    idents: &mut [u16],
-    forwards: &mut [u16],
-    backs: &mut [u16],
-    allowance: u16,
-) -> Answer
-    requires { ⌜ Laid l (now words) × Columns l (now idents) (now forwards) (now backs) ⌝ }
-    ensures answer { λ r. ⌜ r ≡ answerOf (recoverOf l (now (words .entry))) allowance ⌝ }
-    ensures words { λ _. ⌜ now (words .exit) ≡ wordsAfter (recoverOf l (now (words .entry))) allowance (now (words .entry)) ⌝ }
-{
-    survey::load(words, l, idents, forwards, backs);
-    let counts = survey::all_counts(words, l);
-    let f = plan(idents, forwards, backs, counts, l);
-    make(words, f, l, forwards, backs, allowance)
-}
-
-// Recovers a store of this layout.
-pub fn recover_in(words: &mut [u16], l: Layout, allowance: u16) -> Answer
-    requires { ⌜ Laid l (now words) ⌝ }
-    ensures answer { λ r. ⌜ r ≡ answerOf (recoverOf l (now (words .entry))) allowance ⌝ }
-    ensures words { λ _. ⌜ now (words .exit) ≡ wordsAfter (recoverOf l (now (words .entry))) allowance (now (words .entry)) ⌝ }
-{
-    let n = l.cell_count() as usize;
-    let mut idents = survey::column();
-    let mut forwards = survey::column();
-    let mut backs = survey::column();
-    recover_with(words, l, &mut idents[..n], &mut forwards[..n], &mut backs[..n], allowance)
 }

@@ -14,7 +14,7 @@ use Rattle.sequences.specs.Sequence.{All}
 use Rattle.sequences.proofs.Members.{all-append, all-nth}
 use Rattle.stores.specs.declared.Answer.the-variants as A
 use Rattle.stores.specs.declared.Rows.{Rows}
-use Rattle.stores.specs.Stores.{Write, write, store, run, applied, Spares, stores, answerOf, writesOf, inRow, writesIn, Planned, Held}
+use Rattle.stores.specs.Stores.{Write, write, store, run, applied, Spares, stores, answerOf, writesOf, inRow, Planned, Held}
 
 -- stores in a row one after the other
 pub run-append : (ps qs : List Write) (w : List ℕ) → run (ps ++ qs) w ≡ run qs (run ps w)
@@ -129,6 +129,15 @@ row-at b (v ∷ vs) w (suc j) h k =
     let e : b + suc j ≡ b + 1 + j = omega arith in
     ap (λ (n : ℕ). getD (run (inRow (b + 1) vs) (set w b v)) n 0) e
     ∙ row-at (b + 1) vs (set w b v) j (omega (arith, length-set w b v)) (omega arith)
+
+-- one entry more of a row is copied
+pub copied-more : (xs ys : List ℕ) (i : ℕ) → i < length xs → i < length ys → take i xs ≡ take i ys → take (i + 1) (set xs i (getD ys i 0)) ≡ take (i + 1) ys
+copied-more xs ys i h k e =
+    ap (λ (n : ℕ). take n (set xs i (getD ys i 0))) (add-one i)
+    ∙ take-suc-set xs i (getD ys i 0) h
+    ∙ ap (λ (t : List ℕ). t ++ getD ys i 0 ∷ []) e
+    ∙ sym (take-suc ys i 0 k)
+    ∙ ap (λ (n : ℕ). take n ys) (sym (add-one i))
 
 -- one store more at the end of two rows
 pub writes-snoc : (at vs : List ℕ) (a v : ℕ) → length at ≡ length vs → writesOf (at ++ a ∷ []) (vs ++ v ∷ []) ≡ writesOf at vs ++ write a v ∷ []

@@ -2,7 +2,7 @@
 // addresses and a row of values. A step makes one of the stores; a run makes the first of them, up to the allowance, so what a
 // cut leaves is what a smaller allowance leaves.
 ghost use mathlib.Core.Path.{_≡_};
-ghost use Prim.Native.Nat.{ℕ, _+_, _<_, _≤_};
+ghost use Prim.Native.Nat.{ℕ, _+_, _<_};
 ghost use mathlib.Core.List.{List, [], _∷_, _++_};
 ghost use lib.ListN.{length, getD};
 ghost use Rattle.stores.specs.Stores.{Write, write, store, stores, applied, answerOf, answerNumber, answerStores, writesOf, writesIn, Planned, Held};

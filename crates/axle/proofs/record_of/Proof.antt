@@ -4,7 +4,7 @@ use mathlib.Core.Path.{_≡_, refl, ap, sym, subst, _∙_}
 use native.Mathlib.Omega.{arith}
 use lib.ListN.{length, set, take, length-set}
 use lib.Seq.{take-all}
-use Rattle.mending.proofs.Listing.{filled-more}
+use Rattle.stores.proofs.Laws.{copied-more}
 use Rattle.axle.specs.Interface.{recordWords}
 use Rattle.axle.proofs.Laws.{record-inside}
 use Rattle.axle.proofs.record_of.Statement.{statement}
@@ -45,7 +45,7 @@ loop-again c =
       t .inv .2,
       length-set (t .words) (t .i) _ ∙ t .inv .3,
       ap (λ (x : ℕ). take (t .i + 1) (set (t .words) (t .i) x)) e
-      ∙ filled-more (t .words) (recordWords r) (t .i) (omega arith) (omega arith) (t .inv .4),
+      ∙ copied-more (t .words) (recordWords r) (t .i) (omega arith) (omega arith) (t .inv .4),
     )
 
 returns : tie.Need-returns Inv-loop μ-loop

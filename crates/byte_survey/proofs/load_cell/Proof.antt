@@ -1,5 +1,5 @@
 -- `byte_survey::load_cell`: the words of the cell stand within the bytes.
-use mathlib.Core.Path.{ap, _∙_}
+use mathlib.Core.Path.{ap}
 use Prim.Native.Nat.{ℕ}
 use native.Mathlib.Omega.{arith}
 use lib.ListN.{set}

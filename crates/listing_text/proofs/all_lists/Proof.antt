@@ -4,7 +4,7 @@ use Prim.Native.Nat.{_-_, _≤_}
 use native.Mathlib.Omega.{arith}
 use native.Mathlib.Nat.{sub-zero}
 use Rattle.requests.specs.Requests.{sequenceBy}
-use Rattle.listing_text.proofs.Writing.{Writing, writing-start, writing-room, writing-step, writing-done, writing-length}
+use Rattle.writing.proofs.Writing.{Writing, writing-start, writing-room, writing-step, writing-done, writing-length}
 use Rattle.listing_text.specs.Listing.{listsFrom}
 use Rattle.listing_text.proofs.Lines.{lists-next, lists-end}
 use Rattle.listing_text.proofs.all_lists.Statement.{statement}

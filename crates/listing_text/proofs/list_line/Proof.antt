@@ -1,6 +1,6 @@
 -- `list_line` writes the two labelled numbers and the end of the line.
 use borrow.Author.Needs.{needs}
-use Rattle.listing_text.proofs.Writing.{wrote-append, room-first, room-rest}
+use Rattle.writing.proofs.Writing.{wrote-append, room-first, room-rest}
 use Rattle.listing_text.specs.Listing.{listLine}
 use Rattle.listing_text.proofs.list_line.Statement.{statement}
 use Rattle.listing_text.proofs.list_line.Tie as tie

@@ -1,6 +1,6 @@
 -- `list_lines` writes the first line of the list and then its records.
 use borrow.Author.Needs.{needs}
-use Rattle.listing_text.proofs.Writing.{wrote-append, room-first, room-rest}
+use Rattle.writing.proofs.Writing.{wrote-append, room-first, room-rest}
 use Rattle.listing_text.proofs.Lines.{list-parts}
 use Rattle.listing_text.proofs.list_lines.Statement.{statement}
 use Rattle.listing_text.proofs.list_lines.Tie as tie

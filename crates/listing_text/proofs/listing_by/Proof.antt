@@ -8,7 +8,7 @@ use Rattle.layout.proofs.Laws.{answered-no, answered-yes}
 use Rattle.lists.specs.Decide.{View, soundIn}
 use Rattle.survey.specs.Survey.{columns}
 use Rattle.requests.proofs.Laws.{sound-closed}
-use Rattle.listing_text.proofs.Writing.{wrote-append, room-first, room-rest}
+use Rattle.writing.proofs.Writing.{wrote-append, room-first, room-rest}
 use Rattle.listing_text.proofs.Listed.{listed-sound, listed-unsound}
 use Rattle.listing_text.proofs.listing_by.Statement.{statement}
 use Rattle.listing_text.proofs.listing_by.Tie as tie

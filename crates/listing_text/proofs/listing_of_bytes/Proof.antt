@@ -5,28 +5,27 @@ use mathlib.Core.Path.{sym}
 use native.Mathlib.Omega.{arith}
 use lib.ListN.{length}
 use lib.Seq.{length-take-le}
-use Rattle.listing_text.proofs.Writing.{wrote-all}
-use Rattle.listing_text.proofs.Listed.{refused-room, bytes-long, bytes-odd, bytes-even}
+use Rattle.listing_text.proofs.Listed.{refused-short, short-room, wrote-all, bytes-long, bytes-odd, bytes-even}
 use Rattle.listing_text.proofs.listing_of_bytes.Statement.{statement}
 use Rattle.listing_text.proofs.listing_of_bytes.Tie as tie
 
 refused-line-requires : tie.Need-refused-line-requires
-refused-line-requires c κs = refused-room 4 (omega arith)
+refused-line-requires c κs = short-room (refused-short 4 (omega arith))
 
 same-length : tie.Need-same-length
 same-length c = search needs
 
 returns : tie.Need-returns
-returns c = wrote-all (bytes-long _ (c .before .before .before .before .if1 .taken)) (refused-room 4 (omega arith)) (c .before .before .refused-line .ensures)
+returns c = wrote-all (bytes-long _ (c .before .before .before .before .if1 .taken)) (refused-short 4 (omega arith)) (c .before .before .refused-line .ensures)
 
 refused-line-requires-2 : tie.Need-refused-line-requires-2
-refused-line-requires-2 c κs = refused-room 4 (omega arith)
+refused-line-requires-2 c κs = short-room (refused-short 4 (omega arith))
 
 same-length-2 : tie.Need-same-length-2
 same-length-2 c = search needs
 
 returns-2 : tie.Need-returns-2
-returns-2 c = wrote-all (bytes-odd _ (c .before .before .before .before .before .if1 .left) (c .before .before .before .before .if2 .taken)) (refused-room 4 (omega arith)) (c .before .before .refused-line2 .ensures)
+returns-2 c = wrote-all (bytes-odd _ (c .before .before .before .before .before .if1 .left) (c .before .before .before .before .if2 .taken)) (refused-short 4 (omega arith)) (c .before .before .refused-line2 .ensures)
 
 most-words-requires : tie.Need-most-words-requires
 most-words-requires c κs = search needs

@@ -1,9 +1,8 @@
 -- `record_line` writes the position, the cell, the words and the end of the line.
 use borrow.Author.Needs.{needs}
-use Rattle.listing_text.proofs.Writing.{wrote-append, room-first, room-rest}
+use Rattle.writing.proofs.Writing.{wrote-append, room-first, room-rest}
 use mathlib.Core.List.{_++_}
-use Rattle.listing_text.specs.Text.{codes, decimal, Room}
-use Rattle.listing_text.specs.Listing.{spaced}
+use Rattle.writing.specs.Text.{codes, decimal, Room, spaced}
 use Rattle.listing_text.proofs.Lines.{record-parts}
 use Rattle.listing_text.proofs.record_line.Statement.{statement}
 use Rattle.listing_text.proofs.record_line.Tie as tie

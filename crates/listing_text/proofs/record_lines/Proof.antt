@@ -7,7 +7,7 @@ use native.Mathlib.Omega.{arith}
 use native.Mathlib.Numerals.{add-one}
 use lib.ListN.{length, getD, drop}
 use Rattle.requests.specs.Requests.{sequenceBy}
-use Rattle.listing_text.proofs.Writing.{Writing, writing-start, writing-room, writing-step, writing-done, writing-length}
+use Rattle.writing.proofs.Writing.{Writing, writing-start, writing-room, writing-step, writing-done, writing-length}
 use Rattle.listing_text.specs.Listing.{recordLines}
 use Rattle.listing_text.proofs.Lines.{cell-in, member-is, member-node, record-next, record-end}
 use Rattle.listing_text.proofs.record_lines.Statement.{statement}

@@ -1,6 +1,6 @@
 -- `refused_line` writes the labelled number and the end of the line.
 use borrow.Author.Needs.{needs}
-use Rattle.listing_text.proofs.Writing.{wrote-append, room-first, room-rest}
+use Rattle.writing.proofs.Writing.{wrote-append, room-first, room-rest}
 use Rattle.listing_text.specs.Listing.{refusedLine}
 use Rattle.listing_text.proofs.refused_line.Statement.{statement}
 use Rattle.listing_text.proofs.refused_line.Tie as tie

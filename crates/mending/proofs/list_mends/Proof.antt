@@ -4,7 +4,7 @@ use mathlib.Core.Path.{_≡_, refl, ap₂, subst, _∙_}
 use native.Mathlib.Omega.{arith}
 use lib.ListN.{length, take, length-set}
 use Rattle.stores.specs.Stores.{writesOf}
-use Rattle.mending.proofs.Listing.{filled-more}
+use Rattle.stores.proofs.Laws.{copied-more}
 use Rattle.mending.proofs.list_mends.Statement.{statement}
 use Rattle.mending.proofs.list_mends.Tie as tie
 
@@ -60,8 +60,8 @@ loop-again c =
       t .inv .5,
       length-set (t .at) (t .i) _ ∙ t .inv .6,
       length-set (t .values) (t .i) _ ∙ t .inv .7,
-      filled-more (t .at) _ (t .i) (omega arith) (omega arith) (t .inv .8),
-      filled-more (t .values) _ (t .i) (omega arith) (omega arith) (t .inv .9),
+      copied-more (t .at) _ (t .i) (omega arith) (omega arith) (t .inv .8),
+      copied-more (t .values) _ (t .i) (omega arith) (omega arith) (t .inv .9),
     )
 
 same-length : tie.Need-same-length Inv-loop μ-loop
