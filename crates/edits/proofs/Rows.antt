@@ -1,10 +1,10 @@
--- Rows that are filled store by store: what each push asks and leaves.
+-- Rows that are filled store by store.
 use Prim.Native.Nat.{ℕ, zero, suc, _+_, _≤_, _<_}
 use mathlib.Core.Path.{_≡_, refl, ap, ap₂, _∙_, sym, subst}
 use mathlib.Core.List.{List, [], _∷_, _++_, append-nil, append-assoc}
 use native.Mathlib.Omega.{arith}
 use native.Mathlib.Numerals.{add-one}
-use lib.ListN.{length, getD, take, length-append}
+use lib.ListN.{length, getD, set, take, length-append}
 use lib.Seq.{take-suc, take-all, length-take-le}
 use Rattle.sequences.specs.Sequence.{All}
 use Rattle.sequences.proofs.Members.{all-nth}
@@ -12,8 +12,8 @@ use Rattle.layout.specs.declared.Layout.{Layout}
 use Rattle.layout.specs.Words.{cellAt, countAt, recordAt, sizeOf}
 use Rattle.layout.proofs.Laws.{size-small, cell-fits, header-fits, node-fits}
 use Rattle.stores.specs.declared.Rows.{Rows}
-use Rattle.stores.specs.Stores.{Write, write, inRow, writesIn, Held}
-use Rattle.stores.proofs.Laws.{length-row}
+use Rattle.stores.specs.Stores.{Write, write, inRow, writesIn, noRows, Held}
+use Rattle.stores.proofs.Laws.{length-row, held-none, held-more}
 use Rattle.requests.specs.declared.Site.{Site}
 use Rattle.edits.specs.Edits.{insertLinks, deleteWrites, Placed}
 
@@ -24,40 +24,35 @@ pub record Filled (n : ℕ) (ps qs : List Write) (i : ℕ) (r : Rows) : Type 0 w
   pub inside : All (λ (p : Write). p .at < n) qs
   pub held : Held n r (ps ++ take i qs)
 
--- what a push asks, and what it leaves
-abbrev pub Takes : Rows → ℕ → Type 0
-Takes r a = (r .len < 19) × (length (r .at) ≡ 19) × (length (r .values) ≡ 19) × (a < 65536)
-
-abbrev pub Pushed : Rows → ℕ → ℕ → Rows → Type 0
-Pushed r a v r′ = (n : ℕ) (ps : List Write) → Held n r ps → a < n → Held n r′ (ps ++ write a v ∷ [])
-
 module _ {n : ℕ} {ps qs : List Write} {i : ℕ} {r : Rows} (f : Filled n ps qs i r) where
-  -- the next of qs can be pushed, and is then in the rows
-  pub takes : (a : ℕ) → i < length qs → a ≡ getD qs i (write 0 0) .at → Takes r a
-  takes a h e =
+  -- there is room for the next of qs, and its address fits a `u16`
+  pub next-fits : i < length qs → (r .len < 19) × (getD qs i (write 0 0) .at < 65536)
+  next-fits h =
       let p = all-nth (λ (p : Write). p .at < n) qs i (write 0 0) (f .inside) h in
-      (omega (arith, f .held .len, length-append ps (take i qs), length-take-le i qs (omega arith)), f .held .at, f .held .values, omega arith)
+      (omega (arith, f .held .len, length-append ps (take i qs), length-take-le i qs (omega arith)), omega arith)
 
-  pub pushed
-      : (a v : ℕ) (r′ : Rows) → i < length qs → a ≡ getD qs i (write 0 0) .at → v ≡ getD qs i (write 0 0) .value → Pushed r a v r′
-      → Filled n ps qs (i + 1) r′
-  pushed a v r′ h ea ev g =
+  -- it is written behind the last
+  pub written
+      : (m m′ a v : ℕ) → m ≡ r .len → m′ ≡ m + 1 → i < length qs → a ≡ getD qs i (write 0 0) .at → v ≡ getD qs i (write 0 0) .value
+      → Filled n ps qs (i + 1) (record { at = set (r .at) m a; values = set (r .values) m v; len = m′ })
+  written m m′ a v em em′ h ea ev =
       let p = all-nth (λ (p : Write). p .at < n) qs i (write 0 0) (f .inside) h in
       record {
         few = f .few;
         small = f .small;
         inside = f .inside;
         held =
-            subst (Held n r′)
+            rw (em′, em)
+            (subst (Held n (record { at = set (r .at) (r .len) a; values = set (r .values) (r .len) v; len = r .len + 1 }))
             (append-assoc ps (take i qs) (write a v ∷ [])
             ∙ ap₂ (λ (x y : ℕ). ps ++ (take i qs ++ write x y ∷ [])) ea ev
             ∙ ap (λ (t : List Write). ps ++ t) (sym (take-suc qs i (write 0 0) h) ∙ ap (λ (m : ℕ). take m qs) (sym (add-one i))))
-            (g n (ps ++ take i qs) (f .held) (omega arith));
+            (held-more n (r .at) (r .values) (r .len) a v (ps ++ take i qs) (next-fits h .0) (f .held) (omega arith)));
       }
 
   -- at the end all of them are
-  pub all-pushed : length qs ≤ i → Held n r (ps ++ qs)
-  all-pushed h = subst (λ (t : List Write). Held n r (ps ++ t)) (take-all i qs h) (f .held)
+  pub all-written : length qs ≤ i → Held n r (ps ++ qs)
+  all-written h = subst (λ (t : List Write). Held n r (ps ++ t)) (take-all i qs h) (f .held)
 
 -- the words of a record lie in a row
 row-inside : (n a : ℕ) (vs : List ℕ) → a + length vs ≤ n → All (λ (p : Write). p .at < n) (inRow a vs)
@@ -72,11 +67,11 @@ row-at a i [] h = absurd (omega arith)
 row-at a zero (v ∷ vs) h = (omega arith, refl)
 row-at a (suc i) (v ∷ vs) h = let t = row-at (a + 1) i vs (omega arith) in (omega arith, t .1)
 
--- before the first push of a record
+-- before the first store of a record
 pub record-fill
-    : (n a : ℕ) (vs : List ℕ) (r : Rows) → a + length vs ≤ n → n ≤ 65536 → length vs ≤ 13 → Held n r []
-    → Filled n [] (inRow a vs) 0 r
-record-fill n a vs r h g m e = record { few = omega (arith, length-row a vs); small = g; inside = row-inside n a vs h; held = e }
+    : (n a : ℕ) (vs : List ℕ) → a + length vs ≤ n → n ≤ 65536 → length vs ≤ 13
+    → Filled n [] (inRow a vs) 0 noRows
+record-fill n a vs h g m = record { few = omega (arith, length-row a vs); small = g; inside = row-inside n a vs h; held = held-none n }
 
 module _ {l : Layout} {k : ℕ} {t : Site} (p : Placed l k t) where
   -- the words of the site stand within the store
@@ -91,11 +86,16 @@ module _ {l : Layout} {k : ℕ} {t : Site} (p : Placed l k t) where
         omega (arith, header-fits l k (p .list)),
       )
 
+  -- their numbers fit a `u16`
+  pub site-small
+      : (cellAt l (t .cell) + 3 ≤ 65536) × (cellAt l (t .before) + 3 ≤ 65536) × (cellAt l (t .after) + 3 ≤ 65536) × (countAt k < 65536)
+  site-small = omega (arith, site-fits, size-small l (p .inRange))
+
   -- and so do those of its record
   pub record-fits : (recordAt l (t .cell) + l .width ≤ sizeOf l) × (sizeOf l ≤ 65536)
   record-fits = (omega (arith, node-fits l (t .cell) (p .cell)), size-small l (p .inRange))
 
-  -- before the first push of an insert's links
+  -- before the first store of an insert's links
   pub links-fill : (r : Rows) → Held (sizeOf l) r (writesIn r) → r .len ≤ 13 → Filled (sizeOf l) (writesIn r) (insertLinks l k t) 0 r
   unfolding insertLinks
   links-fill r h g =
@@ -106,8 +106,8 @@ module _ {l : Layout} {k : ℕ} {t : Site} (p : Placed l k t) where
         held = subst (Held (sizeOf l) r) (sym (append-nil (writesIn r))) h;
       }
 
-  -- before the first push of a delete
-  pub delete-fill : (r : Rows) → Held (sizeOf l) r [] → Filled (sizeOf l) [] (deleteWrites l k t) 0 r
+  -- before the first store of a delete
+  pub delete-fill : Filled (sizeOf l) [] (deleteWrites l k t) 0 noRows
   unfolding deleteWrites
-  delete-fill r h =
-      record { few = omega arith; small = size-small l (p .inRange); inside = omega (arith, site-fits); held = h }
+  delete-fill =
+      record { few = omega arith; small = size-small l (p .inRange); inside = omega (arith, site-fits); held = held-none (sizeOf l) }

@@ -17,27 +17,47 @@ fn record_rows(l: Layout, k: u16, t: Site, words: &[u16]) -> Rows
     ensures { λ r. ⌜ Held (sizeOf l) r (inRow (recordAt l (t .cell)) (now (words .entry))) ⌝ }
 {
     let a = l.node(t.cell) + Layout::LINK_WORDS;
-    let mut rows = Rows::new();
+    let mut at = [0u16; 19];
+    let mut values = [0u16; 19];
     let mut i: usize = 0;
     while i < words.len() {
-        rows = rows.push(a + i, words[i]);
+        at[i] = (a + i) as u16;
+        values[i] = words[i];
         i += 1;
     }
-    rows
+    Rows {
+        at,
+        values,
+        len: i,
+    }
 }
 
-// The stores of the new cell, the count and the two links to it.
+// The stores of the new cell, the count and the two links to it, behind those that are there.
 fn link_rows(rows: Rows, l: Layout, k: u16, t: Site) -> Rows
     requires { ⌜ Placed l k t × Held (sizeOf l) rows (writesIn rows) × (rows .len ≤ 13) ⌝ }
     ensures { λ r. ⌜ Held (sizeOf l) r (writesIn rows ++ insertLinks l k t) ⌝ }
 {
+    let n = rows.len;
+    let mut at = rows.at;
+    let mut values = rows.values;
     let cell = l.cell(t.cell);
-    let r1 = rows.push(cell + Layout::FORWARD, t.after);
-    let r2 = r1.push(cell + Layout::BACK, t.before);
-    let r3 = r2.push(cell, Layout::ident(k));
-    let r4 = r3.push(Layout::header(k) + Layout::COUNT, t.count + 1);
-    let r5 = r4.push(l.cell(t.before) + Layout::FORWARD, t.cell);
-    r5.push(l.cell(t.after) + Layout::BACK, t.cell)
+    at[n] = (cell + Layout::FORWARD) as u16;
+    values[n] = t.after;
+    at[n + 1] = (cell + Layout::BACK) as u16;
+    values[n + 1] = t.before;
+    at[n + 2] = cell as u16;
+    values[n + 2] = Layout::ident(k);
+    at[n + 3] = (Layout::header(k) + Layout::COUNT) as u16;
+    values[n + 3] = t.count + 1;
+    at[n + 4] = (l.cell(t.before) + Layout::FORWARD) as u16;
+    values[n + 4] = t.cell;
+    at[n + 5] = (l.cell(t.after) + Layout::BACK) as u16;
+    values[n + 5] = t.cell;
+    Rows {
+        at,
+        values,
+        len: n + 6,
+    }
 }
 
 // The stores of an insert.
@@ -60,9 +80,19 @@ pub fn delete_rows(l: Layout, k: u16, t: Site) -> Rows
     requires { ⌜ Placed l k t ⌝ }
     ensures { λ r. ⌜ Held (sizeOf l) r (deleteWrites l k t) ⌝ }
 {
-    let r0 = Rows::new();
-    let r1 = r0.push(l.cell(t.after) + Layout::BACK, t.before);
-    let r2 = r1.push(l.cell(t.before) + Layout::FORWARD, t.after);
-    let r3 = r2.push(Layout::header(k) + Layout::COUNT, less_one(t.count));
-    r3.push(l.cell(t.cell), 0)
+    let mut at = [0u16; 19];
+    let mut values = [0u16; 19];
+    at[0] = (l.cell(t.after) + Layout::BACK) as u16;
+    values[0] = t.before;
+    at[1] = (l.cell(t.before) + Layout::FORWARD) as u16;
+    values[1] = t.after;
+    at[2] = (Layout::header(k) + Layout::COUNT) as u16;
+    values[2] = less_one(t.count);
+    at[3] = l.cell(t.cell) as u16;
+    values[3] = 0;
+    Rows {
+        at,
+        values,
+        len: 4,
+    }
 }

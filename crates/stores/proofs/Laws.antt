@@ -14,7 +14,7 @@ use Rattle.sequences.specs.Sequence.{All}
 use Rattle.sequences.proofs.Members.{all-append, all-nth}
 use Rattle.stores.specs.declared.Answer.the-variants as A
 use Rattle.stores.specs.declared.Rows.{Rows}
-use Rattle.stores.specs.Stores.{Write, write, store, run, applied, Spares, stores, answerOf, writesOf, inRow, Planned, Held}
+use Rattle.stores.specs.Stores.{Write, write, store, run, applied, Spares, stores, answerOf, writesOf, inRow, noRows, Planned, Held}
 
 -- stores in a row one after the other
 pub run-append : (ps qs : List Write) (w : List ℕ) → run (ps ++ qs) w ≡ run qs (run ps w)
@@ -146,6 +146,11 @@ writes-snoc [] [] a v e = refl
 writes-snoc [] (y ∷ vs) a v e = absurd (omega arith)
 writes-snoc (x ∷ at) [] a v e = absurd (omega arith)
 writes-snoc (x ∷ at) (y ∷ vs) a v e = ap (λ (t : List Write). write x y ∷ t) (writes-snoc at vs a v (omega arith))
+
+-- rows that hold no store, and one store more
+pub held-none : (n : ℕ) → Held n noRows []
+unfolding writesOf
+held-none n = record { at = refl; values = refl; len = refl; few = omega arith; same = refl; inside = tt }
 
 pub held-more
     : (n : ℕ) (at vs : List ℕ) (len a v : ℕ) (ps : List Write) → len < 19 → Held n (record { at = at; values = vs; len = len }) ps → a < n

@@ -4,7 +4,7 @@ use mathlib.Core.Path.{_≡_}
 use mathlib.Core.List.{List, [], _∷_}
 use mathlib.Core.Bool.{cond}
 use lib.Dec.{ltb}
-use lib.ListN.{length, getD, set, take}
+use lib.ListN.{length, getD, set, take, replicate}
 use Rattle.sequences.specs.Sequence.{All}
 use Rattle.stores.specs.declared.Answer.{Answer}
 use Rattle.stores.specs.declared.Rows.{Rows}
@@ -85,6 +85,10 @@ pub record Planned (n : ℕ) (at values : List ℕ) : Type 0 where
 -- a short list of stores, kept in two arrays of 19 words
 abbrev pub writesIn : Rows → List Write
 writesIn r = writesOf (take (r .len) (r .at)) (take (r .len) (r .values))
+
+-- no store
+abbrev pub noRows : Rows
+noRows = record { at = replicate 19 0; values = replicate 19 0; len = 0 }
 
 -- the stores ps are in the rows, and go to words below n
 pub record Held (n : ℕ) (r : Rows) (ps : List Write) : Type 0 where

@@ -1,98 +1,109 @@
--- `delete_rows` pushes the four stores one behind the other: after each the rows hold one more of them.
-use Prim.Native.Nat.{ℕ}
+-- `delete_rows` writes the four stores one behind the other.
 use mathlib.Core.Path.{refl}
-use mathlib.Core.List.{[]}
 use native.Mathlib.Omega.{arith}
 use borrow.Author.Needs.{needs}
-use Rattle.layout.specs.Words.{sizeOf}
-use Rattle.stores.specs.declared.Rows.{Rows}
 use Rattle.edits.specs.Edits.{deleteWrites}
-use Rattle.edits.proofs.Rows.{Filled, takes, pushed, all-pushed, delete-fill}
+use Rattle.edits.proofs.Rows.{site-small, written, all-written, delete-fill}
 use Rattle.edits.proofs.delete_rows.Statement.{statement}
 use Rattle.edits.proofs.delete_rows.Tie as tie
-
--- the rows hold the first i stores
-abbrev Holds : tie.Start → ℕ → Rows → Type 0
-Holds s i r = Filled (sizeOf (s .args .l)) [] (deleteWrites (s .args .l) (s .args .k) (s .args .t)) i r
-
-new-requires : tie.Need-new-requires
-new-requires c κs = search needs
 
 cell-requires : tie.Need-cell-requires
 cell-requires c κs = search needs
 
-holds0 : (c : tie.After-new) → Holds (c .before) 0 (c .new .result)
-holds0 c = delete-fill (c .before .pre) (c .new .result) (c .new .ensures (sizeOf (c .before .args .l)))
+add-at : tie.Need-add-at
+add-at c = omega (arith, site-small (c .before .pre))
 
-push-requires : tie.Need-push-requires
-unfolding deleteWrites
-push-requires c κs = takes (holds0 (c .before)) _ (omega arith) (omega arith)
+cast-at : tie.Need-cast-at
+cast-at c = omega (arith, site-small (c .before .pre))
 
-add-push : tie.Need-add-push
-add-push c = omega (arith, push-requires c tt)
+array-write-at : tie.Need-array-write-at
+array-write-at c = search needs
 
-holds1 : (c : tie.After-push) → Holds (c .before .before .before) 1 (c .push .result)
-unfolding deleteWrites
-holds1 c = pushed (holds0 (c .before .before)) _ _ _ (omega arith) (omega arith) refl (c .push .ensures)
+array-write-values : tie.Need-array-write-values
+array-write-values c = search needs
 
 cell-requires-2 : tie.Need-cell-requires-2
 cell-requires-2 c κs = search needs
 
-push-requires-2 : tie.Need-push-requires-2
-unfolding deleteWrites
-push-requires-2 c κs = takes (holds1 (c .before)) _ (omega arith) (omega arith)
+add-at-2 : tie.Need-add-at-2
+add-at-2 c = omega (arith, site-small (c .before .before .pre))
 
-add-push-2 : tie.Need-add-push-2
-add-push-2 c = omega (arith, push-requires-2 c tt)
+cast-at-2 : tie.Need-cast-at-2
+cast-at-2 c = omega (arith, site-small (c .before .before .pre))
 
-holds2 : (c : tie.After-push2) → Holds (c .before .before .before .before .before) 2 (c .push2 .result)
-unfolding deleteWrites
-holds2 c = pushed (holds1 (c .before .before)) _ _ _ (omega arith) (omega arith) refl (c .push2 .ensures)
+array-write-at-2 : tie.Need-array-write-at-2
+array-write-at-2 c = search needs
+
+array-write-values-2 : tie.Need-array-write-values-2
+array-write-values-2 c = search needs
 
 header-requires : tie.Need-header-requires
 header-requires c κs = search needs
 
-add-push-3 : tie.Need-add-push-3
-add-push-3 c = search needs
+add-at-3 : tie.Need-add-at-3
+add-at-3 c = search needs
+
+cast-at-3 : tie.Need-cast-at-3
+cast-at-3 c = search needs
+
+array-write-at-3 : tie.Need-array-write-at-3
+array-write-at-3 c = search needs
 
 less-one-requires : tie.Need-less-one-requires
 less-one-requires c κs = search needs
 
-push-requires-3 : tie.Need-push-requires-3
-unfolding deleteWrites
-push-requires-3 c κs = takes (holds2 (c .before .before)) _ (omega arith) (omega arith)
-
-holds3 : (c : tie.After-push3) → Holds (c .before .before .before .before .before .before .before .before) 3 (c .push3 .result)
-unfolding deleteWrites
-holds3 c = pushed (holds2 (c .before .before .before)) _ _ _ (omega arith) (omega arith) (c .before .less-one .ensures) (c .push3 .ensures)
+array-write-values-3 : tie.Need-array-write-values-3
+array-write-values-3 c = search needs
 
 cell-requires-3 : tie.Need-cell-requires-3
 cell-requires-3 c κs = search needs
 
-push-requires-4 : tie.Need-push-requires-4
-unfolding deleteWrites
-push-requires-4 c κs = takes (holds3 (c .before)) _ (omega arith) (omega arith)
+cast-at-4 : tie.Need-cast-at-4
+cast-at-4 c = omega (arith, site-small (c .before .before .before .before .before .pre))
 
+array-write-at-4 : tie.Need-array-write-at-4
+array-write-at-4 c = search needs
+
+array-write-values-4 : tie.Need-array-write-values-4
+array-write-values-4 c = search needs
+
+-- each pair of writes is one store more
 returns : tie.Need-returns
 unfolding deleteWrites
 returns c =
-    all-pushed (pushed (holds3 (c .before .before)) _ _ _ (omega arith) (c .before .cell3 .ensures) refl (c .push4 .ensures)) (omega arith)
+    let s = c .before .before .before .before .before in
+    all-written
+    (written
+      (written
+        (written
+          (written (delete-fill (s .pre)) 0 1 _ _ refl refl (omega arith) (omega arith) refl)
+          1 2 _ _ refl refl (omega arith) (omega arith) refl)
+        2 3 _ _ refl refl (omega arith) (omega arith) (c .before .less-one .ensures))
+      3 4 _ _ refl refl (omega arith) (c .cell3 .ensures) refl)
+    (omega arith)
 
 pub delete-rows-spec : {M : Type 1} → statement M
 delete-rows-spec =
     tie.close
     (tie.spec
-    new-requires
     cell-requires
-    add-push
-    push-requires
+    add-at
+    cast-at
+    array-write-at
+    array-write-values
     cell-requires-2
-    add-push-2
-    push-requires-2
+    add-at-2
+    cast-at-2
+    array-write-at-2
+    array-write-values-2
     header-requires
-    add-push-3
+    add-at-3
+    cast-at-3
+    array-write-at-3
     less-one-requires
-    push-requires-3
+    array-write-values-3
     cell-requires-3
-    push-requires-4
+    cast-at-4
+    array-write-at-4
+    array-write-values-4
     returns)

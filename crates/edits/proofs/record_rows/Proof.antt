@@ -1,23 +1,24 @@
--- `record_rows` pushes the stores of the record's words: after i turns the rows hold the first i of them.
+-- `record_rows` writes the stores of the record's words: after i turns the rows hold the first i of them.
 use Prim.Native.Nat.{ℕ, _+_, _-_, _≤_}
-use mathlib.Core.Path.{subst}
+use mathlib.Core.Path.{_≡_, refl, subst}
 use mathlib.Core.List.{[]}
 use native.Mathlib.Omega.{arith}
 use lib.ListN.{length}
-use borrow.Author.Needs.{needs}
 use Rattle.layout.specs.Words.{sizeOf}
+use Rattle.stores.specs.declared.Rows.{Rows}
 use Rattle.stores.specs.Stores.{Held, inRow}
 use Rattle.stores.proofs.Laws.{length-row}
-use Rattle.edits.proofs.Rows.{Filled, takes, pushed, all-pushed, record-fits, record-fill, row-at}
+use Rattle.edits.proofs.Rows.{Filled, next-fits, written, all-written, record-fits, record-fill, row-at}
 use Rattle.edits.proofs.record_rows.Statement.{statement}
 use Rattle.edits.proofs.record_rows.Tie as tie
 
 abbrev Inv-loop : tie.InvT-loop
-Inv-loop k words a rows₀ i₀ rows i =
-    (i ≤ length words) × ((n : ℕ) → a + length words ≤ n → n ≤ 65536 → Filled n [] (inRow a words) i rows)
+Inv-loop k words a at₀ values₀ i₀ at values i =
+    (i ≤ length words)
+    × ((n : ℕ) → a + length words ≤ n → n ≤ 65536 → Filled n [] (inRow a words) i (record { at = at; values = values; len = i }))
 
 abbrev μ-loop : tie.MeasureT-loop
-μ-loop k words a rows₀ i₀ rows i = length words - i
+μ-loop k words a at₀ values₀ i₀ at values i = length words - i
 
 -- the record lies in the store
 fits : (c : tie.After-node Inv-loop μ-loop) →
@@ -26,10 +27,22 @@ fits : (c : tie.After-node Inv-loop μ-loop) →
 fits c = omega (arith, record-fits (c .before .before .pre .0))
 
 -- the rows at the loop's test
+abbrev rows : tie.At-loop Inv-loop μ-loop → Rows
+rows c = record { at = c .loop .at; values = c .loop .values; len = c .loop .i }
+
 holds : (c : tie.At-loop Inv-loop μ-loop) →
+    let n = c .before in
+    Filled (sizeOf (n .before .before .args .l)) [] (inRow (n .node .result + 3) (n .before .before .args .words .now)) (c .loop .i) (rows c)
+holds c = let f = fits (c .before) in c .loop .inv .1 _ (f .0) (f .1)
+
+-- the arrays have 19 entries, and there is room for one more store
+room : (c : tie.In-loop Inv-loop μ-loop) →
+    (c .before .loop .i ≤ 18) × (length (c .before .loop .at) ≡ 19) × (length (c .before .loop .values) ≡ 19)
+room c =
     let n = c .before .before in
-    Filled (sizeOf (n .before .before .args .l)) [] (inRow (n .node .result + 3) (n .before .before .args .words .now)) (c .loop .i) (c .loop .rows)
-holds c = let f = fits (c .before .before) in c .loop .inv .1 _ (f .0) (f .1)
+    let h = holds (c .before) in
+    let r = next-fits h (omega (arith, length-row (n .node .result + 3) (n .before .before .args .words .now))) in
+    (omega (arith, r .0), h .held .at, h .held .values)
 
 node-requires : tie.Need-node-requires Inv-loop μ-loop
 node-requires c κs = c .before .pre .0 .cell .low
@@ -37,52 +50,58 @@ node-requires c κs = c .before .pre .0 .cell .low
 add-a : tie.Need-add-a Inv-loop μ-loop
 add-a c = omega (arith, fits c)
 
-new-requires : tie.Need-new-requires Inv-loop μ-loop
-new-requires c κs = search needs
-
 loop-holds : tie.Need-loop-holds Inv-loop μ-loop
 loop-holds c =
-    let s = c .before .before .before in
-    (omega arith, λ n h g. record-fill n _ (s .args .words .now) (c .new .result) h g (omega (arith, s .pre .0 .inRange .width)) (c .new .ensures n))
+    let s = c .before .before in
+    (omega arith, λ n h g. record-fill n _ (s .args .words .now) h g (omega (arith, s .pre .0 .inRange .width)))
 
-add-push : tie.Need-add-push Inv-loop μ-loop
-add-push c = omega (arith, fits (c .before .before .before))
+add-at : tie.Need-add-at Inv-loop μ-loop
+add-at c = omega (arith, fits (c .before .before))
 
-mul-push : tie.Need-mul-push Inv-loop μ-loop
-mul-push c = omega arith
+cast-at : tie.Need-cast-at Inv-loop μ-loop
+cast-at c = omega (arith, fits (c .before .before))
 
-shared-slice-read-push : tie.Need-shared-slice-read-push Inv-loop μ-loop
-shared-slice-read-push c = omega arith
+mul-at : tie.Need-mul-at Inv-loop μ-loop
+mul-at c = omega (arith, room c)
 
-push-requires : tie.Need-push-requires Inv-loop μ-loop
-push-requires c κs =
-    let n = c .before .before .before .before in
-    let words = n .before .before .args .words .now in
-    takes (holds (c .before .before)) _ (omega (arith, length-row (n .node .result + 3) words)) (row-at _ _ words (omega arith) .0)
+array-write-at : tie.Need-array-write-at Inv-loop μ-loop
+array-write-at c = omega (arith, room c)
+
+mul-values : tie.Need-mul-values Inv-loop μ-loop
+mul-values c = omega (arith, room c)
+
+shared-slice-read-values : tie.Need-shared-slice-read-values Inv-loop μ-loop
+shared-slice-read-values c = omega arith
+
+mul-values-2 : tie.Need-mul-values-2 Inv-loop μ-loop
+mul-values-2 c = omega (arith, room (c .before))
+
+array-write-values : tie.Need-array-write-values Inv-loop μ-loop
+array-write-values c = omega (arith, room (c .before))
 
 add-i : tie.Need-add-i Inv-loop μ-loop
-add-i c = omega arith
+add-i c = omega (arith, room (c .before))
 
 loop-less : tie.Need-loop-less Inv-loop μ-loop
 loop-less c = omega arith
 
 loop-again : tie.Need-loop-again Inv-loop μ-loop
 loop-again c =
-    let l = c .before .before .before in
-    let a = l .before .before .node .result + 3 in
-    let words = l .before .before .before .before .args .words .now in
+    let l = c .before .before in
+    let a = l .before .node .result + 3 in
+    let words = l .before .before .before .args .words .now in
     let t = row-at a (l .loop .i) words (omega arith) in (
       omega arith,
-      λ n h g. pushed (l .loop .inv .1 n h g) _ _ _ (omega (arith, length-row a words)) (t .0) (t .1) (c .push .ensures),
+      λ n h g. written (l .loop .inv .1 n h g) (l .loop .i) _ _ _ refl refl (omega (arith, length-row a words)) (t .0) (t .1),
     )
 
 returns : tie.Need-returns Inv-loop μ-loop
 returns c =
-    let n = c .before .before .before in
+    let n = c .before .before in
     let s = n .before .before in
     let words = s .args .words .now in
-    subst (λ (a : ℕ). Held (sizeOf (s .args .l)) (c .before .loop .rows) (inRow (a + 3) words)) (n .node .ensures)
-    (all-pushed (holds (c .before)) (omega (arith, length-row (n .node .result + 3) words)))
+    subst (λ (a : ℕ). Held (sizeOf (s .args .l)) (rows (c .before)) (inRow (a + 3) words)) (n .node .ensures)
+    (all-written (holds (c .before)) (omega (arith, length-row (n .node .result + 3) words)))
 
 pub record-rows-spec : {M : Type 1} → statement M
 record-rows-spec =
@@ -92,12 +111,15 @@ record-rows-spec =
     μ-loop
     node-requires
     add-a
-    new-requires
     loop-holds
-    add-push
-    mul-push
-    shared-slice-read-push
-    push-requires
+    add-at
+    cast-at
+    mul-at
+    array-write-at
+    mul-values
+    shared-slice-read-values
+    mul-values-2
+    array-write-values
     add-i
     loop-less
     loop-again
