@@ -17,8 +17,8 @@ fn record_rows(l: Layout, k: u16, t: Site, words: &[u16]) -> Rows
     ensures { λ r. ⌜ Held (sizeOf l) r (inRow (recordAt l (t .cell)) (now (words .entry))) ⌝ }
 {
     let a = l.node(t.cell) + Layout::LINK_WORDS;
-    let mut at = [0u16; 19];
-    let mut values = [0u16; 19];
+    let mut at = [0u16; Rows::MOST];
+    let mut values = [0u16; Rows::MOST];
     let mut i: usize = 0;
     while i < words.len() {
         at[i] = (a + i) as u16;
@@ -80,8 +80,8 @@ pub fn delete_rows(l: Layout, k: u16, t: Site) -> Rows
     requires { ⌜ Placed l k t ⌝ }
     ensures { λ r. ⌜ Held (sizeOf l) r (deleteWrites l k t) ⌝ }
 {
-    let mut at = [0u16; 19];
-    let mut values = [0u16; 19];
+    let mut at = [0u16; Rows::MOST];
+    let mut values = [0u16; Rows::MOST];
     at[0] = (l.cell(t.after) + Layout::BACK) as u16;
     values[0] = t.before;
     at[1] = (l.cell(t.before) + Layout::FORWARD) as u16;

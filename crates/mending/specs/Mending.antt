@@ -11,7 +11,9 @@ use Rattle.layout.specs.declared.Layout.{Layout}
 use Rattle.layout.specs.Words.{identAt, cellCount, sizeOf}
 use Rattle.lists.specs.Decide.{View, countIn}
 use Rattle.survey.specs.Survey.{Loaded}
+use Rattle.fitting.specs.declared.Faults.{Faults}
 use Rattle.fitting.specs.Fitting.{fitIn, mendOf, numberOf, faultIn, isBackward, lengthBy, carries, membersBy}
+use Rattle.mending.specs.declared.Mend.{Mend}
 use Rattle.mending.specs.declared.Mends.{Mends}
 use Rattle.mending.specs.declared.Finding.{Finding}
 
@@ -66,6 +68,12 @@ planOf f at values = cond (eqb (f .refusal) 0) (stores (listed (f .stores) at va
 pub record Told (l : Layout) (w idents forwards backs counts : List ℕ) : Type 0 where
   pub loaded : Loaded l w idents forwards backs
   pub counted : (k : ℕ) → k < l .lists → getD counts k 0 ≡ countIn w k
+
+-- the mend of a fault: as many of this one store as there are
+pub record IsMend (l : Layout) (f : Faults) (m : Mend) : Type 0 where
+  pub few : m .number ≤ 1
+  pub same : take (m .number) (write (m .at) (m .value) ∷ []) ≡ mendOf l f
+  pub inside : All (λ (p : Write). p .at < sizeOf l) (mendOf l f)
 
 -- what is found of all lists; all but the refusal counts only where no list is refused
 pub record MendsOf (l : Layout) (v : View) (count : ℕ → ℕ) (m : Mends) : Type 0 where

@@ -14,8 +14,15 @@ ghost use Rattle.layout.specs.Words.{InRange, cellCount, firstNode, sizeOf};
 ghost use Rattle.lists.specs.Decide.{used};
 ghost use Rattle.survey.specs.Survey.{columns, Columns};
 ghost use Rattle.recovery.specs.Plan.{recoverOf};
-ghost use Rattle.fitting.specs.Fitting.{mendOf, FaultFits, walked};
-ghost use Rattle.mending.specs.Mending.{MendsOf, erased, erasedFrom, clearsIn, listed, Listed, Told, planOf};
+ghost use Rattle.fitting.specs.Fitting.{FaultFits, walked};
+ghost use Rattle.mending.specs.Mending.{IsMend, MendsOf, erased, erasedFrom, clearsIn, listed, Listed, Told, planOf};
+
+// A store, where the number is 1; none, where it is 0.
+pub struct Mend {
+    pub at: u16,
+    pub value: u16,
+    pub number: usize,
+}
 
 // What is found of all lists: the number of the first that is refused, 0 for none; how many members they have, and whether each
 // carries an identifier; which lists go by their back links; and the mends, list 0 first.
@@ -33,15 +40,27 @@ pub struct Finding {
     pub stores: usize,
 }
 
-// The mend of a fault behind the others.
-fn mended(rows: Rows, l: Layout, f: Faults) -> Rows
-    requires { ⌜ InRange l × Held (sizeOf l) rows (writesIn rows) × (rows .len < 8) × FaultFits l f ⌝ }
-    ensures { λ r. ⌜ Held (sizeOf l) r (writesIn rows ++ mendOf l f) ⌝ }
+// The store that mends a fault.
+fn mend_of(l: Layout, f: Faults) -> Mend
+    requires { ⌜ InRange l × FaultFits l f ⌝ }
+    ensures { λ r. ⌜ IsMend l f r ⌝ }
 {
     match f {
-        Faults::None => rows,
-        Faults::One(c, w, v) => rows.push(l.cell(c) + w as usize, v),
-        Faults::Many => rows,
+        Faults::None => Mend {
+            at: 0,
+            value: 0,
+            number: 0,
+        },
+        Faults::One(c, w, v) => Mend {
+            at: (l.cell(c) + w as usize) as u16,
+            value: v,
+            number: 1,
+        },
+        Faults::Many => Mend {
+            at: 0,
+            value: 0,
+            number: 0,
+        },
     }
 }
 
@@ -59,7 +78,9 @@ fn all_mends(
     let mut members: u32 = 0;
     let mut carried = true;
     let mut back = [false; 8];
-    let mut rows = Rows::new();
+    let mut at = [0u16; Rows::MOST];
+    let mut values = [0u16; Rows::MOST];
+    let mut len: usize = 0;
     let mut k: u16 = 0;
     while k < l.lists {
         let n = counts[k as usize];
@@ -71,14 +92,21 @@ fn all_mends(
                 members,
                 carried,
                 back,
-                rows,
+                rows: Rows {
+                    at,
+                    values,
+                    len,
+                },
             };
         }
         let fault = f.fault();
         members += fault.members(n) as u32;
         carried &= fault.carried(idents);
         back[k as usize] = f.is_backward();
-        rows = mended(rows, l, fault);
+        let m = mend_of(l, fault);
+        at[len] = m.at;
+        values[len] = m.value;
+        len += m.number;
         k += 1;
     }
     Mends {
@@ -86,7 +114,11 @@ fn all_mends(
         members,
         carried,
         back,
-        rows,
+        rows: Rows {
+            at,
+            values,
+            len,
+        },
     }
 }
 

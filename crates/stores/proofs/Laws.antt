@@ -1,7 +1,7 @@
 -- Laws of runs of stores.
 use Prim.Native.Nat.{ℕ, suc, zero, _+_, _-_, _≤_, _<_}
 use mathlib.Core.Path.{_≡_, refl, ap, ap₂, _∙_, sym, subst}
-use mathlib.Core.List.{List, [], _∷_, _++_}
+use mathlib.Core.List.{List, [], _∷_, _++_, append-nil}
 use mathlib.Core.Logic.{_⊎_, inl, inr}
 use native.Mathlib.Decide.{ℕ-discrete, decLt}
 use native.Mathlib.Omega.{arith}
@@ -169,6 +169,35 @@ held-more n at vs len a v ps few h g =
         ∙ ap (λ (t : List Write). t ++ write a v ∷ []) (h .same);
       inside = all-append (λ (p : Write). p .at < n) ps (write a v ∷ []) (h .inside) (g, tt)
     }
+
+-- what is written behind the last store changes none
+take-set : (xs : List ℕ) (i v : ℕ) → take i (set xs i v) ≡ take i xs
+take-set [] zero v = refl
+take-set [] (suc i) v = refl
+take-set (x ∷ xs) zero v = refl
+take-set (x ∷ xs) (suc i) v = ap (λ (t : List ℕ). x ∷ t) (take-set xs i v)
+
+-- one store more, or none
+pub held-maybe
+    : (n : ℕ) (at vs : List ℕ) (len a v m : ℕ) (ps qs : List Write) → len < 19 → Held n (record { at = at; values = vs; len = len }) ps
+    → m ≤ 1 → take m (write a v ∷ []) ≡ qs → All (λ (p : Write). p .at < n) qs
+    → Held n (record { at = set at len a; values = set vs len v; len = len + m }) (ps ++ qs)
+held-maybe n at vs len a v zero ps qs few h one e i =
+    subst (λ (x : ℕ). Held n (record { at = set at len a; values = set vs len v; len = x }) (ps ++ qs)) (sym (add-zero len))
+    (subst (λ (x : List Write). Held n (record { at = set at len a; values = set vs len v; len = len }) (ps ++ x)) e
+    (subst (Held n (record { at = set at len a; values = set vs len v; len = len })) (sym (append-nil ps))
+    (record {
+      at = length-set at len a ∙ h .at;
+      values = length-set vs len v ∙ h .values;
+      len = h .len;
+      few = h .few;
+      same = ap₂ writesOf (take-set at len a) (take-set vs len v) ∙ h .same;
+      inside = h .inside;
+    })))
+held-maybe n at vs len a v (suc zero) ps qs few h one e i =
+    subst (λ (x : List Write). Held n (record { at = set at len a; values = set vs len v; len = len + 1 }) (ps ++ x)) e
+    (held-more n at vs len a v ps few h (rw (← e) at i .0))
+held-maybe n at vs len a v (suc (suc m)) ps qs few h one e i = absurd (omega arith)
 
 -- rows of stores are a plan
 pub held-length : (n : ℕ) (r : Rows) (ps : List Write) → Held n r ps → (length (take (r .len) (r .at)) ≡ r .len) × (length (take (r .len) (r .values)) ≡ r .len)

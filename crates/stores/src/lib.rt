@@ -2,10 +2,9 @@
 // addresses and a row of values. A step makes one of the stores; a run makes the first of them, up to the allowance, so what a
 // cut leaves is what a smaller allowance leaves.
 ghost use mathlib.Core.Path.{_≡_};
-ghost use Prim.Native.Nat.{ℕ, _+_, _<_};
-ghost use mathlib.Core.List.{List, [], _∷_, _++_};
+ghost use Prim.Native.Nat.{_+_, _<_};
 ghost use lib.ListN.{length, getD};
-ghost use Rattle.stores.specs.Stores.{Write, write, store, stores, applied, answerOf, answerNumber, answerStores, writesOf, writesIn, Planned, Held};
+ghost use Rattle.stores.specs.Stores.{write, store, stores, applied, answerOf, answerNumber, answerStores, writesOf, writesIn, Planned, Held};
 
 // The answer of a call that stores.
 pub enum Answer {
@@ -67,39 +66,13 @@ pub fn run(words: &mut [u16], at: &[u16], values: &[u16], allowance: u16) -> Ans
 
 // A short list of stores: at most 19, as many as an insert of the longest record makes.
 pub struct Rows {
-    pub at: [u16; 19],
-    pub values: [u16; 19],
+    pub at: [u16; Rows::MOST],
+    pub values: [u16; Rows::MOST],
     pub len: usize,
 }
 
 impl Rows {
-    // No store yet.
-    pub fn new() -> Rows
-        ensures { λ r. ⌜ ((n : ℕ) → Held n r []) ⌝ }
-    {
-        Rows {
-            at: [0; 19],
-            values: [0; 19],
-            len: 0,
-        }
-    }
-
-    // One store more: word a becomes v.
-    pub fn push(self, a: usize, v: u16) -> Rows
-        requires { ⌜ (self .len < 19) × (length (self .at) ≡ 19) × (length (self .values) ≡ 19) × (a < 65536) ⌝ }
-        ensures { λ r. ⌜ ((n : ℕ) (ps : List Write) → Held n self ps → a < n → Held n r (ps ++ write a v ∷ [])) ⌝ }
-    {
-        let n = self.len;
-        let mut at = self.at;
-        let mut values = self.values;
-        at[n] = a as u16;
-        values[n] = v;
-        Rows {
-            at,
-            values,
-            len: n + 1,
-        }
-    }
+    pub const MOST: usize = 19;
 }
 
 // Makes the stores of the rows, up to the allowance.
