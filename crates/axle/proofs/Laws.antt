@@ -61,7 +61,7 @@ filled-next f b i h =
     (ap (λ (m : ℕ). filled f m b) (add-one i)
     ∙ ap (λ (vs : List ℕ). run (byteWrites (inRow 0 vs)) b) (take-suc f i 0 h)
     ∙ ap (λ (ps : List Write). run (byteWrites ps) b)
-      (row-append 0 (take i f) (getD f i 0 ∷ []) ∙ ap (λ (m : ℕ). inRow 0 (take i f) ++ write m (getD f i 0) ∷ []) n)
+    (row-append 0 (take i f) (getD f i 0 ∷ []) ∙ ap (λ (m : ℕ). inRow 0 (take i f) ++ write m (getD f i 0) ∷ []) n)
     ∙ ap (λ (ps : List Write). run ps b) (byte-append (inRow 0 (take i f)) (write i (getD f i 0) ∷ []))
     ∙ run-append (byteWrites (inRow 0 (take i f))) (byteWrites (write i (getD f i 0) ∷ [])) b)
 

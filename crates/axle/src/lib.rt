@@ -119,7 +119,14 @@ fn record_of(rec: &[u8], n: usize) -> [u16; 13]
 }
 
 // Inserts a record.
-fn insert(bytes: &mut [u8], list: u16, position: u16, start: u16, rec: &[u8], allowance: u16) -> Answer
+fn insert(
+    bytes: &mut [u8],
+    list: u16,
+    position: u16,
+    start: u16,
+    rec: &[u8],
+    allowance: u16,
+) -> Answer
     ensures answer { λ r. ⌜ r ≡ answerOf (insertPlan (wordsIn (now (bytes .entry))) list position start (recordWords (now (rec .entry)))) allowance ⌝ }
     ensures bytes { λ _. ⌜ now (bytes .exit) ≡ bytesAfter (insertPlan (wordsIn (now (bytes .entry))) list position start (recordWords (now (rec .entry)))) allowance (now (bytes .entry)) ⌝ }
 {
@@ -128,7 +135,11 @@ fn insert(bytes: &mut [u8], list: u16, position: u16, start: u16, rec: &[u8], al
         Looked::Refused(r) => Answer::Refused(r),
         Looked::At(l, t) => {
             let words = record_of(rec, n);
-            byte_form::run_rows(bytes, edits::insert_rows(l, list, t, &words[..n]), allowance)
+            byte_form::run_rows(
+                bytes,
+                edits::insert_rows(l, list, t, &words[..n]),
+                allowance,
+            )
         }
     }
 }

@@ -52,19 +52,20 @@ check-sound w = by (lookOf w Check) refl
     yes-at : (l : Layout) (b : Bool) (t u : Site) → ask b (Refused 6) (At u) ≡ At t → b ≡ true
     yes-at l true t u e = refl
     yes-at l false t u e = let z : _≡_ {A = ℕ} 0 1 = cc in absurd (omega arith)
+
     by : (x : Looked) → lookOf w Check ≡ x → withLook x C.Refused (λ l t. C.Sound) ≡ C.Sound → Sound w
     by (K.Refused n) p e = let z : _≡_ {A = ℕ} 0 1 = cc in absurd (omega arith)
     by (K.At l t) p e =
         let a = looked w Check l t p in
         let q = opened-open w l (a .0) in
         let g : soundOf (layoutOf w) w ≡ true =
-              subst (λ (m : Layout). soundOf m w ≡ true) (q .0)
-              (yes-at l (soundOf l w) t (record { before = 0; cell = 0; after = 0; count = 0 }) (a .1)) in
+        subst (λ (m : Layout). soundOf m w ≡ true) (q .0)
+        (yes-at l (soundOf l w) t (record { before = 0; cell = 0; after = 0; count = 0 }) (a .1)) in
         record {
           marked = q .1;
           inRange = subst InRange (q .0) (q .2);
           exact = q .3 ∙ ap sizeOf (q .0);
-          lists = sound-lists (layoutOf w) w g
+          lists = sound-lists (layoutOf w) w g;
         }
 
 pub check-decides : (w : List ℕ) → (checkAnswer w ≡ C.Sound) ↔ Sound w
@@ -82,7 +83,7 @@ module _ (w : List ℕ) (s : Sound w) (k : ℕ) (h : k < layoutOf w .lists) wher
   unfolding siteIn
   sound-length =
       let e : siteOf (layoutOf w) w (Whole k) ≡ At (record { before = k; cell = k; after = k; count = length (sequenceOf (layoutOf w) w k) }) =
-            rw (lt-ltb k (layoutOf w .lists) h, sound-decided w s) in
+      rw (lt-ltb k (layoutOf w .lists) h, sound-decided w s) in
       sym (length-at w k (sym (look-at w (Whole k) (sound-opened w s) e)))
       ∙ ap (λ (x : List ℕ). L.Length (length x)) members-are
 
@@ -92,7 +93,7 @@ module _ (w : List ℕ) (s : Sound w) (k : ℕ) (h : k < layoutOf w .lists) wher
       let q : p < length (sequenceOf (layoutOf w) w k) = subst (λ (x : List ℕ). p < length x) (sym members-are) g in
       let x = sequenceOf (layoutOf w) w k in
       let e : siteOf (layoutOf w) w (Member k p) ≡ At (record { before = getD (k ∷ x) p 0; cell = getD x p 0; after = getD (x ++ k ∷ []) (p + 1) 0; count = length x }) =
-            rw (lt-ltb k (layoutOf w .lists) h, sound-decided w s, lt-ltb p (length x) q) in
+      rw (lt-ltb k (layoutOf w .lists) h, sound-decided w s, lt-ltb p (length x) q) in
       sym (read-at w k p (sym (look-at w (Member k p) (sound-opened w s) e)) .0)
       ∙ ap (λ (x : List ℕ). recordIn (layoutOf w) w (getD x p 0)) members-are
 

@@ -46,31 +46,36 @@ module _ (w : List ℕ) (k p : ℕ) (l : Layout) (t : Site) where
       let a = looked w (Member k p) l t e in
       let o = opened-open w l (a .0) in
       let f = member-facts l w k p t (a .1) in
-      let s = sequenceOf l w k in
-      (subst (Placed l k) (sym (f .site)) (record {
-        inRange = o .2;
-        list = f .list;
-        cell = all-in (Node l) s (nodes l w k (f .list)) (at-in s p (f .position));
-        before = before l w k (f .list) p (omega (arith, f .position));
-        after = after l w k (f .list) (p + 1) (omega (arith, f .position));
-        count = few l w k (f .list)
-      }), o .3)
+      let s = sequenceOf l w k in (
+        subst (Placed l k) (sym (f .site)) (record {
+          inRange = o .2;
+          list = f .list;
+          cell = all-in (Node l) s (nodes l w k (f .list)) (at-in s p (f .position));
+          before = before l w k (f .list) p (omega (arith, f .position));
+          after = after l w k (f .list) (p + 1) (omega (arith, f .position));
+          count = few l w k (f .list);
+        }),
+        o .3,
+      )
 
   pub gap-placed : (c m : ℕ) → lookOf w (Gap k p c m) ≡ K.At l t → Placed l k t × (m ≡ l .width) × (length w ≡ sizeOf l)
   gap-placed c m e =
       let a = looked w (Gap k p c m) l t e in
       let o = opened-open w l (a .0) in
-      let f = gap-facts l w k p c m t (a .1) in
-      (subst (Placed l k) (sym (f .site)) (record {
-        inRange = o .2;
-        list = f .list;
-        cell =
-          all-in (Node l) (around l c (l .nodes)) (around-nodes l c (l .nodes) (f .start))
-          (subst (λ (x : List ℕ). t .cell ∈ x) (sym (f .first .order)) (Memᴰ·append-right (f .first .passed) (List·Memᴰ·head refl)));
-        before = before l w k (f .list) p (f .position);
-        after = after l w k (f .list) p (f .position);
-        count = few l w k (f .list)
-      }), f .size, o .3)
+      let f = gap-facts l w k p c m t (a .1) in (
+        subst (Placed l k) (sym (f .site)) (record {
+          inRange = o .2;
+          list = f .list;
+          cell =
+              all-in (Node l) (around l c (l .nodes)) (around-nodes l c (l .nodes) (f .start))
+              (subst (λ (x : List ℕ). t .cell ∈ x) (sym (f .first .order)) (Memᴰ·append-right (f .first .passed) (List·Memᴰ·head refl)));
+          before = before l w k (f .list) p (f .position);
+          after = after l w k (f .list) p (f .position);
+          count = few l w k (f .list);
+        }),
+        f .size,
+        o .3,
+      )
 
 -- the record of a site lies in the store
 pub record-fits : (l : Layout) (k : ℕ) (t : Site) → Placed l k t → recordAt l (t .cell) + l .width ≤ sizeOf l

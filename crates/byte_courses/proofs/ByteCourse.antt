@@ -71,23 +71,24 @@ module _ (b : List ℕ) (h : length b % 2 ≡ 0) (s : Sound (wordsIn b)) (e : Ed
 
   pub byte-course
       : Course (wordsIn b) s (named (inWords e)) (dueWords (wordsIn b) (inWords e) m) (wordsIn y) (wordsIn (bytesThrough runs y))
-        (answersThrough runs (wordsIn y)) (storesThrough runs (wordsIn y))
+      (answersThrough runs (wordsIn y)) (storesThrough runs (wordsIn y))
       × (codesThrough runs y ≡ codes (answersThrough runs (wordsIn y)))
       × (codeOf (answerOf (byteRecover (bytesThrough ms y)) last) ≡ 65536 + needed (byteRecover (bytesThrough ms y)))
   byte-course =
       let c =
-            subst
-            (λ (x : List ℕ).
-              needed (recoverPlan (wordsThrough ms x)) ≤ last
-              → Course (wordsIn b) s (named (inWords e)) (dueWords (wordsIn b) (inWords e) m) x (wordsThrough runs x) (answersThrough runs x) (storesThrough runs x)
-                × (codeOf (answerOf (recoverPlan (wordsThrough ms x)) last) ≡ 65536 + needed (recoverPlan (wordsThrough ms x))))
-            (sym found-words)
-            (λ n. let r = course (wordsIn b) s (inWords e) m alts allowed ms last n in (r .0, ap codeOf (r .1)))
-            (subst (λ (p : Plan). needed p ≤ last) last-plan enough) in
-      (subst
-        (λ (z : List ℕ).
-          Course (wordsIn b) s (named (inWords e)) (dueWords (wordsIn b) (inWords e) m) (wordsIn y) z (answersThrough runs (wordsIn y))
-          (storesThrough runs (wordsIn y)))
-        (sym (words-through runs y (f .even))) (c .0),
-      codes-through runs y (f .even),
-      subst (λ (p : Plan). codeOf (answerOf p last) ≡ 65536 + needed p) (sym last-plan) (c .1))
+      subst
+      (λ (x : List ℕ).
+      needed (recoverPlan (wordsThrough ms x)) ≤ last
+      → Course (wordsIn b) s (named (inWords e)) (dueWords (wordsIn b) (inWords e) m) x (wordsThrough runs x) (answersThrough runs x) (storesThrough runs x)
+      × (codeOf (answerOf (recoverPlan (wordsThrough ms x)) last) ≡ 65536 + needed (recoverPlan (wordsThrough ms x))))
+      (sym found-words)
+      (λ n. let r = course (wordsIn b) s (inWords e) m alts allowed ms last n in (r .0, ap codeOf (r .1)))
+      (subst (λ (p : Plan). needed p ≤ last) last-plan enough) in (
+        subst
+            (λ (z : List ℕ).
+            Course (wordsIn b) s (named (inWords e)) (dueWords (wordsIn b) (inWords e) m) (wordsIn y) z (answersThrough runs (wordsIn y))
+            (storesThrough runs (wordsIn y)))
+            (sym (words-through runs y (f .even))) (c .0),
+        codes-through runs y (f .even),
+        subst (λ (p : Plan). codeOf (answerOf p last) ≡ 65536 + needed p) (sym last-plan) (c .1),
+      )

@@ -59,10 +59,10 @@ words-run (p ∷ ps) b e =
     let v : p .value % 256 + 256 * (p .value / 256) ≡ p .value = omega (arith, div-add-mod' (p .value) 256) in
     let c = set b (2 * p .at) (p .value % 256) in
     let n : length (set c (2 * p .at + 1) (p .value / 256)) ≡ length b =
-          length-set c (2 * p .at + 1) (p .value / 256) ∙ length-set b (2 * p .at) (p .value % 256) in
+    length-set c (2 * p .at + 1) (p .value / 256) ∙ length-set b (2 * p .at) (p .value % 256) in
     words-run ps (set c (2 * p .at + 1) (p .value / 256)) (ap (λ (n : ℕ). n % 2) n ∙ e)
     ∙ ap (λ (w : List ℕ). run ps w)
-      (words-put b (p .at) (p .value % 256) (p .value / 256) e ∙ ap (λ (x : ℕ). set (wordsIn b) (p .at) x) v)
+    (words-put b (p .at) (p .value % 256) (p .value / 256) e ∙ ap (λ (x : ℕ). set (wordsIn b) (p .at) x) v)
 
 -- what a call leaves in the bytes is, read as words, what the call on words leaves
 pub words-after : (p : Plan) (m : ℕ) (b : List ℕ) → length b % 2 ≡ 0 → wordsIn (bytesAfter p m b) ≡ wordsAfter p m (wordsIn b)

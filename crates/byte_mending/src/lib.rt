@@ -13,7 +13,14 @@ ghost use Rattle.recovery.specs.Plan.{recoverOf};
 ghost use Rattle.mending.specs.Mending.{listed, Listed, planOf};
 
 // Makes the stores that were found, up to the allowance.
-fn make(bytes: &mut [u8], f: Finding, l: Layout, at: &[u16], values: &[u16], allowance: u16) -> Answer
+fn make(
+    bytes: &mut [u8],
+    f: Finding,
+    l: Layout,
+    at: &[u16],
+    values: &[u16],
+    allowance: u16,
+) -> Answer
     requires { ⌜ InRange l × (length (wordsIn (now bytes)) ≡ sizeOf l) × Listed l (now at) (now values) (f .stores) (listed (f .stores) (now at) (now values)) ⌝ }
     ensures answer { λ r. ⌜ r ≡ answerOf (planOf f (now (at .entry)) (now (values .entry))) allowance ⌝ }
     ensures bytes { λ _. ⌜ now (bytes .exit) ≡ bytesAfter (planOf f (now (at .entry)) (now (values .entry))) allowance (now (bytes .entry)) ⌝ }
@@ -54,7 +61,14 @@ fn recover_small(bytes: &mut [u8], l: Layout, allowance: u16) -> Answer
     let mut idents = survey::short_column();
     let mut forwards = survey::short_column();
     let mut backs = survey::short_column();
-    recover_with(bytes, l, &mut idents[..n], &mut forwards[..n], &mut backs[..n], allowance)
+    recover_with(
+        bytes,
+        l,
+        &mut idents[..n],
+        &mut forwards[..n],
+        &mut backs[..n],
+        allowance,
+    )
 }
 
 // The same, with whole columns.
@@ -67,7 +81,14 @@ fn recover_large(bytes: &mut [u8], l: Layout, allowance: u16) -> Answer
     let mut idents = survey::column();
     let mut forwards = survey::column();
     let mut backs = survey::column();
-    recover_with(bytes, l, &mut idents[..n], &mut forwards[..n], &mut backs[..n], allowance)
+    recover_with(
+        bytes,
+        l,
+        &mut idents[..n],
+        &mut forwards[..n],
+        &mut backs[..n],
+        allowance,
+    )
 }
 
 // Recovers a store of this layout.

@@ -39,7 +39,14 @@ pub fn open(bytes: &[u8]) -> Opened
 }
 
 // Reads cell i, which begins at word a, into the columns.
-fn load_cell(bytes: &[u8], a: usize, i: u16, idents: &mut [u16], forwards: &mut [u16], backs: &mut [u16])
+fn load_cell(
+    bytes: &[u8],
+    a: usize,
+    i: u16,
+    idents: &mut [u16],
+    forwards: &mut [u16],
+    backs: &mut [u16],
+)
     requires { ⌜ (a + 2 < length (wordsIn (now bytes))) × (i < length (now idents)) × (i < length (now forwards)) × (i < length (now backs)) ⌝ }
     ensures { λ _. ⌜ (now (idents .exit) ≡ set (now (idents .entry)) i (getD (wordsIn (now (bytes .entry))) a 0)) × (now (forwards .exit) ≡ set (now (forwards .entry)) i (getD (wordsIn (now (bytes .entry))) (a + 1) 0)) × (now (backs .exit) ≡ set (now (backs .entry)) i (getD (wordsIn (now (bytes .entry))) (a + 2) 0)) ⌝ }
 {
@@ -79,7 +86,14 @@ pub fn all_counts(bytes: &[u8], l: Layout) -> [u16; 8]
 }
 
 // The site that a request gets, with the columns to read the cells into.
-fn site_in(bytes: &[u8], l: Layout, q: Request, idents: &mut [u16], forwards: &mut [u16], backs: &mut [u16]) -> Sited
+fn site_in(
+    bytes: &[u8],
+    l: Layout,
+    q: Request,
+    idents: &mut [u16],
+    forwards: &mut [u16],
+    backs: &mut [u16],
+) -> Sited
     requires { ⌜ Laid l (wordsIn (now bytes)) × Columns l (now idents) (now forwards) (now backs) ⌝ }
     ensures { λ r. ⌜ r ≡ siteOf l (wordsIn (now (bytes .entry))) q ⌝ }
 {
@@ -96,7 +110,14 @@ fn site_small(bytes: &[u8], l: Layout, q: Request) -> Sited
     let mut idents = survey::short_column();
     let mut forwards = survey::short_column();
     let mut backs = survey::short_column();
-    site_in(bytes, l, q, &mut idents[..n], &mut forwards[..n], &mut backs[..n])
+    site_in(
+        bytes,
+        l,
+        q,
+        &mut idents[..n],
+        &mut forwards[..n],
+        &mut backs[..n],
+    )
 }
 
 // The same, with whole columns.
@@ -108,7 +129,14 @@ fn site_large(bytes: &[u8], l: Layout, q: Request) -> Sited
     let mut idents = survey::column();
     let mut forwards = survey::column();
     let mut backs = survey::column();
-    site_in(bytes, l, q, &mut idents[..n], &mut forwards[..n], &mut backs[..n])
+    site_in(
+        bytes,
+        l,
+        q,
+        &mut idents[..n],
+        &mut forwards[..n],
+        &mut backs[..n],
+    )
 }
 
 // The site that a request gets.

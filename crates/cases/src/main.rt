@@ -333,7 +333,14 @@ fn edit(words: &mut [u16], entry: &[u8], allowance: u16) -> Answer {
 }
 
 // The call cut after some stores, word b altered, and word `at`.
-fn find(store: &[u16], entry: &[u8], found: &mut [u16], allowance: u16, at: usize, value: u16) -> Answer {
+fn find(
+    store: &[u16],
+    entry: &[u8],
+    found: &mut [u16],
+    allowance: u16,
+    at: usize,
+    value: u16,
+) -> Answer {
     copy(found, store);
     let answer = edit(found, entry, allowance);
     put(found, word(entry, 5) as usize, word(entry, 6));
@@ -342,7 +349,15 @@ fn find(store: &[u16], entry: &[u8], found: &mut [u16], allowance: u16, at: usiz
 }
 
 // Word `at` altered to each of the values.
-fn courses_at(store: &[u16], entry: &[u8], found: &mut [u16], words: &mut [u16], allowance: u16, at: usize, sum: u64) -> u64 {
+fn courses_at(
+    store: &[u16],
+    entry: &[u8],
+    found: &mut [u16],
+    words: &mut [u16],
+    allowance: u16,
+    at: usize,
+    sum: u64,
+) -> u64 {
     let mut sum = sum;
     let n = word(entry, 7);
     let mut i: u16 = 0;
@@ -356,7 +371,14 @@ fn courses_at(store: &[u16], entry: &[u8], found: &mut [u16], words: &mut [u16],
 }
 
 // Each word of the cells altered.
-fn courses_cut(store: &[u16], entry: &[u8], found: &mut [u16], words: &mut [u16], allowance: u16, sum: u64) -> u64 {
+fn courses_cut(
+    store: &[u16],
+    entry: &[u8],
+    found: &mut [u16],
+    words: &mut [u16],
+    allowance: u16,
+    sum: u64,
+) -> u64 {
     let mut sum = sum;
     let mut at: usize = 8;
     while at < store.len() {
@@ -394,7 +416,10 @@ fn courses(store: &[u16], entry: &[u8]) {
     printing::text(b" = ");
     let mut found = record_buffer();
     let mut words = record_buffer();
-    io::print_decimal(STDOUT_FILENO, all_courses(store, entry, &mut found[..n], &mut words[..n]));
+    io::print_decimal(
+        STDOUT_FILENO,
+        all_courses(store, entry, &mut found[..n], &mut words[..n]),
+    );
     printing::text(b"\n");
 }
 

@@ -94,10 +94,10 @@ module _ (w : List ℕ) (s : Sound w) (e : Edit) (m : ℕ) (alts : ℕ → Alter
   mine h =
       subst (λ (r : List ℕ). SameCells l x Final (k ∷ r)) q
       (final-words l y (standing .size) t accepted x k h (subst (IsList l x k) (sym q) (cut .list h))
-        (λ c f n g z.
-          let i : c ∈ own = subst (λ (r : List ℕ). c ∈ r) q n in
-          kept-outside l w (s .lists) k alts allowed y₀ (cut .others) (cut .rest) c f z (cut .apart h c (List·Memᴰ·tail i))
-          ∙ cut .records h c f i g z))
+      (λ c f n g z.
+      let i : c ∈ own = subst (λ (r : List ℕ). c ∈ r) q n in
+      kept-outside l w (s .lists) k alts allowed y₀ (cut .others) (cut .rest) c f z (cut .apart h c (List·Memᴰ·tail i))
+      ∙ cut .records h c f i g z))
     where
       q : t k ≡ own
       q = replaced-own (s .lists .sequence) k own k refl
@@ -107,13 +107,14 @@ module _ (w : List ℕ) (s : Sound w) (e : Edit) (m : ℕ) (alts : ℕ → Alter
   theirs j h n =
       subst (λ (r : List ℕ). SameCells l w Final (j ∷ r)) q
       (final-words l y (standing .size) t accepted w j h (subst (IsList l w j) (sym q) (s .lists .lists j h))
-        (λ c f i g z.
-          let d : c ∈ s .lists .sequence j = subst (λ (r : List ℕ). c ∈ r) q i in
-          kept l w (s .lists) k alts allowed y₀ (cut .others) (cut .rest) j h n c f (List·Memᴰ·tail d) z
-          (untouched-record (alts j) c f d g (allowed j h n))))
+      (λ c f i g z.
+      let d : c ∈ s .lists .sequence j = subst (λ (r : List ℕ). c ∈ r) q i in
+      kept l w (s .lists) k alts allowed y₀ (cut .others) (cut .rest) j h n c f (List·Memᴰ·tail d) z
+      (untouched-record (alts j) c f d g (allowed j h n))))
     where
       q : t j ≡ s .lists .sequence j
       q = replaced-other (s .lists .sequence) k own j n
+
       untouched-record : (v : Alteration) (c f : ℕ) → c ∈ s .lists .sequence j → 3 ≤ f → Allowed j (s .lists .sequence j) v → Touches v c f → ⊥
       untouched-record untouched c f d g a u = u
       untouched-record (altered b i v) c f d g (inl a) u =
@@ -158,8 +159,8 @@ module _ (w : List ℕ) (s : Sound w) (e : Edit) (m : ℕ) (alts : ℕ → Alter
     made = sym (append-nil (storesThrough runs y)) ∙ ap (λ (qs : List Write). storesThrough runs y ++ qs) (sym left) ∙ whole .stores
 
     pub course : Course w s k x y (wordsThrough runs y) (answersThrough runs y) (storesThrough runs y) × (answerOf (recoverPlan y₁) last ≡ A.Done (needed (recoverPlan y₁)))
-    course =
-        (subst (λ (z : List ℕ). Course w s k x y z (answersThrough runs y) (storesThrough runs y)) (sym final)
+    course = (
+      subst (λ (z : List ℕ). Course w s k x y z (answersThrough runs y) (storesThrough runs y)) (sym final)
           (record {
             accepted = whole .accepted;
             own = own;
@@ -170,10 +171,11 @@ module _ (w : List ℕ) (s : Sound w) (e : Edit) (m : ℕ) (alts : ℕ → Alter
             others = theirs;
             head = final-head l y (standing .size) t accepted;
             outside =
-              λ c n o.
-              (final-zero l y (standing .size) t accepted c n o, λ f g z. final-outside l y (standing .size) t accepted c f n o g z);
+                λ c n o.
+                (final-zero l y (standing .size) t accepted c n o, λ f g z. final-outside l y (standing .size) t accepted c f n o g z);
             stored = subst (All (Kind l y t)) (sym made) (plan-kinds l y t);
             adds = whole .adds ∙ ap length made ∙ sym (plan-differs l t ps y (standing .size) accepted refl);
-            same = ap (λ (p : Plan). run (allStores p) y) (sym (standing-plan l t y standing))
+            same = ap (λ (p : Plan). run (allStores p) y) (sym (standing-plan l t y standing));
           }),
-        done)
+      done,
+    )

@@ -42,7 +42,7 @@ settled l w y k h s i alt kept a b =
       nodes = i .nodes;
       within = λ c m. m;
       back = right-backward l y k s (backs-right l w y k h s i alt kept b);
-      told = inl refl
+      told = inl refl;
     }
 
 -- a node in no list but perhaps k has identifier 0 or that of k
@@ -78,5 +78,5 @@ none-cut l w s k =
       own = λ h. settled l w w k h (s .sequence k) (s .lists k h) untouched (λ c f m g n. refl) (λ c t. t) (λ c t. t);
       apart = list-apart l w s k;
       list = s .lists k;
-      records = λ h c f m a g. refl
+      records = λ h c f m a g. refl;
     }

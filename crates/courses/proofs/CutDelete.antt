@@ -64,26 +64,29 @@ module _ (l : Layout) (w : List ℕ) (exact : length w ≡ sizeOf l) (s : SoundL
   back-one : (x : ℕ) → getD One (backAt l x) 0 ≡ getD (run full w) (backAt l x) 0
   unfolding run deleteWrites
   back-one x =
-      sym (run-out (write (forwardAt l (site .before)) (site .after) ∷ write (countAt k) (length S - 1) ∷ write (identAt l c) 0 ∷ []) One (backAt l x)
-        ((λ e. words-apart l x (site .before) 2 1 (λ _ b. omega arith) (links-words l x 2 (omega arith)) (links-words l (site .before) 1 (omega arith)) e),
-        ((λ e. words-apart l x k 2 3 (λ _ b. omega arith) (links-words l x 2 (omega arith)) (omega (arith, words-header l k hk)) (e ∙ count-word l k hk)),
-        ((λ e. words-apart l x c 2 0 (λ _ b. omega arith) (links-words l x 2 (omega arith)) (links-words l c 0 (omega arith)) (e ∙ ident-word l c)), tt))))
+      sym (run-out (write (forwardAt l (site .before)) (site .after) ∷ write (countAt k) (length S - 1) ∷ write (identAt l c) 0 ∷ []) One (backAt l x) (
+        (λ e. words-apart l x (site .before) 2 1 (λ _ b. omega arith) (links-words l x 2 (omega arith)) (links-words l (site .before) 1 (omega arith)) e),
+        (
+          (λ e. words-apart l x k 2 3 (λ _ b. omega arith) (links-words l x 2 (omega arith)) (omega (arith, words-header l k hk)) (e ∙ count-word l k hk)),
+          ((λ e. words-apart l x c 2 0 (λ _ b. omega arith) (links-words l x 2 (omega arith)) (links-words l c 0 (omega arith)) (e ∙ ident-word l c)), tt),
+        ),
+      ))
 
   delete-after-one : Own l One k S
   delete-after-one =
       record {
         fits = altered-fits l w One k hk S own (altered (site .after) 2 0) kept-one;
         forward =
-          right-forward l One k S (forwards-right l w One k hk S own (altered (site .after) 2 0) kept-one (λ x t. omega (arith, t .1)));
+            right-forward l One k S (forwards-right l w One k hk S own (altered (site .after) 2 0) kept-one (λ x t. omega (arith, t .1)));
         other = deleteAt p S;
         nodes = new .nodes;
         within = D.delete-member l w exact s k hk p hp;
         back =
-          backward-same (viewOf l (run full w) .back) (viewOf l One .back) k (deleteAt p S) k (λ x m. back-one x)
-          (D.backs l w exact s k hk p hp);
+            backward-same (viewOf l (run full w) .back) (viewOf l One .back) k (deleteAt p S) k (λ x m. back-one x)
+            (D.backs l w exact s k hk p hp);
         told =
-          inr (λ e.
-            omega (arith, e, count-one, agrees-holds l w k S (own .agrees) .count, D.counted l w exact s k hk p hp))
+            inr (λ e.
+            omega (arith, e, count-one, agrees-holds l w k S (own .agrees) .count, D.counted l w exact s k hk p hp));
       }
     where
       count-one : countIn One k ≡ countIn w k
@@ -106,23 +109,24 @@ module _ (l : Layout) (w : List ℕ) (exact : length w ≡ sizeOf l) (s : SoundL
   -- later stores go to the count and to the identifier of the cell that has left the list
   kept-late : (x f : ℕ) → x ∈ (k ∷ deleteAt p S) → f < cellWords l x → ((x ≡ k) × (f ≡ 3) → ⊥)
       → Spares (cellAt l x + f) (write (countAt k) (length S - 1) ∷ write (identAt l c) 0 ∷ [])
-  kept-late x f q g n =
-      ((λ e. words-apart l x k f 3 (λ a b. n (a, b)) g (omega (arith, words-header l k hk)) (e ∙ count-word l k hk)),
-      ((λ e. words-apart l x c f 0 (λ a _. D.not-cell l w exact s k hk p hp x q a) g (links-words l c 0 (omega arith)) (e ∙ ident-word l c)), tt))
+  kept-late x f q g n = (
+    (λ e. words-apart l x k f 3 (λ a b. n (a, b)) g (omega (arith, words-header l k hk)) (e ∙ count-word l k hk)),
+    ((λ e. words-apart l x c f 0 (λ a _. D.not-cell l w exact s k hk p hp x q a) g (links-words l c 0 (omega arith)) (e ∙ ident-word l c)), tt),
+  )
 
   after-two : (x f : ℕ) → x ∈ (k ∷ deleteAt p S) → f < cellWords l x → ((x ≡ k) × (f ≡ 3) → ⊥)
       → getD (applied full 2 w) (cellAt l x + f) 0 ≡ getD (run full w) (cellAt l x + f) 0
   unfolding run deleteWrites
   after-two x f q g n =
       sym (run-out (write (countAt k) (length S - 1) ∷ write (identAt l c) 0 ∷ [])
-        (set One (forwardAt l (site .before)) (site .after)) (cellAt l x + f) (kept-late x f q g n))
+      (set One (forwardAt l (site .before)) (site .after)) (cellAt l x + f) (kept-late x f q g n))
 
   after-three : (x f : ℕ) → x ∈ (k ∷ deleteAt p S) → f < cellWords l x → ((x ≡ k) × (f ≡ 3) → ⊥)
       → getD (applied full 3 w) (cellAt l x + f) 0 ≡ getD (run full w) (cellAt l x + f) 0
   unfolding run deleteWrites
   after-three x f q g n =
       sym (run-out (write (identAt l c) 0 ∷ [])
-        (set (set One (forwardAt l (site .before)) (site .after)) (countAt k) (length S - 1)) (cellAt l x + f) (kept-late x f q g n .1))
+      (set (set One (forwardAt l (site .before)) (site .after)) (countAt k) (length S - 1)) (cellAt l x + f) (kept-late x f q g n .1))
 
   delete-from-central : (m : ℕ) → deleteCentral ≤ m → Own l (applied full m w) k (deleteAt p S)
   delete-from-central m h =
@@ -144,11 +148,16 @@ module _ (l : Layout) (w : List ℕ) (exact : length w ≡ sizeOf l) (s : SoundL
   -- the only store to an identifier is 0
   idents : (x : ℕ) → All (λ (q : Write). identAt l x ≡ q .at → q .value ≡ 0) full
   unfolding deleteWrites
-  idents x =
-      ((λ e. absurd (word (site .after) 2 (omega arith) (links-words l (site .after) 2 (omega arith)) e)),
-      ((λ e. absurd (word (site .before) 1 (omega arith) (links-words l (site .before) 1 (omega arith)) e)),
-      ((λ e. absurd (word k 3 (omega arith) (omega (arith, words-header l k hk)) (e ∙ count-word l k hk))),
-      ((λ e. refl), tt))))
+  idents x = (
+    (λ e. absurd (word (site .after) 2 (omega arith) (links-words l (site .after) 2 (omega arith)) e)),
+    (
+      (λ e. absurd (word (site .before) 1 (omega arith) (links-words l (site .before) 1 (omega arith)) e)),
+      (
+        (λ e. absurd (word k 3 (omega arith) (omega (arith, words-header l k hk)) (e ∙ count-word l k hk))),
+        ((λ e. refl), tt),
+      ),
+    ),
+  )
     where
       word : (y g : ℕ) → 1 ≤ g → g < cellWords l y → identAt l x ≡ cellAt l y + g → ⊥
       word y g h i e = words-apart l x y 0 g (λ _ b. omega arith) (links-words l x 0 (omega arith)) i (sym (ident-word l x) ∙ e)
@@ -178,7 +187,7 @@ module _ (l : Layout) (w : List ℕ) (exact : length w ≡ sizeOf l) (s : SoundL
         own = λ _. delete-before-central m h;
         apart = list-apart l w s k;
         list = s .lists k;
-        records = λ _ x f q a g. stays m (cellAt l x + f) (spares-record x f q a g)
+        records = λ _ x f q a g. stays m (cellAt l x + f) (spares-record x f q a g);
       }
 
   -- a delete cut at its central store or later: the new sequence and the words of the whole delete
@@ -193,9 +202,9 @@ module _ (l : Layout) (w : List ℕ) (exact : length w ≡ sizeOf l) (s : SoundL
         apart = λ i x q. list-apart l w s k i x (old x q);
         list = λ _. new;
         records =
-          λ _ x f q a g.
-          let t = spares-record x f (D.delete-member l w exact s k hk p hp x q) a g in
-          stays m (cellAt l x + f) t ∙ sym (run-out full w (cellAt l x + f) t)
+            λ _ x f q a g.
+            let t = spares-record x f (D.delete-member l w exact s k hk p hp x q) a g in
+            stays m (cellAt l x + f) t ∙ sym (run-out full w (cellAt l x + f) t);
       }
     where
       old : (x : ℕ) → x ∈ (k ∷ deleteAt p S) → x ∈ (k ∷ S)

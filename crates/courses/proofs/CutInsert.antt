@@ -98,11 +98,12 @@ module _ (l : Layout) (w : List ℕ) (exact : length w ≡ sizeOf l) (s : SoundL
     where
       first : take m full ≡ take m A
       first = ap (take m) split ∙ take-append-le m A _ (omega (arith, A-length))
+
       kept : (c f : ℕ) → c ∈ (k ∷ S) → f < cellWords l c → ((c ≡ k) × (f ≡ 3) → ⊥) → getD (applied full m w) (cellAt l c + f) 0 ≡ getD w (cellAt l c + f) 0
       kept c f q g n =
           ap (λ (ps : List Write). getD (run ps w) (cellAt l c + f) 0) first
           ∙ run-out (take m A) w (cellAt l c + f)
-            (all-take (λ (x : Write). cellAt l c + f ≡ x .at → ⊥) A m (A-spares c f g (fresh k hk c q) (λ a b. n (a, b))))
+          (all-take (λ (x : Write). cellAt l c + f ≡ x .at → ⊥) A m (A-spares c f g (fresh k hk c q) (λ a b. n (a, b))))
 
   -- just after the central store: all is as in the end but for the back link of the cell after
   abbrev Central : List ℕ
@@ -122,30 +123,35 @@ module _ (l : Layout) (w : List ℕ) (exact : length w ≡ sizeOf l) (s : SoundL
   kept-central c f q g n =
       sym (ap (λ (x : List ℕ). getD x (cellAt l c + f) 0) last-store
       ∙ getD-set-other Central (backAt l (site .after)) (cellAt l c + f) i 0
-        (λ e. words-apart l c (site .after) f 2 (λ a b. n (a, b)) g (links-words l (site .after) 2 (omega arith)) e))
+      (λ e. words-apart l c (site .after) f 2 (λ a b. n (a, b)) g (links-words l (site .after) 2 (omega arith)) e))
 
   insert-at-central : Own l Central k (insertAt p i S)
   insert-at-central =
       record {
         fits = altered-fits l (run full w) Central k hk (insertAt p i S) new (altered (site .after) 2 0) kept-central;
         forward =
-          right-forward l Central k (insertAt p i S)
-          (forwards-right l (run full w) Central k hk (insertAt p i S) new (altered (site .after) 2 0) kept-central (λ c t. omega (arith, t .1)));
+            right-forward l Central k (insertAt p i S)
+            (forwards-right l (run full w) Central k hk (insertAt p i S) new (altered (site .after) 2 0) kept-central (λ c t. omega (arith, t .1)));
         other = S;
         nodes = own .nodes;
         within = I.member-insert l w exact s k hk p hp i hi free words size;
         back =
-          backward-same (viewOf l w .back) (viewOf l Central .back) k S k
-          (λ c m.
+            backward-same (viewOf l w .back) (viewOf l Central .back) k S k
+            (λ c m.
             run-out (A ++ write (forwardAt l (site .before)) i ∷ []) w (backAt l c)
             (all-append (λ (x : Write). backAt l c ≡ x .at → ⊥) A (write (forwardAt l (site .before)) i ∷ [])
-              (A-spares c 2 (links-words l c 2 (omega arith)) (fresh k hk c (in-front k S m)) (λ _ b. omega arith))
-              ((λ e. words-apart l c (site .before) 2 1 (λ _ b. omega arith) (links-words l c 2 (omega arith)) (links-words l (site .before) 1 (omega arith)) e), tt)))
-          (agrees-holds l w k S (own .agrees) .turn .backs);
+            (A-spares c 2 (links-words l c 2 (omega arith)) (fresh k hk c (in-front k S m)) (λ _ b. omega arith))
+            ((λ e. words-apart l c (site .before) 2 1 (λ _ b. omega arith) (links-words l c 2 (omega arith)) (links-words l (site .before) 1 (omega arith)) e), tt)))
+            (agrees-holds l w k S (own .agrees) .turn .backs);
         told =
-          inr (λ e.
-            omega (arith, e, count-central, agrees-holds l (run full w) k (insertAt p i S) (new .agrees) .count,
-              I.counted l w exact s k hk p hp i hi free words size))
+            inr (λ e.
+            omega (
+              arith,
+              e,
+              count-central,
+              agrees-holds l (run full w) k (insertAt p i S) (new .agrees) .count,
+              I.counted l w exact s k hk p hp i hi free words size,
+            ));
       }
     where
       count-central : countIn Central k ≡ countIn (run full w) k
@@ -160,6 +166,7 @@ module _ (l : Layout) (w : List ℕ) (exact : length w ≡ sizeOf l) (s : SoundL
     where
       whole : l .width + 6 ≤ m → applied full m w ≡ run full w
       whole g = applied-all full m w (omega (arith, full-length))
+
       central : m ≡ l .width + 5 → applied full m w ≡ Central
       central e =
           ap (λ (ps : List Write). run ps w)
@@ -167,6 +174,7 @@ module _ (l : Layout) (w : List ℕ) (exact : length w ≡ sizeOf l) (s : SoundL
         where
           n-is : l .width + 5 ≡ length A + 1
           n-is = omega (arith, A-length)
+
       by : Dec (m ≡ l .width + 5) → Own l (applied full m w) k (insertAt p i S)
       by (no n) =
           subst (λ (y : List ℕ). Own l y k (insertAt p i S)) (sym (whole (omega arith)))
@@ -191,14 +199,23 @@ module _ (l : Layout) (w : List ℕ) (exact : length w ≡ sizeOf l) (s : SoundL
   ident-stores c =
       all-append (λ (x : Write). identAt l c ≡ x .at → x .value ≡ identOf k) (inRow (recordAt l i) words) (insertLinks l k site)
       (spares-only (identAt l c) (identOf k) (inRow (recordAt l i) words)
-        (row-spares (identAt l c) (recordAt l i) words
-          (λ j g e. other i (3 + j) (omega arith) (omega (arith, words-node l i (hi .low))) (e ∙ record-word l i j hi))))
-      ((λ e. absurd (other i 1 (omega arith) (links-words l i 1 (omega arith)) e)),
-      ((λ e. absurd (other i 2 (omega arith) (links-words l i 2 (omega arith)) e)),
-      ((λ e. refl),
-      ((λ e. absurd (other k 3 (omega arith) (omega (arith, words-header l k hk)) (e ∙ count-word l k hk))),
-      ((λ e. absurd (other (site .before) 1 (omega arith) (links-words l (site .before) 1 (omega arith)) e)),
-      ((λ e. absurd (other (site .after) 2 (omega arith) (links-words l (site .after) 2 (omega arith)) e)), tt))))))
+      (row-spares (identAt l c) (recordAt l i) words
+      (λ j g e. other i (3 + j) (omega arith) (omega (arith, words-node l i (hi .low))) (e ∙ record-word l i j hi)))) (
+        (λ e. absurd (other i 1 (omega arith) (links-words l i 1 (omega arith)) e)),
+        (
+          (λ e. absurd (other i 2 (omega arith) (links-words l i 2 (omega arith)) e)),
+          (
+            (λ e. refl),
+            (
+              (λ e. absurd (other k 3 (omega arith) (omega (arith, words-header l k hk)) (e ∙ count-word l k hk))),
+              (
+                (λ e. absurd (other (site .before) 1 (omega arith) (links-words l (site .before) 1 (omega arith)) e)),
+                ((λ e. absurd (other (site .after) 2 (omega arith) (links-words l (site .after) 2 (omega arith)) e)), tt),
+              ),
+            ),
+          ),
+        ),
+      )
     where
       other : (d g : ℕ) → 0 < g → g < cellWords l d → identAt l c ≡ cellAt l d + g → ⊥
       other d g h b e = words-apart l c d 0 g (λ _ q. omega arith) (links-words l c 0 (omega arith)) b (sym (ident-word l c) ∙ e)
@@ -209,7 +226,7 @@ module _ (l : Layout) (w : List ℕ) (exact : length w ≡ sizeOf l) (s : SoundL
   rest m c nc o =
       ⊎-elim (λ e. ⊎-elim (λ z. inl (e ∙ z)) (λ z. inr (e ∙ z)) (rest-ident l w s k c nc o)) inr
       (run-either (take m full) w (identAt l c) (identOf k)
-        (all-take (λ (x : Write). identAt l c ≡ x .at → x .value ≡ identOf k) full m (ident-stores c)))
+      (all-take (λ (x : Write). identAt l c ≡ x .at → x .value ≡ identOf k) full m (ident-stores c)))
 
   -- before the central store: the old sequence, with the words of the sound store
   pub insert-cut-before : (m : ℕ) → m < insertCentral l → Cut l w s k S w (applied full m w)
@@ -223,10 +240,10 @@ module _ (l : Layout) (w : List ℕ) (exact : length w ≡ sizeOf l) (s : SoundL
         apart = list-apart l w s k;
         list = λ _. own;
         records = λ _ c f q b g.
-          cut-out m (cellAt l c + f)
-          (insert-spares l w exact k site hk ha hb hi ca cb words size c f g
+            cut-out m (cellAt l c + f)
+            (insert-spares l w exact k site hk ha hb hi ca cb words size c f g
             (fresh k hk c (List·Memᴰ·tail q)) (λ e _. header-apart l k S hk (own .nodes) (subst (λ (x : ℕ). x ∈ S) e q))
-            (λ _ e. omega arith) (λ _ e. omega arith))
+            (λ _ e. omega arith) (λ _ e. omega arith));
       }
 
   -- from the central store on: the new sequence, with the words of the whole insert
@@ -240,22 +257,26 @@ module _ (l : Layout) (w : List ℕ) (exact : length w ≡ sizeOf l) (s : SoundL
         own = λ _. insert-from-central m h;
         apart = λ _. among;
         list = λ _. new;
-        records = λ _ c f q b g. sym (whole (cellAt l c + f) ∙ run-out (drop m full) (applied full m w) (cellAt l c + f) (spared c f b g))
+        records = λ _ c f q b g. sym (whole (cellAt l c + f) ∙ run-out (drop m full) (applied full m w) (cellAt l c + f) (spared c f b g));
       }
     where
       among : (c : ℕ) → c ∈ (k ∷ insertAt p i S) → (j : ℕ) → j < l .lists → (j ≡ k → ⊥) → c ∈ (j ∷ s .sequence j) → ⊥
       among c (List·Memᴰ·head e) j g n z = list-apart l w s k hk c (List·Memᴰ·head e) j g n z
       among c (List·Memᴰ·tail q) j g n z =
           ⊎-elim (λ e. fresh j g c z e) (λ t. list-apart l w s k hk c (List·Memᴰ·tail t) j g n z) (I.insert-member l w exact s k hk p hp i hi free words size c q)
+
       last : drop m full ≡ drop (m - length A) B
       last =
           let e : m ≡ length A + (m - length A) = omega (arith, A-length) in
           ap (λ (n : ℕ). drop n full) e ∙ ap (drop (length A + (m - length A))) split ∙ drop-append-add A B (m - length A)
+
       whole : (a : ℕ) → getD (run full w) a 0 ≡ getD (run (drop m full) (applied full m w)) a 0
       whole a = ap (λ (x : List ℕ). getD x a 0) (ap (λ (ps : List Write). run ps w) (sym (take-append-drop m full)) ∙ run-append (take m full) (drop m full) w)
+
       spared : (c f : ℕ) → 3 ≤ f → f < cellWords l c → Spares (cellAt l c + f) (drop m full)
       spared c f b g =
           subst (Spares (cellAt l c + f)) (sym last)
-          (all-drop (λ (x : Write). cellAt l c + f ≡ x .at → ⊥) B (m - length A)
-            (words-apart l c (site .before) f 1 (λ _ e. omega arith) g (links-words l (site .before) 1 (omega arith)),
-            (words-apart l c (site .after) f 2 (λ _ e. omega arith) g (links-words l (site .after) 2 (omega arith)), tt)))
+          (all-drop (λ (x : Write). cellAt l c + f ≡ x .at → ⊥) B (m - length A) (
+            words-apart l c (site .before) f 1 (λ _ e. omega arith) g (links-words l (site .before) 1 (omega arith)),
+            (words-apart l c (site .after) f 2 (λ _ e. omega arith) g (links-words l (site .after) 2 (omega arith)), tt),
+          ))

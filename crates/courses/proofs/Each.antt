@@ -46,7 +46,7 @@ module _ (ms : List ℕ) (last : ℕ) (w : List ℕ) (s : Sound w) (e : Edit) (m
   Ends y z r =
       needed (recoverPlan (wordsThrough ms y)) ≤ last
       → Course w s (named e) (dueWords w e m) y z (answersThrough runs y) (storesThrough runs y)
-        × (r ≡ A.Done (needed (recoverPlan (wordsThrough ms y))))
+      × (r ≡ A.Done (needed (recoverPlan (wordsThrough ms y))))
 
   pub each-course : (y z : List ℕ) (r : Answer) → z ≡ wordsThrough runs y → r ≡ answerOf (recoverPlan (wordsThrough ms y)) last
       → ((j : ℕ) → j < layoutOf w .lists → (j ≡ named e → ⊥) → Allowed j (s .lists .sequence j) (alts j))
@@ -54,5 +54,5 @@ module _ (ms : List ℕ) (last : ℕ) (w : List ℕ) (s : Sound w) (e : Edit) (m
   each-course y z r ends answer allowed q =
       subst (Ends y z) (sym answer)
       (subst (λ (x : List ℕ). Ends y x (answerOf (recoverPlan (wordsThrough ms y)) last)) (sym ends)
-        (subst (λ (v : List ℕ). Ends v (wordsThrough runs v) (answerOf (recoverPlan (wordsThrough ms v)) last)) (sym q)
-          (λ h. course w s e m alts allowed ms last h)))
+      (subst (λ (v : List ℕ). Ends v (wordsThrough runs v) (answerOf (recoverPlan (wordsThrough ms v)) last)) (sym q)
+      (λ h. course w s e m alts allowed ms last h)))

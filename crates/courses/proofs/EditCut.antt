@@ -67,16 +67,17 @@ module _ (w : List ℕ) (s : Sound w) (k : ℕ) where
         placed : k < l .lists → p ≤ length S → Node l c → length words ≡ l .width
             → FirstFree (viewOf l w .ident) (around l c (l .nodes)) (t .cell) → (b : Bool) → ltb m (insertCentral l) ≡ b
             → (own : List ℕ) × Cut l w (s .lists) k own (cond b w (run (insertWrites l k (gap (t .cell) S) words) w))
-              (wordsAfter (stores (insertWrites l k (gap (t .cell) S) words)) m w)
+            (wordsAfter (stores (insertWrites l k (gap (t .cell) S) words)) m w)
         placed hk hp hc size f b z = by b z
           where
             hi : Node l (t .cell)
             hi =
                 all-in (Node l) (around l c (l .nodes)) (around-nodes l c (l .nodes) hc)
                 (subst (λ (x : List ℕ). t .cell ∈ x) (sym (f .order)) (Memᴰ·append-right (f .passed) (List·Memᴰ·head refl)))
+
             by : (b : Bool) → ltb m (insertCentral l) ≡ b
                 → (own : List ℕ) × Cut l w (s .lists) k own (cond b w (run (insertWrites l k (gap (t .cell) S) words) w))
-                  (wordsAfter (stores (insertWrites l k (gap (t .cell) S) words)) m w)
+                (wordsAfter (stores (insertWrites l k (gap (t .cell) S) words)) m w)
             by true z = (_, insert-cut-before l w (s .exact) (s .lists) k hk p hp (t .cell) hi (f .free) words size m (ltb-true m (insertCentral l) z))
             by false z = (_, insert-cut-after l w (s .exact) (s .lists) k hk p hp (t .cell) hi (f .free) words size m (ltb-false m (insertCentral l) z))
 

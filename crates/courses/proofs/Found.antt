@@ -96,7 +96,7 @@ module _ (l : Layout) (w : List ℕ) (s : SoundLists l w) (k : ℕ) (alts : ℕ 
   -- the words before the alterations: every other list as in the sound store, and no identifiers but the named list's outside them
   module _ (y₀ : List ℕ) (others : (j : ℕ) → j < l .lists → (j ≡ k → ⊥) → SameCells l w y₀ (j ∷ s .sequence j))
       (rest : (c : ℕ) → Node l c → ((j : ℕ) → j < l .lists → (j ≡ k → ⊥) → c ∈ s .sequence j → ⊥)
-        → (getD y₀ (identAt l c) 0 ≡ 0) ⊎ (getD y₀ (identAt l c) 0 ≡ identOf k)) where
+      → (getD y₀ (identAt l c) 0 ≡ 0) ⊎ (getD y₀ (identAt l c) 0 ≡ identOf k)) where
     abbrev pub y : List ℕ
     y = alteredBelow l k alts (l .lists) y₀
 
@@ -137,54 +137,63 @@ module _ (l : Layout) (w : List ℕ) (s : SoundLists l w) (k : ℕ) (alts : ℕ 
     -- where a node with list j's identifier comes from
     source : (j : ℕ) → j < l .lists → (j ≡ k → ⊥) → (c : ℕ) → Node l c → getD y (identAt l c) 0 ≡ identOf j
         → (c ∈ s .sequence j) ⊎ ((m : ℕ) × (t : List ℕ) × (m < l .lists) × (m ≡ j → ⊥) × All (Node l) t × (c ∈ t)
-          × Forward (viewOf l y .forward) m t m × Backward (viewOf l y .back) m t m)
+        × Forward (viewOf l y .forward) m t m × Backward (viewOf l y .back) m t m)
     source j h n c nc e = ⊎-elim somewhere (λ o. absurd (nowhere o)) (find-list c (l .lists))
       where
         nowhere : ((m : ℕ) → m < l .lists → (m ≡ k → ⊥) → c ∈ s .sequence m → ⊥) → ⊥
         nowhere o =
             let same : getD y (identAt l c) 0 ≡ getD y₀ (identAt l c) 0 =
-                  ap (λ (b : ℕ). getD y b 0) (ident-word l c)
-                  ∙ kept-outside c 0 (links-words l c 0 (omega arith)) out
-                  ∙ ap (λ (b : ℕ). getD y₀ b 0) (sym (ident-word l c)) in
+            ap (λ (b : ℕ). getD y b 0) (ident-word l c)
+            ∙ kept-outside c 0 (links-words l c 0 (omega arith)) out
+            ∙ ap (λ (b : ℕ). getD y₀ b 0) (sym (ident-word l c)) in
             ⊎-elim (λ z. omega (arith, sym e ∙ same ∙ z))
             (λ z. let q : 42400 + j ≡ 42400 + k = sym e ∙ same ∙ z in n (omega arith)) (rest c nc o)
           where
             out : (m : ℕ) → m < l .lists → (m ≡ k → ⊥) → c ∈ (m ∷ s .sequence m) → ⊥
             out m hm z (List·Memᴰ·head q) = omega (arith, nc .low)
             out m hm z (List·Memᴰ·tail q) = o m hm z q
+
         somewhere : (m : ℕ) × (m < l .lists) × (m ≡ k → ⊥) × (c ∈ s .sequence m)
             → (c ∈ s .sequence j) ⊎ ((m : ℕ) × (t : List ℕ) × (m < l .lists) × (m ≡ j → ⊥) × All (Node l) t × (c ∈ t)
-              × Forward (viewOf l y .forward) m t m × Backward (viewOf l y .back) m t m)
+            × Forward (viewOf l y .forward) m t m × Backward (viewOf l y .back) m t m)
         somewhere r = by (ℕ-discrete (r .0) j) (touches? (alts (r .0)) c 0)
           where
             i : IsList l w (r .0) (s .sequence (r .0))
             i = s .lists (r .0) (r .1)
+
             by : Dec (r .0 ≡ j) → Touches (alts (r .0)) c 0 ⊎ (Touches (alts (r .0)) c 0 → ⊥)
                 → (c ∈ s .sequence j) ⊎ ((m : ℕ) × (t : List ℕ) × (m < l .lists) × (m ≡ j → ⊥) × All (Node l) t × (c ∈ t)
-                  × Forward (viewOf l y .forward) m t m × Backward (viewOf l y .back) m t m)
+                × Forward (viewOf l y .forward) m t m × Backward (viewOf l y .back) m t m)
             by (yes z) t = inl (subst (λ (x : ℕ). c ∈ s .sequence x) z (r .3))
             by (no z) (inl t) =
-                inr (r .0, s .sequence (r .0), r .1, z, i .nodes, r .3,
+                inr (
+                  r .0,
+                  s .sequence (r .0),
+                  r .1,
+                  z,
+                  i .nodes,
+                  r .3,
                   right-forward l y (r .0) (s .sequence (r .0))
-                  (forwards-right l w y (r .0) (r .1) (s .sequence (r .0)) i (alts (r .0)) (kept (r .0) (r .1) (r .2))
-                    (λ d u. let q : 0 ≡ 1 = touch-one (alts (r .0)) c d 0 1 t u in omega arith)),
+                      (forwards-right l w y (r .0) (r .1) (s .sequence (r .0)) i (alts (r .0)) (kept (r .0) (r .1) (r .2))
+                      (λ d u. let q : 0 ≡ 1 = touch-one (alts (r .0)) c d 0 1 t u in omega arith)),
                   right-backward l y (r .0) (s .sequence (r .0))
-                  (backs-right l w y (r .0) (r .1) (s .sequence (r .0)) i (alts (r .0)) (kept (r .0) (r .1) (r .2))
-                    (λ d u. let q : 0 ≡ 2 = touch-one (alts (r .0)) c d 0 2 t u in omega arith)))
+                      (backs-right l w y (r .0) (r .1) (s .sequence (r .0)) i (alts (r .0)) (kept (r .0) (r .1) (r .2))
+                      (λ d u. let q : 0 ≡ 2 = touch-one (alts (r .0)) c d 0 2 t u in omega arith)),
+                )
             by (no z) (inr t) =
                 let same : getD y (identAt l c) 0 ≡ getD w (identAt l c) 0 =
-                      ap (λ (b : ℕ). getD y b 0) (ident-word l c)
-                      ∙ kept (r .0) (r .1) (r .2) c 0 (List·Memᴰ·tail (r .3)) (links-words l c 0 (omega arith)) t
-                      ∙ ap (λ (b : ℕ). getD w b 0) (sym (ident-word l c)) in
+                ap (λ (b : ℕ). getD y b 0) (ident-word l c)
+                ∙ kept (r .0) (r .1) (r .2) c 0 (List·Memᴰ·tail (r .3)) (links-words l c 0 (omega arith)) t
+                ∙ ap (λ (b : ℕ). getD w b 0) (sym (ident-word l c)) in
                 let q : 42400 + r .0 ≡ 42400 + j =
-                      sym (member-ident l w (r .0) (s .sequence (r .0)) c i (r .3)) ∙ sym same ∙ e in
+                sym (member-ident l w (r .0) (s .sequence (r .0)) c i (r .3)) ∙ sym same ∙ e in
                 absurd (z (omega (arith, q)))
 
     -- the found store is accepted
     pub found-accepted
         : (t : List ℕ)
         → (k < l .lists
-          → Own l y₀ k t × ((c : ℕ) → c ∈ (k ∷ t) → (j : ℕ) → j < l .lists → (j ≡ k → ⊥) → c ∈ (j ∷ s .sequence j) → ⊥))
+        → Own l y₀ k t × ((c : ℕ) → c ∈ (k ∷ t) → (j : ℕ) → j < l .lists → (j ≡ k → ⊥) → c ∈ (j ∷ s .sequence j) → ⊥))
         → Accepted l y (replaced (s .sequence) k t)
     found-accepted t own = record { fits = λ j h. told j h .0; unique = λ j h. told j h .1 }
       where
@@ -192,6 +201,7 @@ module _ (l : Layout) (w : List ℕ) (s : SoundLists l w) (k : ℕ) (alts : ℕ 
         named h =
             let o = own h in
             own-same l y₀ y k h t (o .0) (λ c f m g. kept-outside c f g (o .1 c m))
+
         told : (j : ℕ) → j < l .lists → Fits l y j (replaced (s .sequence) k t j) × ((r : List ℕ) → Fits l y j r → r ≡ replaced (s .sequence) k t j)
         told j h = by (ℕ-discrete j k)
           where
@@ -201,6 +211,7 @@ module _ (l : Layout) (w : List ℕ) (s : SoundLists l w) (k : ℕ) (alts : ℕ 
                 (subst (λ (i : ℕ). Fits l y i t × ((r : List ℕ) → Fits l y i r → r ≡ t)) (sym e)
                 (let hk : k < l .lists = subst (λ (i : ℕ). i < l .lists) e h in (named hk .fits, own-unique l y k hk t (named hk))))
             by (no n) =
-                subst (λ (q : List ℕ). Fits l y j q × ((r : List ℕ) → Fits l y j r → r ≡ q)) (sym (replaced-other (s .sequence) k t j n))
-                (altered-fits l w y j h (s .sequence j) (s .lists j h) (alts j) (kept j h n),
-                altered-unique l w y j h (s .sequence j) (s .lists j h) (alts j) (kept j h n) (source j h n))
+                subst (λ (q : List ℕ). Fits l y j q × ((r : List ℕ) → Fits l y j r → r ≡ q)) (sym (replaced-other (s .sequence) k t j n)) (
+                  altered-fits l w y j h (s .sequence j) (s .lists j h) (alts j) (kept j h n),
+                  altered-unique l w y j h (s .sequence j) (s .lists j h) (alts j) (kept j h n) (source j h n),
+                )

@@ -52,7 +52,7 @@ one-wrong w key g (x ∷ xs) a d h =
     by r false e =
         let here : (key x ≡ a → ⊥) → ⊥ = λ n. eqb-false _ _ e (h x (List·Memᴰ·head refl) n) in
         let none : wrong w (map g xs) ≡ [] =
-              map-all-right w g xs (λ y m. h y (List·Memᴰ·tail m) (λ z. here (λ q. d .0 (subst (λ (c : ℕ). c ∈ map key xs) (z ∙ sym q) (in-map key xs m))))) in
+        map-all-right w g xs (λ y m. h y (List·Memᴰ·tail m) (λ z. here (λ q. d .0 (subst (λ (c : ℕ). c ∈ map key xs) (z ∙ sym q) (in-map key xs m))))) in
         omega (arith, ap length (wrong-wrong w (g x) (map g xs) (eqb-false _ _ e)), ap length none)
 
 -- the sources and the targets of the steps
@@ -109,16 +109,16 @@ module _ (l : Layout) (w y : List ℕ) (j : ℕ) (h : j < l .lists) (s : List �
       one-wrong y (λ (t : Step). t .source) (λ (t : Step). write (forwardAt l (t .source)) (t .target)) (steps j s j) at
       (subst Different (sym (sources j s j)) (cells .0))
       (λ t m n.
-        kept (t .source) 1 (step-source j s j m) (links-words l (t .source) 1 (omega arith)) (touched-cell (t .source) 1 n)
-        ∙ step-at (λ (u : Step). viewOf l w .forward (u .source) ≡ u .target) (steps j s j) (right .turn .forwards) m)
+      kept (t .source) 1 (step-source j s j m) (links-words l (t .source) 1 (omega arith)) (touched-cell (t .source) 1 n)
+      ∙ step-at (λ (u : Step). viewOf l w .forward (u .source) ≡ u .target) (steps j s j) (right .turn .forwards) m)
 
   backs-few : length (wrong y (backsAsked l j s)) ≤ 1
   backs-few =
       one-wrong y (λ (t : Step). t .target) (λ (t : Step). write (backAt l (t .target)) (t .source)) (steps j s j) at
       (subst Different (sym (targets j s j)) (cells .1))
       (λ t m n.
-        kept (t .target) 2 (in-front j s (step-target j s j m)) (links-words l (t .target) 2 (omega arith)) (touched-cell (t .target) 2 n)
-        ∙ step-at (λ (u : Step). viewOf l w .back (u .target) ≡ u .source) (steps j s j) (right .turn .backs) m)
+      kept (t .target) 2 (in-front j s (step-target j s j m)) (links-words l (t .target) 2 (omega arith)) (touched-cell (t .target) 2 n)
+      ∙ step-at (λ (u : Step). viewOf l w .back (u .target) ≡ u .source) (steps j s j) (right .turn .backs) m)
 
   -- an alteration of another word leaves a kind right
   abbrev pub Spared : ℕ → Type 0
@@ -130,16 +130,16 @@ module _ (l : Layout) (w y : List ℕ) (j : ℕ) (h : j < l .lists) (s : List �
   pub forwards-right : Spared 1 → length (wrong y (forwardsAsked l j s)) ≡ 0
   forwards-right n =
       ap length (map-all-right y (λ (t : Step). write (forwardAt l (t .source)) (t .target)) (steps j s j)
-        (λ t m.
-          kept (t .source) 1 (step-source j s j m) (links-words l (t .source) 1 (omega arith)) (n (t .source))
-          ∙ step-at (λ (u : Step). viewOf l w .forward (u .source) ≡ u .target) (steps j s j) (right .turn .forwards) m))
+      (λ t m.
+      kept (t .source) 1 (step-source j s j m) (links-words l (t .source) 1 (omega arith)) (n (t .source))
+      ∙ step-at (λ (u : Step). viewOf l w .forward (u .source) ≡ u .target) (steps j s j) (right .turn .forwards) m))
 
   pub backs-right : Spared 2 → length (wrong y (backsAsked l j s)) ≡ 0
   backs-right n =
       ap length (map-all-right y (λ (t : Step). write (backAt l (t .target)) (t .source)) (steps j s j)
-        (λ t m.
-          kept (t .target) 2 (in-front j s (step-target j s j m)) (links-words l (t .target) 2 (omega arith)) (n (t .target))
-          ∙ step-at (λ (u : Step). viewOf l w .back (u .target) ≡ u .source) (steps j s j) (right .turn .backs) m))
+      (λ t m.
+      kept (t .target) 2 (in-front j s (step-target j s j m)) (links-words l (t .target) 2 (omega arith)) (n (t .target))
+      ∙ step-at (λ (u : Step). viewOf l w .back (u .target) ≡ u .source) (steps j s j) (right .turn .backs) m))
 
   count-few : length (wrong y (countAsked j s)) ≤ 1
   unfolding wrong
@@ -153,9 +153,9 @@ module _ (l : Layout) (w y : List ℕ) (j : ℕ) (h : j < l .lists) (s : List �
   unfolding wrong
   count-right n =
       ap length (wrong-right y (write (countAt j) (length s)) []
-        (ap (λ (b : ℕ). getD y b 0) (count-word l j h)
-        ∙ kept j 3 (List·Memᴰ·head refl) (omega (arith, words-header l j h)) (n j)
-        ∙ ap (λ (b : ℕ). getD w b 0) (sym (count-word l j h)) ∙ right .count))
+      (ap (λ (b : ℕ). getD y b 0) (count-word l j h)
+      ∙ kept j 3 (List·Memᴰ·head refl) (omega (arith, words-header l j h)) (n j)
+      ∙ ap (λ (b : ℕ). getD w b 0) (sym (count-word l j h)) ∙ right .count))
 
   spared : (c f v g : ℕ) → alt ≡ altered c f v → (g ≡ f → ⊥) → Spared g
   spared c f v g e n d t = n (subst (λ (a : Alteration). Touches a d g) e t .1)
@@ -171,28 +171,52 @@ module _ (l : Layout) (w y : List ℕ) (j : ℕ) (h : j < l .lists) (s : List �
         where
           at-word : Dec (f ≡ 0) → Dec (f ≡ 1) → Dec (f ≡ 2) → length (wrong y (asked l j s)) ≤ 1
           at-word (yes z) b d =
-              omega (arith, wrong-parts l y j s, idents-few, forwards-right (spared c f v 1 e (λ q. omega arith)),
-                backs-right (spared c f v 2 e (λ q. omega arith)), count-right (spared c f v 3 e (λ q. omega arith)))
+              omega (
+                arith,
+                wrong-parts l y j s,
+                idents-few,
+                forwards-right (spared c f v 1 e (λ q. omega arith)),
+                backs-right (spared c f v 2 e (λ q. omega arith)),
+                count-right (spared c f v 3 e (λ q. omega arith)),
+              )
           at-word (no z) (yes b) d =
-              omega (arith, wrong-parts l y j s, forwards-few, idents-right (spared c f v 0 e (λ q. omega arith)),
-                backs-right (spared c f v 2 e (λ q. omega arith)), count-right (spared c f v 3 e (λ q. omega arith)))
+              omega (
+                arith,
+                wrong-parts l y j s,
+                forwards-few,
+                idents-right (spared c f v 0 e (λ q. omega arith)),
+                backs-right (spared c f v 2 e (λ q. omega arith)),
+                count-right (spared c f v 3 e (λ q. omega arith)),
+              )
           at-word (no z) (no b) (yes d) =
-              omega (arith, wrong-parts l y j s, backs-few, idents-right (spared c f v 0 e (λ q. omega arith)),
-                forwards-right (spared c f v 1 e (λ q. omega arith)), count-right (spared c f v 3 e (λ q. omega arith)))
+              omega (
+                arith,
+                wrong-parts l y j s,
+                backs-few,
+                idents-right (spared c f v 0 e (λ q. omega arith)),
+                forwards-right (spared c f v 1 e (λ q. omega arith)),
+                count-right (spared c f v 3 e (λ q. omega arith)),
+              )
           at-word (no z) (no b) (no d) =
-              omega (arith, wrong-parts l y j s, count-few, idents-right (spared c f v 0 e (λ q. z (sym q))),
-                forwards-right (spared c f v 1 e (λ q. b (sym q))), backs-right (spared c f v 2 e (λ q. d (sym q))))
+              omega (
+                arith,
+                wrong-parts l y j s,
+                count-few,
+                idents-right (spared c f v 0 e (λ q. z (sym q))),
+                forwards-right (spared c f v 1 e (λ q. b (sym q))),
+                backs-right (spared c f v 2 e (λ q. d (sym q))),
+              )
 
   -- another sequence as long, whose cells all carry the list's identifier: each is in s, or in a list whose links are all right
   module _
       (source : (c : ℕ) → Node l c → getD y (identAt l c) 0 ≡ identOf j
-        → (c ∈ s) ⊎ ((m : ℕ) × (t : List ℕ) × (m < l .lists) × (m ≡ j → ⊥) × All (Node l) t × (c ∈ t)
-          × Forward (viewOf l y .forward) m t m × Backward (viewOf l y .back) m t m)) where
+      → (c ∈ s) ⊎ ((m : ℕ) × (t : List ℕ) × (m < l .lists) × (m ≡ j → ⊥) × All (Node l) t × (c ∈ t)
+      × Forward (viewOf l y .forward) m t m × Backward (viewOf l y .back) m t m)) where
     -- onward from cells of s, links that lead round r stay in s
     stay-by
         : (link : ℕ → ℕ) (r : List ℕ) → All (Node l) r → All (λ c. getD y (identAt l c) 0 ≡ identOf j) r
         → ((m : ℕ) (t : List ℕ) → (m < l .lists) → (m ≡ j → ⊥) → All (Node l) t → (c : ℕ) → c ∈ t → c ∈ r
-          → Forward (viewOf l y .forward) m t m → Backward (viewOf l y .back) m t m → ⊥)
+        → Forward (viewOf l y .forward) m t m → Backward (viewOf l y .back) m t m → ⊥)
         → (c : ℕ) → c ∈ (j ∷ s) → link c ∈ r → link c ∈ s
     stay-by link r n ids never c m q =
         ⊎-elim (λ z. z) (λ z. absurd (never (z .0) (z .1) (z .2) (z .3) (z .4) (link c) (z .5) q (z .6) (z .7)))
@@ -210,7 +234,7 @@ module _ (l : Layout) (w y : List ℕ) (j : ℕ) (h : j < l .lists) (s : List �
         no-rival (isNode l) (viewOf l w .forward) (viewOf l y .forward) j at s r (nodes-all l s (i .nodes)) (nodes-all l r (f .nodes)) (header-out l j h)
         (cells .0) (f .different) (d .1) (right .turn .forwards) p agree-forward
         (stay-by (viewOf l y .forward) r (f .nodes) (v .idents)
-          (λ m t hm n nt c ct cr q b. no-paths l y m j hm h n (viewOf l y .forward) t r c nt (f .nodes) ct cr q p)) e
+        (λ m t hm n nt c ct cr q b. no-paths l y m j hm h n (viewOf l y .forward) t r c nt (f .nodes) ct cr q p)) e
 
     around-in : (t : List ℕ) (c : ℕ) → c ∈ (j ∷ reverse t) → c ∈ (j ∷ t)
     around-in t c (List·Memᴰ·head e) = List·Memᴰ·head e
@@ -221,18 +245,18 @@ module _ (l : Layout) (w y : List ℕ) (j : ℕ) (h : j < l .lists) (s : List �
         let dr = ring-cells l j (reverse r) h (all-reverse (Node l) r (f .nodes)) (different-reverse r (f .different)) in
         let ds = ring-cells l j (reverse s) h (all-reverse (Node l) s (i .nodes)) (different-reverse s (i .different)) in
         let z : reverse r ≡ reverse s =
-              no-rival (isNode l) (viewOf l w .back) (viewOf l y .back) j at (reverse s) (reverse r)
-              (nodes-all l (reverse s) (all-reverse (Node l) s (i .nodes))) (nodes-all l (reverse r) (all-reverse (Node l) r (f .nodes))) (header-out l j h)
-              (ds .0) (different-reverse r (f .different)) (dr .1)
-              (backward-forward (viewOf l w .back) j s j (right .turn .backs)) (backward-forward (viewOf l y .back) j r j p)
-              (λ c m. agree-back c (around-in s c m))
-              (λ c m q.
-                reverse-in s (stay-by (viewOf l y .back) r (f .nodes) (v .idents)
-                (λ m t hm n nt d ct cr a b.
-                  no-paths l y m j hm h n (viewOf l y .back) (reverse t) (reverse r) d (all-reverse (Node l) t nt) (all-reverse (Node l) r (f .nodes))
-                  (reverse-in t ct) (reverse-in r cr) (backward-forward (viewOf l y .back) m t m b) (backward-forward (viewOf l y .back) j r j p))
-                c (around-in s c m) (in-reverse r q)))
-              (length-reverse r ∙ e ∙ sym (length-reverse s)) in
+        no-rival (isNode l) (viewOf l w .back) (viewOf l y .back) j at (reverse s) (reverse r)
+        (nodes-all l (reverse s) (all-reverse (Node l) s (i .nodes))) (nodes-all l (reverse r) (all-reverse (Node l) r (f .nodes))) (header-out l j h)
+        (ds .0) (different-reverse r (f .different)) (dr .1)
+        (backward-forward (viewOf l w .back) j s j (right .turn .backs)) (backward-forward (viewOf l y .back) j r j p)
+        (λ c m. agree-back c (around-in s c m))
+        (λ c m q.
+        reverse-in s (stay-by (viewOf l y .back) r (f .nodes) (v .idents)
+        (λ m t hm n nt d ct cr a b.
+        no-paths l y m j hm h n (viewOf l y .back) (reverse t) (reverse r) d (all-reverse (Node l) t nt) (all-reverse (Node l) r (f .nodes))
+        (reverse-in t ct) (reverse-in r cr) (backward-forward (viewOf l y .back) m t m b) (backward-forward (viewOf l y .back) j r j p))
+        c (around-in s c m) (in-reverse r q)))
+        (length-reverse r ∙ e ∙ sym (length-reverse s)) in
         sym (reverse-reverse r) ∙ ap reverse z ∙ reverse-reverse s
 
     -- so no other sequence fits

@@ -37,18 +37,20 @@ own-unique l y k h s o r f = by (sequence-dec r s) (candidates l y k h r f) (o .
   where
     ahead : sequenceOf l y k ≡ s
     ahead = forward-candidate l y k h s (o .fits) (forward-right l y k s (o .forward))
+
     behind : backwardOf l y k ≡ o .other
     behind =
         backs-trail (viewOf l y .back) (isNode l) (l .nodes) k (o .other) k (nodes-all l (o .other) (o .nodes)) (header-out l k h) (o .back)
         (nodes-few l (o .other) (o .nodes)
         (backs-different (viewOf l y .back) (isNode l) k (o .other) k (nodes-all l (o .other) (o .nodes)) (header-out l k h) (o .back)))
+
     by : Dec (r ≡ s) → (sequenceOf l y k ≡ r) ⊎ (backwardOf l y k ≡ r) → (o .other ≡ s) ⊎ (countIn y k ≡ length (o .other) → ⊥) → r ≡ s
     by (yes e) c t = e
     by (no n) (inl e) t = sym e ∙ ahead
     by (no n) (inr e) (inl t) = sym e ∙ behind ∙ t
     by (no n) (inr e) (inr t) =
         absurd (⊎-elim (λ v. t (v .first .count ∙ ap length (sym e ∙ behind))) (λ v. t (v .second .count ∙ ap length (sym e ∙ behind)))
-          (rivals l y k h r s f (o .fits) n))
+        (rivals l y k h r s f (o .fits) n))
 
 -- what is so of a list is so in words that are the same in the cells concerned
 pub own-same : (l : Layout) (y x : List ℕ) (k : ℕ) → k < l .lists → (s : List ℕ) → Own l y k s → SameCells l y x (k ∷ s) → Own l x k s
@@ -60,14 +62,15 @@ own-same l y x k h s o a =
       nodes = o .nodes;
       within = o .within;
       back =
-        backward-same (viewOf l y .back) (viewOf l x .back) k (o .other) k
-        (λ c m. a c 2 (among c (in-front k (o .other) m)) (links-words l c 2 (omega arith))) (o .back);
-      told = ⊎-elim inl (λ n. inr (λ e. n (sym count ∙ e))) (o .told)
+          backward-same (viewOf l y .back) (viewOf l x .back) k (o .other) k
+          (λ c m. a c 2 (among c (in-front k (o .other) m)) (links-words l c 2 (omega arith))) (o .back);
+      told = ⊎-elim inl (λ n. inr (λ e. n (sym count ∙ e))) (o .told);
     }
   where
     among : (c : ℕ) → c ∈ (k ∷ o .other) → c ∈ (k ∷ s)
     among c (List·Memᴰ·head e) = List·Memᴰ·head e
     among c (List·Memᴰ·tail m) = List·Memᴰ·tail (o .within c m)
+
     count : countIn x k ≡ countIn y k
     count =
         ap (λ (n : ℕ). getD x n 0) (count-word l k h) ∙ a k 3 (List·Memᴰ·head refl) (omega (arith, words-header l k h))

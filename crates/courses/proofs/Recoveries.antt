@@ -59,9 +59,9 @@ one-recovery l t y s m =
     let ps = recoverStores l y t in
     let r = suffix l t m y (s .size) (s .accepted) in
     let o =
-          same-opened y (applied ps m y) l (s .opens)
-          (λ a h. run-out (take m ps) y a (all-take (λ (p : Write). a ≡ p .at → ⊥) ps m (head-spares l y (s .size) t (s .accepted) a h)))
-          (length-run (take m ps) y) in
+    same-opened y (applied ps m y) l (s .opens)
+    (λ a h. run-out (take m ps) y a (all-take (λ (p : Write). a ≡ p .at → ⊥) ps m (head-spares l y (s .size) t (s .accepted) a h)))
+    (length-run (take m ps) y) in
     (record { opens = o .0; size = o .1; accepted = r .0 }, r .1)
 
 -- any number of them, which leave the words x, with their answers and the stores they made
@@ -79,8 +79,8 @@ through l t [] y s = record { standing = s; stores = refl; words = refl; accepte
 through l t (m ∷ ms) y s =
     subst
     (λ (p : Plan).
-      Through l t y (wordsThrough ms (wordsAfter p m y)) (answerOf p m ∷ answersThrough ms (wordsAfter p m y))
-      (madeBy p m ++ storesThrough ms (wordsAfter p m y)))
+    Through l t y (wordsThrough ms (wordsAfter p m y)) (answerOf p m ∷ answersThrough ms (wordsAfter p m y))
+    (madeBy p m ++ storesThrough ms (wordsAfter p m y)))
     (sym (standing-plan l t y s))
     (let ps = recoverStores l y t in
     let o = one-recovery l t y s m in
@@ -88,11 +88,11 @@ through l t (m ∷ ms) y s =
     record {
       standing = r .standing;
       stores =
-        append-assoc (take m ps) (storesThrough ms (applied ps m y)) (recoverStores l (wordsThrough ms (applied ps m y)) t)
-        ∙ ap (λ (qs : List Write). take m ps ++ qs) (r .stores ∙ o .1) ∙ take-append-drop m ps;
+          append-assoc (take m ps) (storesThrough ms (applied ps m y)) (recoverStores l (wordsThrough ms (applied ps m y)) t)
+          ∙ ap (λ (qs : List Write). take m ps ++ qs) (r .stores ∙ o .1) ∙ take-append-drop m ps;
       words =
-        r .words ∙ ap (λ (qs : List Write). run qs (applied ps m y)) (o .1) ∙ sym (run-append (take m ps) (drop m ps) y)
-        ∙ ap (λ (qs : List Write). run qs y) (take-append-drop m ps);
+          r .words ∙ ap (λ (qs : List Write). run qs (applied ps m y)) (o .1) ∙ sym (run-append (take m ps) (drop m ps) y)
+          ∙ ap (λ (qs : List Write). run qs y) (take-append-drop m ps);
       accepted = (answered ps m .0, r .accepted);
-      adds = omega (arith, answered ps m .1, r .adds, length-append (take m ps) (storesThrough ms (applied ps m y)))
+      adds = omega (arith, answered ps m .1, r .adds, length-append (take m ps) (storesThrough ms (applied ps m y)));
     })

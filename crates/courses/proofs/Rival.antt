@@ -76,8 +76,10 @@ module _ (inside : ℕ → Bool) (g f : ℕ → ℕ) (j a : ℕ) (s r : List ℕ
     where
       source : t .source ∈ (j ∷ s)
       source = step-source j s j m
+
       was : g (t .source) ≡ t .target
       was = step-at (λ (u : Step). g (u .source) ≡ u .target) (steps j s j) old m
+
       by : Dec (t .source ≡ a) → f (t .source) ≡ t .target
       by (no n) = agree (t .source) source n ∙ was
       by (yes e) =
@@ -96,11 +98,11 @@ module _ (inside : ℕ → Bool) (g f : ℕ → ℕ) (j a : ℕ) (s r : List ℕ
               ∙ sym (step-at (λ (v : Step). g (v .source) ≡ v .target) (steps j s j) old (b .1)) ∙ ap g (q ∙ sym e) ∙ was
           same u lead b (no n) =
               let link : f (b .0 .source) ≡ b .0 .target =
-                    agree (b .0 .source) (step-source j s j (b .1)) n
-                    ∙ step-at (λ (v : Step). g (v .source) ≡ v .target) (steps j s j) old (b .1) in
+              agree (b .0 .source) (step-source j s j (b .1)) n
+              ∙ step-at (λ (v : Step). g (v .source) ≡ v .target) (steps j s j) old (b .1) in
               let w = step-from j r j (b .0 .source) (ring-in (b .0 .source) (step-source j s j (b .1))) in
               let end : w .0 .target ≡ u .0 .target =
-                    sym (step-at (λ (v : Step). f (v .source) ≡ v .target) (steps j r j) new (w .1)) ∙ ap f (w .2) ∙ link ∙ b .2 in
+              sym (step-at (λ (v : Step). f (v .source) ≡ v .target) (steps j r j) new (w .1)) ∙ ap f (w .2) ∙ link ∙ b .2 in
               absurd (n (sym (w .2) ∙ one-source j r j drj (w .1) (u .1) end ∙ u .2 ∙ e))
 
   pub no-rival : r ≡ s

@@ -48,14 +48,17 @@ planned w ps = by (opened w) refl
     asked l true z e =
         (fit-accepted l w (fittingOf l w) (λ k h. all-only l w 0 (l .lists) (eqb-true _ _ z) k (omega arith) (omega arith)), cc)
     asked l false z e = let y : _≡_ {A = ℕ} 0 1 = cc in absurd (omega arith)
+
     by : (o : Opened) → opened w ≡ o → afterOpen o refuse (λ l. recoverOf l w) ≡ stores ps
         → (opened w ≡ O.Open (layoutOf w)) × Accepted (layoutOf w) w (fittingOf (layoutOf w) w) × (ps ≡ recoverStores (layoutOf w) w (fittingOf (layoutOf w) w))
     by (O.Refused n) p e = let y : _≡_ {A = ℕ} 0 1 = cc in absurd (omega arith)
     by (O.Open l) p e =
         let q = opened-open w l p .0 in
-        let a = asked l (eqb (refusalFrom l w 0 (l .lists)) 0) refl e in
-        (p ∙ ap O.Open q, subst (λ (m : Layout). Accepted m w (fittingOf m w)) q (a .0),
-          subst (λ (m : Layout). ps ≡ recoverStores m w (fittingOf m w)) q (a .1))
+        let a = asked l (eqb (refusalFrom l w 0 (l .lists)) 0) refl e in (
+          p ∙ ap O.Open q,
+          subst (λ (m : Layout). Accepted m w (fittingOf m w)) q (a .0),
+          subst (λ (m : Layout). ps ≡ recoverStores m w (fittingOf m w)) q (a .1),
+        )
 
 -- "Words already right aren't stored, so recovery makes at most L + N stores."
 pub recover-few : (w : List ℕ) (ps : List Write) → recoverPlan w ≡ stores ps → length ps ≤ layoutOf w .lists + layoutOf w .nodes
@@ -77,7 +80,7 @@ recover-sound w ps e =
       marked = same-marked w (run (recoverStores l w t) w) h ∙ o .1;
       inRange = subst InRange (sym y) (o .2);
       exact = length-run (recoverStores l w t) w ∙ o .3 ∙ ap sizeOf (sym y);
-      lists = subst (λ (m : Layout). SoundLists m (run (recoverStores l w t) w)) (sym y) (whole-sound l w t (o .3) (p .1) .0)
+      lists = subst (λ (m : Layout). SoundLists m (run (recoverStores l w t) w)) (sym y) (whole-sound l w t (o .3) (p .1) .0);
     })
 
 -- recovering a sound store makes no store

@@ -116,7 +116,7 @@ pub record Course (w : List ℕ) (s : Sound w) (k : ℕ) (x y z : List ℕ) (ans
   pub head : (a : ℕ) → a < 8 → getD z a 0 ≡ getD y a 0
   pub outside : (c : ℕ) → Node (layoutOf w) c → (c ∈ joined (replaced (s .lists .sequence) k own) (layoutOf w .lists) → ⊥)
       → (getD z (identAt (layoutOf w) c) 0 ≡ 0)
-        × ((f : ℕ) → 1 ≤ f → f < cellWords (layoutOf w) c → getD z (cellAt (layoutOf w) c + f) 0 ≡ getD y (cellAt (layoutOf w) c + f) 0)
+      × ((f : ℕ) → 1 ≤ f → f < cellWords (layoutOf w) c → getD z (cellAt (layoutOf w) c + f) 0 ≡ getD y (cellAt (layoutOf w) c + f) 0)
   -- only faulty words and identifiers of cells in no list are stored
   pub stored : All (Kind (layoutOf w) y (replaced (s .lists .sequence) k own)) made
   -- "The runs' numbers of stores .. add up to the count of places where the found and the final store hold different words."

@@ -20,9 +20,9 @@ pub fn recover_each(words: &mut [u16], allowances: &[u16], last: u16) -> Answer
         → now (words .entry) ≡ found w e m alts
         → needed (recoverPlan (wordsThrough (now (allowances .entry)) (now (words .entry)))) ≤ last
         → Course w s (named e) (dueWords w e m) (now (words .entry)) (now (words .exit))
-            (answersThrough (now (allowances .entry) ++ last ∷ []) (now (words .entry)))
-            (storesThrough (now (allowances .entry) ++ last ∷ []) (now (words .entry)))
-          × (r ≡ Done (needed (recoverPlan (wordsThrough (now (allowances .entry)) (now (words .entry))))))) ⌝ }
+        (answersThrough (now (allowances .entry) ++ last ∷ []) (now (words .entry)))
+        (storesThrough (now (allowances .entry) ++ last ∷ []) (now (words .entry)))
+        × (r ≡ Done (needed (recoverPlan (wordsThrough (now (allowances .entry)) (now (words .entry))))))) ⌝ }
 {
     let mut i: usize = 0;
     while i < allowances.len() {

@@ -120,11 +120,12 @@ module _ (l : Layout) (w : List ℕ) (exact : length w ≡ sizeOf l) (s : SoundL
 
   pub forwards : Forward (viewOf l Gone .forward) k (deleteAt p S) k
   forwards =
-      cut-forward c (drop (p + 1) S) k (viewOf l w .forward) (viewOf l Gone .forward) k (take p S)
-      ((λ m. header-apart l k S hk (own .nodes) (delete-member k m)),
-      different-without (take p S) c (drop (p + 1) S) (subst Different parted (own .different)))
+      cut-forward c (drop (p + 1) S) k (viewOf l w .forward) (viewOf l Gone .forward) k (take p S) (
+        (λ m. header-apart l k S hk (own .nodes) (delete-member k m)),
+        different-without (take p S) c (drop (p + 1) S) (subst Different parted (own .different)),
+      )
       (λ y m n.
-        delete-keeps y 1 (links-words l y 1 (omega arith)) (λ _ e. omega arith) (λ _ e. omega arith) (λ e _. n (e ∙ before-last)) (λ _ e. omega arith))
+      delete-keeps y 1 (links-words l y 1 (omega arith)) (λ _ e. omega arith) (λ _ e. omega arith) (λ e _. n (e ∙ before-last)) (λ _ e. omega arith))
       (ap (λ (a : ℕ). getD Gone (forwardAt l a) 0) (sym before-last) ∙ delete-before l w exact k site hk ha hb hc ca cb ∙ after-first)
       (subst (λ (t : List ℕ). Forward (viewOf l w .forward) k t k) parted (agrees-holds l w k S (own .agrees) .turn .forwards))
 
@@ -136,7 +137,7 @@ module _ (l : Layout) (w : List ℕ) (exact : length w ≡ sizeOf l) (s : SoundL
       cut-backward c (drop (p + 1) S) k (viewOf l w .back) (viewOf l Gone .back) k (take p S)
       (different-without (take p S) c (drop (p + 1) S ++ k ∷ []) (subst Different behind (ring-different-behind l w k hk S own)))
       (λ y m n.
-        delete-keeps y 2 (links-words l y 2 (omega arith)) (λ _ e. omega arith) (λ _ e. omega arith) (λ _ e. omega arith) (λ e _. n (e ∙ after-first)))
+      delete-keeps y 2 (links-words l y 2 (omega arith)) (λ _ e. omega arith) (λ _ e. omega arith) (λ _ e. omega arith) (λ e _. n (e ∙ after-first)))
       (ap (λ (a : ℕ). getD Gone (backAt l a) 0) (sym after-first) ∙ delete-after l w exact k site hk ha hb hc ca cb ∙ before-last)
       (subst (λ (t : List ℕ). Backward (viewOf l w .back) k t k) parted (agrees-holds l w k S (own .agrees) .turn .backs))
 
@@ -155,16 +156,16 @@ module _ (l : Layout) (w : List ℕ) (exact : length w ≡ sizeOf l) (s : SoundL
       (in-all (Node l) (deleteAt p S) (λ x m. all-in (Node l) S (own .nodes) (delete-member x m))) (record {
         ident = keeps-ident k (not-cell k (List·Memᴰ·head refl)) ∙ a .ident;
         turn =
-          record {
-            idents =
-              in-all (λ y. getD Gone (identAt l y) 0 ≡ identOf k) (deleteAt p S)
-              (λ x m.
-                keeps-ident x (not-cell x (List·Memᴰ·tail m))
-                ∙ all-in (λ y. getD w (identAt l y) 0 ≡ identOf k) S (a .turn .idents) (delete-member x m));
-            forwards = forwards;
-            backs = backs
-          };
-        count = delete-count l w exact k site hk ha hb hc ca cb ∙ counted
+            record {
+              idents =
+                  in-all (λ y. getD Gone (identAt l y) 0 ≡ identOf k) (deleteAt p S)
+                  (λ x m.
+                  keeps-ident x (not-cell x (List·Memᴰ·tail m))
+                  ∙ all-in (λ y. getD w (identAt l y) 0 ≡ identOf k) S (a .turn .idents) (delete-member x m));
+              forwards = forwards;
+              backs = backs;
+            };
+        count = delete-count l w exact k site hk ha hb hc ca cb ∙ counted;
       })
 
   -- no store goes to a word of another list
@@ -200,6 +201,6 @@ module _ (l : Layout) (w : List ℕ) (exact : length w ≡ sizeOf l) (s : SoundL
   delete-records x m =
       record-same l w Gone x (all-in (Node l) S (own .nodes) m) (length-run (deleteWrites l k site) w)
       (λ j g.
-        delete-keeps x (3 + j) g (λ _ e. omega arith)
-        (λ e _. header-apart l k S hk (own .nodes) (subst (λ (y : ℕ). y ∈ S) e m))
-        (λ _ e. omega arith) (λ _ e. omega arith))
+      delete-keeps x (3 + j) g (λ _ e. omega arith)
+      (λ e _. header-apart l k S hk (own .nodes) (subst (λ (y : ℕ). y ∈ S) e m))
+      (λ _ e. omega arith) (λ _ e. omega arith))

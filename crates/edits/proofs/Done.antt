@@ -50,6 +50,7 @@ looked w q l t = by (opened w) refl
     sited : (m : Layout) (x : Sited) → withSite x K.Refused (λ u. K.At m u) ≡ K.At l t → (m ≡ l) × (x ≡ At t)
     sited m (At u) e = (cc, cc)
     sited m (Refused n) e = let z : _≡_ {A = ℕ} 0 1 = cc in absurd (omega arith)
+
     by : (o : Opened) → opened w ≡ o → afterOpen o K.Refused (λ m. withSite (siteOf m w q) K.Refused (λ u. K.At m u)) ≡ K.At l t
         → (opened w ≡ O.Open l) × (siteOf l w q ≡ At t)
     by (O.Refused n) p e = let z : _≡_ {A = ℕ} 0 1 = cc in absurd (omega arith)
@@ -82,11 +83,12 @@ gap-facts l w k p c m t e =
       start = is-node l c (f .0);
       size = eqb-true m (l .width) (g .0);
       first = r .0;
-      site = r .1
+      site = r .1;
     }
   where
     at : ℕ → Site
     at i = record { before = getD (k ∷ sequenceOf l w k) p 0; cell = i; after = getD (sequenceOf l w k ++ k ∷ []) p 0; count = length (sequenceOf l w k) }
+
     found : (x : Free) → firstFree (viewOf l w .ident) (around l c (l .nodes)) ≡ x → withFree x (Refused 10) (λ i. At (at i)) ≡ At t
         → FirstFree (viewOf l w .ident) (around l c (l .nodes)) (t .cell) × (t ≡ at (t .cell))
     found Full q e = let z : _≡_ {A = ℕ} 0 1 = cc in absurd (omega arith)
@@ -119,21 +121,35 @@ pub insert-head : (l : Layout) (k : ℕ) (t : Site) (words : List ℕ) (a : ℕ)
 unfolding insertWrites insertLinks
 insert-head l k t words a h =
     all-append (λ (p : Write). a ≡ p .at → ⊥) (inRow (recordAt l (t .cell)) words) (insertLinks l k t)
-    (row-spares a (recordAt l (t .cell)) words (λ j g e. omega (arith, node-behind l (t .cell))))
-    ((λ e. omega (arith, cell-behind l (t .cell))),
-    ((λ e. omega (arith, cell-behind l (t .cell))),
-    ((λ e. omega (arith, cell-behind l (t .cell))),
-    ((λ e. omega arith),
-    ((λ e. omega (arith, cell-behind l (t .before))),
-    ((λ e. omega (arith, cell-behind l (t .after))), tt))))))
+    (row-spares a (recordAt l (t .cell)) words (λ j g e. omega (arith, node-behind l (t .cell)))) (
+      (λ e. omega (arith, cell-behind l (t .cell))),
+      (
+        (λ e. omega (arith, cell-behind l (t .cell))),
+        (
+          (λ e. omega (arith, cell-behind l (t .cell))),
+          (
+            (λ e. omega arith),
+            (
+              (λ e. omega (arith, cell-behind l (t .before))),
+              ((λ e. omega (arith, cell-behind l (t .after))), tt),
+            ),
+          ),
+        ),
+      ),
+    )
 
 pub delete-head : (l : Layout) (k : ℕ) (t : Site) (a : ℕ) → a < 8 → Spares a (deleteWrites l k t)
 unfolding deleteWrites
-delete-head l k t a h =
-    ((λ e. omega (arith, cell-behind l (t .after))),
-    ((λ e. omega (arith, cell-behind l (t .before))),
-    ((λ e. omega arith),
-    ((λ e. omega (arith, cell-behind l (t .cell))), tt))))
+delete-head l k t a h = (
+  (λ e. omega (arith, cell-behind l (t .after))),
+  (
+    (λ e. omega (arith, cell-behind l (t .before))),
+    (
+      (λ e. omega arith),
+      ((λ e. omega (arith, cell-behind l (t .cell))), tt),
+    ),
+  ),
+)
 
 -- words whose lists are sound with list k replaced, as an edit of a sound store
 edit
@@ -150,7 +166,7 @@ edit w s k t ps head lists others records =
       layout = same-layout w (run ps w) h;
       sequences = y .1 ∙ lists .1;
       others = others;
-      records = records
+      records = records;
     }
 
 module _ (w : List ℕ) (s : Sound w) (k p : ℕ) (l : Layout) (t : Site) where
@@ -177,22 +193,23 @@ module _ (w : List ℕ) (s : Sound w) (k p : ℕ) (l : Layout) (t : Site) where
     where
       site-with : ℕ → List ℕ → Site
       site-with i x = record { before = getD (k ∷ x) p 0; cell = i; after = getD (x ++ k ∷ []) p 0; count = length x }
+
       inserted : k < layoutOf w .lists → p ≤ length (s .lists .sequence k) → Node (layoutOf w) c → length words ≡ layoutOf w .width
           → FirstFree (viewOf (layoutOf w) w .ident) (around (layoutOf w) c (layoutOf w .nodes)) (t .cell)
           → Inserted w s k p (t .cell) words (run (insertWrites (layoutOf w) k (site-with (t .cell) (s .lists .sequence k)) words) w)
       inserted hk hp hc size f =
           let hi : Node (layoutOf w) (t .cell) =
-                all-in (Node (layoutOf w)) (around (layoutOf w) c (layoutOf w .nodes)) (around-nodes (layoutOf w) c (layoutOf w .nodes) hc)
-                (subst (λ (x : List ℕ). t .cell ∈ x) (sym (f .order)) (Memᴰ·append-right (f .passed) (List·Memᴰ·head refl))) in
+          all-in (Node (layoutOf w)) (around (layoutOf w) c (layoutOf w .nodes)) (around-nodes (layoutOf w) c (layoutOf w .nodes) hc)
+          (subst (λ (x : List ℕ). t .cell ∈ x) (sym (f .order)) (Memᴰ·append-right (f .passed) (List·Memᴰ·head refl))) in
           record {
             edited =
-              edit w s k (insertAt p (t .cell) (s .lists .sequence k)) (insertWrites (layoutOf w) k (site-with (t .cell) (s .lists .sequence k)) words)
-              (insert-head (layoutOf w) k (site-with (t .cell) (s .lists .sequence k)) words)
-              (insert-lists (layoutOf w) w (s .exact) (s .lists) k hk p hp (t .cell) hi (f .free) words size)
-              (insert-other (layoutOf w) w (s .exact) (s .lists) k hk p hp (t .cell) hi (f .free) words size)
-              (insert-records (layoutOf w) w (s .exact) (s .lists) k hk p hp (t .cell) hi (f .free) words size);
+                edit w s k (insertAt p (t .cell) (s .lists .sequence k)) (insertWrites (layoutOf w) k (site-with (t .cell) (s .lists .sequence k)) words)
+                (insert-head (layoutOf w) k (site-with (t .cell) (s .lists .sequence k)) words)
+                (insert-lists (layoutOf w) w (s .exact) (s .lists) k hk p hp (t .cell) hi (f .free) words size)
+                (insert-other (layoutOf w) w (s .exact) (s .lists) k hk p hp (t .cell) hi (f .free) words size)
+                (insert-records (layoutOf w) w (s .exact) (s .lists) k hk p hp (t .cell) hi (f .free) words size);
             free = f .free;
-            given = insert-given (layoutOf w) w (s .exact) (s .lists) k hk p hp (t .cell) hi (f .free) words size
+            given = insert-given (layoutOf w) w (s .exact) (s .lists) k hk p hp (t .cell) hi (f .free) words size;
           }
 
   -- delete
@@ -206,17 +223,18 @@ module _ (w : List ℕ) (s : Sound w) (k p : ℕ) (l : Layout) (t : Site) where
     where
       site-with : List ℕ → Site
       site-with x = record { before = getD (k ∷ x) p 0; cell = getD x p 0; after = getD (x ++ k ∷ []) (p + 1) 0; count = length x }
+
       deleted : k < layoutOf w .lists → p < length (s .lists .sequence k)
           → Deleted w s k p (run (deleteWrites (layoutOf w) k (site-with (s .lists .sequence k))) w)
       deleted hk hp =
           record {
             edited =
-              edit w s k (deleteAt p (s .lists .sequence k)) (deleteWrites (layoutOf w) k (site-with (s .lists .sequence k)))
-              (delete-head (layoutOf w) k (site-with (s .lists .sequence k)))
-              (delete-lists (layoutOf w) w (s .exact) (s .lists) k hk p hp)
-              (delete-other (layoutOf w) w (s .exact) (s .lists) k hk p hp)
-              (delete-records (layoutOf w) w (s .exact) (s .lists) k hk p hp);
-            free = delete-free (layoutOf w) w (s .exact) (s .lists) k hk p hp
+                edit w s k (deleteAt p (s .lists .sequence k)) (deleteWrites (layoutOf w) k (site-with (s .lists .sequence k)))
+                (delete-head (layoutOf w) k (site-with (s .lists .sequence k)))
+                (delete-lists (layoutOf w) w (s .exact) (s .lists) k hk p hp)
+                (delete-other (layoutOf w) w (s .exact) (s .lists) k hk p hp)
+                (delete-records (layoutOf w) w (s .exact) (s .lists) k hk p hp);
+            free = delete-free (layoutOf w) w (s .exact) (s .lists) k hk p hp;
           }
 
 -- 10 is answered only where no node is free

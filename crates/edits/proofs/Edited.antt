@@ -42,17 +42,20 @@ edited-lists l w s k hk w′ t own others kept old =
         by (no n) =
             subst (IsList l w′ j) (sym (replaced-other (s .sequence) k t j n))
             (list-same l w j h (s .sequence j) (s .lists j h) w′ (others j h n))
+
     unlisted : (x : ℕ) → Node l x → ((j : ℕ) → j < l .lists → x ∈ replaced (s .sequence) k t j → ⊥) → getD w′ (identAt l x) 0 ≡ 0
     unlisted x n q = by (member? x (s .sequence k))
       where
         out : x ∈ t → ⊥
         out m = q k hk (subst (λ (u : List ℕ). x ∈ u) (sym (replaced-own (s .sequence) k t k refl)) m)
+
         apart : (x ∈ s .sequence k → ⊥) → (j : ℕ) → j < l .lists → x ∈ s .sequence j → ⊥
         apart o j h m = by (ℕ-discrete j k)
           where
             by : Dec (j ≡ k) → ⊥
             by (yes e) = o (subst (λ (i : ℕ). x ∈ s .sequence i) e m)
             by (no d) = q j h (subst (λ (u : List ℕ). x ∈ u) (sym (replaced-other (s .sequence) k t j d)) m)
+
         by : (x ∈ s .sequence k) ⊎ (x ∈ s .sequence k → ⊥) → getD w′ (identAt l x) 0 ≡ 0
         by (inl m) = ⊎-elim (λ i. absurd (out i)) (λ z. z) (old x m)
         by (inr o) = kept x n out o ∙ s .outside x n (apart o)

@@ -44,7 +44,7 @@ around-over l c zero n e =
 around-over l c (suc m) n e =
     ap (λ (x : ℕ). c ∷ around l (nextCell l c) x) (moved m n)
     ∙ ap (λ (t : List ℕ). c ∷ t)
-      (ap (λ (x : ℕ). around l x (suc (m + n))) (next-up l c (omega arith)) ∙ around-over l (suc c) m n (omega arith))
+    (ap (λ (x : ℕ). around l x (suc (m + n))) (next-up l c (omega arith)) ∙ around-over l (suc c) m n (omega arith))
   where
     moved : (m n : ℕ) → suc m + n ≡ suc (m + n)
     moved m n = omega arith
@@ -102,7 +102,7 @@ first-free ident (c ∷ cs) i e = by (eqb (ident c) 0) refl (λ q. first-free id
           rest = r .rest;
           order = ap (λ (t : List ℕ). c ∷ t) (r .order);
           free = r .free;
-          taken = (eqb-false _ _ q, r .taken)
+          taken = (eqb-false _ _ q, r .taken);
         }
 
 -- nothing is found only where no cell is free

@@ -96,8 +96,8 @@ module _ (l : Layout) (w : List ℕ) (exact : length w ≡ sizeOf l) (s : SoundL
       splice-forward i (drop p S) k (viewOf l w .forward) (viewOf l Done .forward) k (take p S)
       (subst (λ (t : List ℕ). Different (k ∷ t)) (sym parted) (ring-different l w k hk S own))
       (λ y m n.
-        insert-keeps y 1 (links-words l y 1 (omega arith))
-        (fresh k hk y (subst (λ (t : List ℕ). y ∈ (k ∷ t)) parted m)) (λ _ e. omega arith) (λ e _. n (e ∙ before-last)) (λ _ e. omega arith))
+      insert-keeps y 1 (links-words l y 1 (omega arith))
+      (fresh k hk y (subst (λ (t : List ℕ). y ∈ (k ∷ t)) parted m)) (λ _ e. omega arith) (λ e _. n (e ∙ before-last)) (λ _ e. omega arith))
       (ap (λ (a : ℕ). getD Done (forwardAt l a) 0) (sym before-last) ∙ insert-before l w exact k site hk ha hb hi ca cb words size)
       (insert-forward l w exact k site hk ha hb hi ca cb words size ∙ after-first)
       (subst (λ (t : List ℕ). Forward (viewOf l w .forward) k t k) (sym parted) (agrees-holds l w k S (own .agrees) .turn .forwards))
@@ -110,8 +110,8 @@ module _ (l : Layout) (w : List ℕ) (exact : length w ≡ sizeOf l) (s : SoundL
       splice-backward i (drop p S) k (viewOf l w .back) (viewOf l Done .back) k (take p S)
       (subst Different (sym behind) (ring-different-behind l w k hk S own))
       (λ y m n.
-        insert-keeps y 2 (links-words l y 2 (omega arith))
-        (fresh k hk y (in-front k S (subst (λ (t : List ℕ). y ∈ t) behind m))) (λ _ e. omega arith) (λ _ e. omega arith) (λ e _. n (e ∙ after-first)))
+      insert-keeps y 2 (links-words l y 2 (omega arith))
+      (fresh k hk y (in-front k S (subst (λ (t : List ℕ). y ∈ t) behind m))) (λ _ e. omega arith) (λ _ e. omega arith) (λ e _. n (e ∙ after-first)))
       (ap (λ (a : ℕ). getD Done (backAt l a) 0) (sym after-first) ∙ insert-after l w exact k site hk ha hb hi ca cb words size)
       (insert-back l w exact k site hk ha hb hi ca cb words size ∙ before-last)
       (subst (λ (t : List ℕ). Backward (viewOf l w .back) k t k) (sym parted) (agrees-holds l w k S (own .agrees) .turn .backs))
@@ -145,16 +145,16 @@ module _ (l : Layout) (w : List ℕ) (exact : length w ≡ sizeOf l) (s : SoundL
       ring-list l Done k hk (insertAt p i S) (all-insert (Node l) (own .nodes) hi) (record {
         ident = keeps-ident k (fresh k hk k (List·Memᴰ·head refl)) ∙ a .ident;
         turn =
-          record {
-            idents =
-              all-insert (λ c. getD Done (identAt l c) 0 ≡ identOf k)
-              (in-all (λ c. getD Done (identAt l c) 0 ≡ identOf k) S
-                (λ x m. keeps-ident x (fresh k hk x (List·Memᴰ·tail m)) ∙ all-in (λ c. getD w (identAt l c) 0 ≡ identOf k) S (a .turn .idents) m))
-              (insert-ident l w exact k site hk ha hb hi ca cb words size);
-            forwards = forwards;
-            backs = backs
-          };
-        count = insert-count l w exact k site hk ha hb hi ca cb words size ∙ sym counted
+            record {
+              idents =
+                  all-insert (λ c. getD Done (identAt l c) 0 ≡ identOf k)
+                  (in-all (λ c. getD Done (identAt l c) 0 ≡ identOf k) S
+                  (λ x m. keeps-ident x (fresh k hk x (List·Memᴰ·tail m)) ∙ all-in (λ c. getD w (identAt l c) 0 ≡ identOf k) S (a .turn .idents) m))
+                  (insert-ident l w exact k site hk ha hb hi ca cb words size);
+              forwards = forwards;
+              backs = backs;
+            };
+        count = insert-count l w exact k site hk ha hb hi ca cb words size ∙ sym counted;
       })
 
   -- no store goes to a word of another list
@@ -188,6 +188,6 @@ module _ (l : Layout) (w : List ℕ) (exact : length w ≡ sizeOf l) (s : SoundL
   insert-records x m =
       record-same l w Done x (all-in (Node l) S (own .nodes) m) (length-run (insertWrites l k site words) w)
       (λ j g.
-        insert-keeps x (3 + j) g (fresh k hk x (List·Memᴰ·tail m))
-        (λ e _. header-apart l k S hk (own .nodes) (subst (λ (y : ℕ). y ∈ S) e m))
-        (λ _ e. omega arith) (λ _ e. omega arith))
+      insert-keeps x (3 + j) g (fresh k hk x (List·Memᴰ·tail m))
+      (λ e _. header-apart l k S hk (own .nodes) (subst (λ (y : ℕ). y ∈ S) e m))
+      (λ _ e. omega arith) (λ _ e. omega arith))

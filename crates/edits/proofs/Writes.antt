@@ -38,6 +38,7 @@ record-same l w w′ c n e h =
         getD-take (l .width) (drop (recordAt l c) x) j 0 g
         ∙ getD-drop (recordAt l c) x j 0
         ∙ ap (λ (a : ℕ). getD x a 0) (record-word l c j n)
+
     at : (j : ℕ) → j < length (recordIn l w′ c) → getD (recordIn l w′ c) j 0 ≡ getD (recordIn l w c) j 0
     at j g =
         let b : j < l .width = omega (arith, length-take (l .width) (drop (recordAt l c) w′)) in
@@ -76,14 +77,23 @@ module _ (l : Layout) (w : List ℕ) (exact : length w ≡ sizeOf l) (k : ℕ) (
     insert-spares i f h nc nk na nb =
         all-append (λ (p : Write). cellAt l i + f ≡ p .at → ⊥) (inRow (recordAt l (t .cell)) words) (insertLinks l k t)
         (row-spares (cellAt l i + f) (recordAt l (t .cell)) words
-          (λ j g e. words-apart l i (t .cell) f (3 + j) (λ q _. nc q) h (omega (arith, words-node l (t .cell) (hc .low)))
-            (e ∙ record-word l (t .cell) j hc)))
-        (spare-link i f (t .cell) 1 h (omega arith) (λ q _. nc q),
-        (spare-link i f (t .cell) 2 h (omega arith) (λ q _. nc q),
-        (spare-ident i f (t .cell) h (λ q _. nc q),
-        (spare-count i f h nk,
-        (spare-link i f (t .before) 1 h (omega arith) na,
-        (spare-link i f (t .after) 2 h (omega arith) nb, tt))))))
+        (λ j g e. words-apart l i (t .cell) f (3 + j) (λ q _. nc q) h (omega (arith, words-node l (t .cell) (hc .low)))
+        (e ∙ record-word l (t .cell) j hc))) (
+          spare-link i f (t .cell) 1 h (omega arith) (λ q _. nc q),
+          (
+            spare-link i f (t .cell) 2 h (omega arith) (λ q _. nc q),
+            (
+              spare-ident i f (t .cell) h (λ q _. nc q),
+              (
+                spare-count i f h nk,
+                (
+                  spare-link i f (t .before) 1 h (omega arith) na,
+                  (spare-link i f (t .after) 2 h (omega arith) nb, tt),
+                ),
+              ),
+            ),
+          ),
+        )
 
     abbrev pub Row : List Write
     Row = inRow (recordAt l (t .cell)) words
@@ -94,23 +104,35 @@ module _ (l : Layout) (w : List ℕ) (exact : length w ≡ sizeOf l) (k : ℕ) (
     pub insert-forward : getD Done (forwardAt l (t .cell)) 0 ≡ t .after
     unfolding insertWrites insertLinks
     insert-forward =
-        run-in Row (write (forwardAt l (t .cell)) (t .after)) _ w (fits (t .cell) 1 (hc .high) (links-words l _ 1 (omega arith)))
-        (spare-link (t .cell) 1 (t .cell) 2 (links-words l _ 1 (omega arith)) (omega arith) (λ _ e. omega arith),
-        (spare-ident (t .cell) 1 (t .cell) (links-words l _ 1 (omega arith)) (λ _ e. omega arith),
-        (spare-count (t .cell) 1 (links-words l _ 1 (omega arith)) (λ e _. not-header e),
-        (spare-link (t .cell) 1 (t .before) 1 (links-words l _ 1 (omega arith)) (omega arith) (λ e _. ca e),
-        (spare-link (t .cell) 1 (t .after) 2 (links-words l _ 1 (omega arith)) (omega arith) (λ e _. cb e), tt)))))
+        run-in Row (write (forwardAt l (t .cell)) (t .after)) _ w (fits (t .cell) 1 (hc .high) (links-words l _ 1 (omega arith))) (
+          spare-link (t .cell) 1 (t .cell) 2 (links-words l _ 1 (omega arith)) (omega arith) (λ _ e. omega arith),
+          (
+            spare-ident (t .cell) 1 (t .cell) (links-words l _ 1 (omega arith)) (λ _ e. omega arith),
+            (
+              spare-count (t .cell) 1 (links-words l _ 1 (omega arith)) (λ e _. not-header e),
+              (
+                spare-link (t .cell) 1 (t .before) 1 (links-words l _ 1 (omega arith)) (omega arith) (λ e _. ca e),
+                (spare-link (t .cell) 1 (t .after) 2 (links-words l _ 1 (omega arith)) (omega arith) (λ e _. cb e), tt),
+              ),
+            ),
+          ),
+        )
 
     pub insert-back : getD Done (backAt l (t .cell)) 0 ≡ t .before
     unfolding insertWrites insertLinks
     insert-back =
         ap (λ (ps : List Write). getD (run ps w) (backAt l (t .cell)) 0) (sym (append-assoc Row (write (forwardAt l (t .cell)) (t .after) ∷ []) _))
         ∙ run-in (Row ++ write (forwardAt l (t .cell)) (t .after) ∷ []) (write (backAt l (t .cell)) (t .before)) _ w
-          (fits (t .cell) 2 (hc .high) (links-words l _ 2 (omega arith)))
-          (spare-ident (t .cell) 2 (t .cell) (links-words l _ 2 (omega arith)) (λ _ e. omega arith),
-          (spare-count (t .cell) 2 (links-words l _ 2 (omega arith)) (λ e _. not-header e),
-          (spare-link (t .cell) 2 (t .before) 1 (links-words l _ 2 (omega arith)) (omega arith) (λ e _. ca e),
-          (spare-link (t .cell) 2 (t .after) 2 (links-words l _ 2 (omega arith)) (omega arith) (λ e _. cb e), tt))))
+        (fits (t .cell) 2 (hc .high) (links-words l _ 2 (omega arith))) (
+          spare-ident (t .cell) 2 (t .cell) (links-words l _ 2 (omega arith)) (λ _ e. omega arith),
+          (
+            spare-count (t .cell) 2 (links-words l _ 2 (omega arith)) (λ e _. not-header e),
+            (
+              spare-link (t .cell) 2 (t .before) 1 (links-words l _ 2 (omega arith)) (omega arith) (λ e _. ca e),
+              (spare-link (t .cell) 2 (t .after) 2 (links-words l _ 2 (omega arith)) (omega arith) (λ e _. cb e), tt),
+            ),
+          ),
+        )
 
     pub insert-ident : getD Done (identAt l (t .cell)) 0 ≡ identOf k
     unfolding insertWrites insertLinks
@@ -118,11 +140,14 @@ module _ (l : Layout) (w : List ℕ) (exact : length w ≡ sizeOf l) (k : ℕ) (
         ap (λ (ps : List Write). getD (run ps w) (identAt l (t .cell)) 0)
         (sym (append-assoc Row (write (forwardAt l (t .cell)) (t .after) ∷ write (backAt l (t .cell)) (t .before) ∷ []) _))
         ∙ run-in (Row ++ write (forwardAt l (t .cell)) (t .after) ∷ write (backAt l (t .cell)) (t .before) ∷ [])
-          (write (identAt l (t .cell)) (identOf k)) _ w
-          (subst (λ (a : ℕ). a < length w) (sym (ident-word l (t .cell))) (fits (t .cell) 0 (hc .high) (links-words l _ 0 (omega arith))))
-          ((λ e. spare-count (t .cell) 0 (links-words l _ 0 (omega arith)) (λ q _. not-header q) (sym (ident-word l (t .cell)) ∙ e)),
-          ((λ e. spare-link (t .cell) 0 (t .before) 1 (links-words l _ 0 (omega arith)) (omega arith) (λ q _. ca q) (sym (ident-word l (t .cell)) ∙ e)),
-          ((λ e. spare-link (t .cell) 0 (t .after) 2 (links-words l _ 0 (omega arith)) (omega arith) (λ q _. cb q) (sym (ident-word l (t .cell)) ∙ e)), tt)))
+        (write (identAt l (t .cell)) (identOf k)) _ w
+        (subst (λ (a : ℕ). a < length w) (sym (ident-word l (t .cell))) (fits (t .cell) 0 (hc .high) (links-words l _ 0 (omega arith)))) (
+          (λ e. spare-count (t .cell) 0 (links-words l _ 0 (omega arith)) (λ q _. not-header q) (sym (ident-word l (t .cell)) ∙ e)),
+          (
+            (λ e. spare-link (t .cell) 0 (t .before) 1 (links-words l _ 0 (omega arith)) (omega arith) (λ q _. ca q) (sym (ident-word l (t .cell)) ∙ e)),
+            ((λ e. spare-link (t .cell) 0 (t .after) 2 (links-words l _ 0 (omega arith)) (omega arith) (λ q _. cb q) (sym (ident-word l (t .cell)) ∙ e)), tt),
+          ),
+        )
 
     abbrev pub Cell-writes : List Write
     Cell-writes = write (forwardAt l (t .cell)) (t .after) ∷ write (backAt l (t .cell)) (t .before) ∷ write (identAt l (t .cell)) (identOf k) ∷ []
@@ -144,21 +169,27 @@ module _ (l : Layout) (w : List ℕ) (exact : length w ≡ sizeOf l) (k : ℕ) (
     first-spares i f h nc nk =
         all-append (λ (p : Write). cellAt l i + f ≡ p .at → ⊥) Row (Cell-writes ++ write (countAt k) (t .count + 1) ∷ [])
         (row-spares (cellAt l i + f) (recordAt l (t .cell)) words
-          (λ j g e. words-apart l i (t .cell) f (3 + j) (λ q _. nc q) h (omega (arith, words-node l (t .cell) (hc .low)))
-            (e ∙ record-word l (t .cell) j hc)))
-        (spare-link i f (t .cell) 1 h (omega arith) (λ q _. nc q),
-        (spare-link i f (t .cell) 2 h (omega arith) (λ q _. nc q),
-        (spare-ident i f (t .cell) h (λ q _. nc q),
-        (spare-count i f h nk, tt))))
+        (λ j g e. words-apart l i (t .cell) f (3 + j) (λ q _. nc q) h (omega (arith, words-node l (t .cell) (hc .low)))
+        (e ∙ record-word l (t .cell) j hc))) (
+          spare-link i f (t .cell) 1 h (omega arith) (λ q _. nc q),
+          (
+            spare-link i f (t .cell) 2 h (omega arith) (λ q _. nc q),
+            (
+              spare-ident i f (t .cell) h (λ q _. nc q),
+              (spare-count i f h nk, tt),
+            ),
+          ),
+        )
 
     pub insert-count : getD Done (countAt k) 0 ≡ t .count + 1
     unfolding insertWrites insertLinks
     insert-count =
         ap (λ (ps : List Write). getD (run ps w) (countAt k) 0) (sym (append-assoc Row Cell-writes _))
         ∙ run-in (Row ++ Cell-writes) (write (countAt k) (t .count + 1)) _ w
-          (subst (λ (a : ℕ). a < length w) (sym (count-word l k hk)) (fits k 3 (omega arith) count-words))
-          ((λ e. words-apart l k (t .before) 3 1 (λ _ q. omega arith) count-words (links-words l _ 1 (omega arith)) (sym (count-word l k hk) ∙ e)),
-          ((λ e. words-apart l k (t .after) 3 2 (λ _ q. omega arith) count-words (links-words l _ 2 (omega arith)) (sym (count-word l k hk) ∙ e)), tt))
+        (subst (λ (a : ℕ). a < length w) (sym (count-word l k hk)) (fits k 3 (omega arith) count-words)) (
+          (λ e. words-apart l k (t .before) 3 1 (λ _ q. omega arith) count-words (links-words l _ 1 (omega arith)) (sym (count-word l k hk) ∙ e)),
+          ((λ e. words-apart l k (t .after) 3 2 (λ _ q. omega arith) count-words (links-words l _ 2 (omega arith)) (sym (count-word l k hk) ∙ e)), tt),
+        )
 
     pub insert-before : getD Done (forwardAt l (t .before)) 0 ≡ t .cell
     unfolding insertWrites insertLinks
@@ -166,8 +197,8 @@ module _ (l : Layout) (w : List ℕ) (exact : length w ≡ sizeOf l) (k : ℕ) (
         ap (λ (ps : List Write). getD (run ps w) (forwardAt l (t .before)) 0)
         (sym (append-assoc Row (Cell-writes ++ write (countAt k) (t .count + 1) ∷ []) _))
         ∙ run-in (Row ++ (Cell-writes ++ write (countAt k) (t .count + 1) ∷ [])) (write (forwardAt l (t .before)) (t .cell)) _ w
-          (fits (t .before) 1 ha (links-words l _ 1 (omega arith)))
-          (spare-link (t .before) 1 (t .after) 2 (links-words l _ 1 (omega arith)) (omega arith) (λ _ e. omega arith), tt)
+        (fits (t .before) 1 ha (links-words l _ 1 (omega arith)))
+        (spare-link (t .before) 1 (t .after) 2 (links-words l _ 1 (omega arith)) (omega arith) (λ _ e. omega arith), tt)
 
     pub insert-after : getD Done (backAt l (t .after)) 0 ≡ t .cell
     unfolding insertWrites insertLinks
@@ -175,8 +206,8 @@ module _ (l : Layout) (w : List ℕ) (exact : length w ≡ sizeOf l) (k : ℕ) (
         ap (λ (ps : List Write). getD (run ps w) (backAt l (t .after)) 0)
         (sym (append-assoc Row (Cell-writes ++ write (countAt k) (t .count + 1) ∷ write (forwardAt l (t .before)) (t .cell) ∷ []) _))
         ∙ run-in (Row ++ (Cell-writes ++ write (countAt k) (t .count + 1) ∷ write (forwardAt l (t .before)) (t .cell) ∷ []))
-          (write (backAt l (t .after)) (t .cell)) [] w
-          (fits (t .after) 2 hb (links-words l _ 2 (omega arith))) tt
+        (write (backAt l (t .after)) (t .cell)) [] w
+        (fits (t .after) 2 hb (links-words l _ 2 (omega arith))) tt
 
     -- the record is stored as given
     pub insert-record : recordIn l Done (t .cell) ≡ words
@@ -187,8 +218,10 @@ module _ (l : Layout) (w : List ℕ) (exact : length w ≡ sizeOf l) (k : ℕ) (
       where
         whole : recordAt l (t .cell) + l .width ≤ length w
         whole = omega (arith, node-fits l (t .cell) hc)
+
         room : l .width ≤ length (drop (recordAt l (t .cell)) Done)
         room = omega (arith, whole, length-drop (recordAt l (t .cell)) Done, length-run (insertWrites l k t words) w)
+
         at : (j : ℕ) → j < length (recordIn l Done (t .cell)) → getD (recordIn l Done (t .cell)) j 0 ≡ getD words j 0
         at j g =
             let b : j < l .width = omega (arith, length-take (l .width) (drop (recordAt l (t .cell)) Done)) in
@@ -197,13 +230,22 @@ module _ (l : Layout) (w : List ℕ) (exact : length w ≡ sizeOf l) (k : ℕ) (
             ∙ getD-drop (recordAt l (t .cell)) Done j 0
             ∙ ap (λ (x : List ℕ). getD x (recordAt l (t .cell) + j) 0) (run-append Row (insertLinks l k t) w)
             ∙ ap (λ (a : ℕ). getD (run (insertLinks l k t) (run Row w)) a 0) (record-word l (t .cell) j hc)
-            ∙ run-out (insertLinks l k t) (run Row w) (cellAt l (t .cell) + (3 + j))
-              (spare-link (t .cell) (3 + j) (t .cell) 1 q (omega arith) (λ _ e. omega arith),
-              (spare-link (t .cell) (3 + j) (t .cell) 2 q (omega arith) (λ _ e. omega arith),
-              (spare-ident (t .cell) (3 + j) (t .cell) q (λ _ e. omega arith),
-              (spare-count (t .cell) (3 + j) q (λ e _. not-header e),
-              (spare-link (t .cell) (3 + j) (t .before) 1 q (omega arith) (λ e _. ca e),
-              (spare-link (t .cell) (3 + j) (t .after) 2 q (omega arith) (λ e _. cb e), tt))))))
+            ∙ run-out (insertLinks l k t) (run Row w) (cellAt l (t .cell) + (3 + j)) (
+              spare-link (t .cell) (3 + j) (t .cell) 1 q (omega arith) (λ _ e. omega arith),
+              (
+                spare-link (t .cell) (3 + j) (t .cell) 2 q (omega arith) (λ _ e. omega arith),
+                (
+                  spare-ident (t .cell) (3 + j) (t .cell) q (λ _ e. omega arith),
+                  (
+                    spare-count (t .cell) (3 + j) q (λ e _. not-header e),
+                    (
+                      spare-link (t .cell) (3 + j) (t .before) 1 q (omega arith) (λ e _. ca e),
+                      (spare-link (t .cell) (3 + j) (t .after) 2 q (omega arith) (λ e _. cb e), tt),
+                    ),
+                  ),
+                ),
+              ),
+            )
             ∙ ap (λ (a : ℕ). getD (run Row w) a 0) (sym (record-word l (t .cell) j hc))
             ∙ row-at (recordAt l (t .cell)) words w j (omega (arith, whole)) (omega arith)
 
@@ -212,11 +254,16 @@ module _ (l : Layout) (w : List ℕ) (exact : length w ≡ sizeOf l) (k : ℕ) (
       : (i f : ℕ) → f < cellWords l i → (i ≡ t .cell → f ≡ 0 → ⊥) → (i ≡ k → f ≡ 3 → ⊥)
       → (i ≡ t .before → f ≡ 1 → ⊥) → (i ≡ t .after → f ≡ 2 → ⊥) → Spares (cellAt l i + f) (deleteWrites l k t)
   unfolding deleteWrites
-  delete-spares i f h nc nk na nb =
-      (spare-link i f (t .after) 2 h (omega arith) nb,
-      (spare-link i f (t .before) 1 h (omega arith) na,
-      (spare-count i f h nk,
-      (spare-ident i f (t .cell) h nc, tt))))
+  delete-spares i f h nc nk na nb = (
+    spare-link i f (t .after) 2 h (omega arith) nb,
+    (
+      spare-link i f (t .before) 1 h (omega arith) na,
+      (
+        spare-count i f h nk,
+        (spare-ident i f (t .cell) h nc, tt),
+      ),
+    ),
+  )
 
   abbrev Gone : List ℕ
   Gone = run (deleteWrites l k t) w
@@ -224,18 +271,22 @@ module _ (l : Layout) (w : List ℕ) (exact : length w ≡ sizeOf l) (k : ℕ) (
   pub delete-after : getD Gone (backAt l (t .after)) 0 ≡ t .before
   unfolding deleteWrites
   delete-after =
-      run-in [] (write (backAt l (t .after)) (t .before)) _ w (fits (t .after) 2 hb (links-words l _ 2 (omega arith)))
-      (spare-link (t .after) 2 (t .before) 1 (links-words l _ 2 (omega arith)) (omega arith) (λ _ e. omega arith),
-      (spare-count (t .after) 2 (links-words l _ 2 (omega arith)) (λ _ e. omega arith),
-      (spare-ident (t .after) 2 (t .cell) (links-words l _ 2 (omega arith)) (λ _ e. omega arith), tt)))
+      run-in [] (write (backAt l (t .after)) (t .before)) _ w (fits (t .after) 2 hb (links-words l _ 2 (omega arith))) (
+        spare-link (t .after) 2 (t .before) 1 (links-words l _ 2 (omega arith)) (omega arith) (λ _ e. omega arith),
+        (
+          spare-count (t .after) 2 (links-words l _ 2 (omega arith)) (λ _ e. omega arith),
+          (spare-ident (t .after) 2 (t .cell) (links-words l _ 2 (omega arith)) (λ _ e. omega arith), tt),
+        ),
+      )
 
   pub delete-before : getD Gone (forwardAt l (t .before)) 0 ≡ t .after
   unfolding deleteWrites
   delete-before =
       run-in (write (backAt l (t .after)) (t .before) ∷ []) (write (forwardAt l (t .before)) (t .after)) _ w
-      (fits (t .before) 1 ha (links-words l _ 1 (omega arith)))
-      (spare-count (t .before) 1 (links-words l _ 1 (omega arith)) (λ _ e. omega arith),
-      (spare-ident (t .before) 1 (t .cell) (links-words l _ 1 (omega arith)) (λ _ e. omega arith), tt))
+      (fits (t .before) 1 ha (links-words l _ 1 (omega arith))) (
+        spare-count (t .before) 1 (links-words l _ 1 (omega arith)) (λ _ e. omega arith),
+        (spare-ident (t .before) 1 (t .cell) (links-words l _ 1 (omega arith)) (λ _ e. omega arith), tt),
+      )
 
   pub delete-count : getD Gone (countAt k) 0 ≡ t .count - 1
   unfolding deleteWrites

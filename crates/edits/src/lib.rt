@@ -25,11 +25,7 @@ fn record_rows(l: Layout, k: u16, t: Site, words: &[u16]) -> Rows
         values[i] = words[i];
         i += 1;
     }
-    Rows {
-        at,
-        values,
-        len: i,
-    }
+    Rows { at, values, len: i }
 }
 
 // The stores of the new cell, the count and the two links to it, behind those that are there.
@@ -90,9 +86,5 @@ pub fn delete_rows(l: Layout, k: u16, t: Site) -> Rows
     values[2] = less_one(t.count);
     at[3] = l.cell(t.cell) as u16;
     values[3] = 0;
-    Rows {
-        at,
-        values,
-        len: 4,
-    }
+    Rows { at, values, len: 4 }
 }

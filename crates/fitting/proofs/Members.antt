@@ -79,6 +79,7 @@ members-carry v k n s few c x m z = by (faultsOf v 1 2 k n s) has few c
     has =
         has-right x 0 (fault (v .ident k) k 0 (identOf k)) (plus (turnFaults v 1 2 k k s) (fault n k 3 (length s)))
         (has-left x 0 (turnFaults v 1 2 k k s) (fault n k 3 (length s)) (turn-has v 1 2 k k s x m (λ e. omega (arith, e, z))))
+
     by : (f : Faults) → Has x 0 f → Few f → carries (v .ident) f ≡ true → ⊥
     by F.None p few c = p
     by (F.One d g u) p few c =

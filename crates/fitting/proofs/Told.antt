@@ -210,14 +210,16 @@ turned-faults v a b k n t =
   where
     same
         : plus (identFaults v k (k ∷ reverse t))
-          (plus (onwardFaults v a (steps k (reverse t) k)) (plus (backFaults v b (steps k (reverse t) k)) (fault n k 3 (length (reverse t)))))
+        (plus (onwardFaults v a (steps k (reverse t) k)) (plus (backFaults v b (steps k (reverse t) k)) (fault n k 3 (length (reverse t)))))
         ≡ plus (identFaults v k (k ∷ t))
-          (plus (onwardFaults (turned v) b (steps k t k)) (plus (backFaults (turned v) a (steps k t k)) (fault n k 3 (length t))))
+        (plus (onwardFaults (turned v) b (steps k t k)) (plus (backFaults (turned v) a (steps k t k)) (fault n k 3 (length t))))
     same =
-        rw (sum-reverse (λ (y : ℕ). fault (v .ident y) y 0 (identOf k)) t,
+        rw (
+          sum-reverse (λ (y : ℕ). fault (v .ident y) y 0 (identOf k)) t,
           sum-steps (λ (p : Step). fault (v .forward (p .source)) (p .source) a (p .target)) k t k,
           sum-steps (λ (p : Step). fault (v .back (p .target)) (p .target) b (p .source)) k t k,
-          length-reverse t)
+          length-reverse t,
+        )
         (ap (plus (identFaults v k (k ∷ t)))
         (plus-swap (backFaults (turned v) a (steps k t k)) (onwardFaults (turned v) b (steps k t k)) (fault n k 3 (length t))))
 
@@ -314,10 +316,12 @@ module _ (l : Layout) (w : List ℕ) (k : ℕ) (h : k < l .lists) where
       let c : length (wrong w (countAsked k s)) ≡ 0 = omega (arith, wrong-parts l w k s) in
       let b : length (wrong w (backsAsked l k s)) ≤ 1 = omega (arith, wrong-parts l w k s) in
       let e : faultSum l w k s ≡ backSum l w k s =
-            sum-sorted l w k s
-            ∙ rw (summed-none l (identSum l w k s) _ (summed-idents l w k s) i,
-                summed-none l (onwardSum l w k s) _ (summed-onward l w k s) o,
-                summed-none l (countSum l w k s) _ (summed-count l w k s h) c) (plus-none (backSum l w k s)) in
+      sum-sorted l w k s
+      ∙ rw (
+        summed-none l (identSum l w k s) _ (summed-idents l w k s) i,
+        summed-none l (onwardSum l w k s) _ (summed-onward l w k s) o,
+        summed-none l (countSum l w k s) _ (summed-count l w k s h) c,
+      ) (plus-none (backSum l w k s)) in
       subst (OneOf 2) (sym e)
       (one-summed l 2 (backSum l w k s) (wrong w (backsAsked l k s))
       (word-sum 2 (λ (p : Step). fault (viewOf l w .back (p .target)) (p .target) 2 (p .source))
@@ -333,10 +337,12 @@ module _ (l : Layout) (w : List ℕ) (k : ℕ) (h : k < l .lists) where
       let c : length (wrong w (countAsked k s)) ≡ 0 = omega (arith, wrong-parts l w k s) in
       let b : length (wrong w (forwardsAsked l k s)) ≤ 1 = omega (arith, wrong-parts l w k s) in
       let e : faultSum l w k s ≡ onwardSum l w k s =
-            sum-sorted l w k s
-            ∙ rw (summed-none l (identSum l w k s) _ (summed-idents l w k s) i,
-                summed-none l (backSum l w k s) _ (summed-back l w k s) o,
-                summed-none l (countSum l w k s) _ (summed-count l w k s h) c) (plus-none (onwardSum l w k s)) in
+      sum-sorted l w k s
+      ∙ rw (
+        summed-none l (identSum l w k s) _ (summed-idents l w k s) i,
+        summed-none l (backSum l w k s) _ (summed-back l w k s) o,
+        summed-none l (countSum l w k s) _ (summed-count l w k s h) c,
+      ) (plus-none (onwardSum l w k s)) in
       subst (OneOf 1) (sym e)
       (one-summed l 1 (onwardSum l w k s) (wrong w (forwardsAsked l k s))
       (word-sum 1 (λ (p : Step). fault (viewOf l w .forward (p .source)) (p .source) 1 (p .target))
@@ -377,36 +383,36 @@ module _ (l : Layout) (w : List ℕ) (k : ℕ) (h : k < l .lists) where
       by true p true q true e =
           subst (Told l w k)
           (sym (ap (λ (s : List ℕ). choose (faultSum l w k (sequenceOf l w k)) (faultSum l w k s))
-            (sym (same-yes (sequenceOf l w k) (backwardOf l w k) e))
-            ∙ choose-same (faultSum l w k (sequenceOf l w k)) (few-yes-sum (sequenceOf l w k) p)))
+          (sym (same-yes (sequenceOf l w k) (backwardOf l w k) e))
+          ∙ choose-same (faultSum l w k (sequenceOf l w k)) (few-yes-sum (sequenceOf l w k) p)))
           (fit-by true true true p q e, mend-yes (sequenceOf l w k) p, refl)
       by true p true q false e =
           let n : sequenceOf l w k ≡ backwardOf l w k → ⊥ =
-                λ d. true≢false (sym (same-refl (sequenceOf l w k)) ∙ ap (same (sequenceOf l w k)) d ∙ e) in
+          λ d. true≢false (sym (same-refl (sequenceOf l w k)) ∙ ap (same (sequenceOf l w k)) d ∙ e) in
           let x = back-only (sequenceOf l w k) (few-yes (sequenceOf l w k) p)
-                (λ z. n (sym (back-candidate l w k h (sequenceOf l w k)
-                  (few-fits l w k (sequenceOf l w k) h (forward-nodes l w k h) (few-yes (sequenceOf l w k) p)) z))) in
+          (λ z. n (sym (back-candidate l w k h (sequenceOf l w k)
+          (few-fits l w k (sequenceOf l w k) h (forward-nodes l w k h) (few-yes (sequenceOf l w k) p)) z))) in
           let y = onward-only (backwardOf l w k) (few-yes (backwardOf l w k) q)
-                (λ z. n (forward-candidate l w k h (backwardOf l w k)
-                  (few-fits l w k (backwardOf l w k) h (back-nodes l w k h) (few-yes (backwardOf l w k) q)) z)) in
+          (λ z. n (forward-candidate l w k h (backwardOf l w k)
+          (few-fits l w k (backwardOf l w k) h (back-nodes l w k h) (few-yes (backwardOf l w k) q)) z)) in
           subst (Told l w k)
           (sym (ap (λ (f : Faults). choose f (faultSum l w k (backwardOf l w k))) (x .2)
-            ∙ ap (choose (F.One (x .0) 2 (x .1))) (y .2)))
+          ∙ ap (choose (F.One (x .0) 2 (x .1))) (y .2)))
           (fit-by true true false p q e)
       by true p false q c e =
           subst (Told l w k)
           (sym (ap (choose (faultSum l w k (sequenceOf l w k))) (many-no (backwardOf l w k) q)
-            ∙ choose-first (faultSum l w k (sequenceOf l w k)) (few-yes-sum (sequenceOf l w k) p)))
+          ∙ choose-first (faultSum l w k (sequenceOf l w k)) (few-yes-sum (sequenceOf l w k) p)))
           (fit-by true false c p q e, mend-yes (sequenceOf l w k) p, refl)
       by false p true q c e =
           subst (Told l w k)
           (sym (ap (λ (f : Faults). choose f (faultSum l w k (backwardOf l w k))) (many-no (sequenceOf l w k) p)
-            ∙ choose-second (faultSum l w k (backwardOf l w k)) (few-yes-sum (backwardOf l w k) q)))
+          ∙ choose-second (faultSum l w k (backwardOf l w k)) (few-yes-sum (backwardOf l w k) q)))
           (fit-by false true c p q e, mend-yes (backwardOf l w k) q, refl)
       by false p false q c e =
           subst (Told l w k)
           (sym (ap (λ (f : Faults). choose f (faultSum l w k (backwardOf l w k))) (many-no (sequenceOf l w k) p)
-            ∙ ap (choose F.Many) (many-no (backwardOf l w k) q)))
+          ∙ ap (choose F.Many) (many-no (backwardOf l w k) q)))
           (fit-by false false c p q e)
 
   -- the decision from the columns is the decision on the words

@@ -56,13 +56,7 @@ impl Faults {
     {
         match self {
             Faults::None => n,
-            Faults::One(_, w, v) => {
-                if w == 3 {
-                    v
-                } else {
-                    n
-                }
-            }
+            Faults::One(_, w, v) => { if w == 3 { v } else { n } }
             Faults::Many => n,
         }
     }
@@ -119,7 +113,16 @@ impl Fitted {
 }
 
 // The faults of what the links onward lead through from the header of list k. The link onward is word a of a cell, back word b.
-fn walk(idents: &[u16], onward: &[u16], back: &[u16], n: u16, l: Layout, k: u16, a: u16, b: u16) -> Faults
+fn walk(
+    idents: &[u16],
+    onward: &[u16],
+    back: &[u16],
+    n: u16,
+    l: Layout,
+    k: u16,
+    a: u16,
+    b: u16,
+) -> Faults
     requires { ⌜ Columns l (now idents) (now onward) (now back) × (k < l .lists) ⌝ }
     ensures { λ r. ⌜ r ≡ walkFaults l (columns (now (idents .entry)) (now (onward .entry)) (now (back .entry))) a b k n ⌝ }
 {

@@ -247,7 +247,14 @@ pub fn open(words: &[u16]) -> Opened
         return Opened::Refused(1);
     }
     let head = [
-        words[0], words[1], words[2], words[3], words[4], words[5], words[6], words[7],
+        words[0],
+        words[1],
+        words[2],
+        words[3],
+        words[4],
+        words[5],
+        words[6],
+        words[7],
     ];
     open_with(words.len(), head)
 }

@@ -45,7 +45,7 @@ turn-right v k x (y ∷ s) e =
     record {
       idents = (eqb-true _ _ (b .0), r .idents);
       forwards = (eqb-true _ _ (a .0), r .forwards);
-      backs = (eqb-true _ _ (c .0), r .backs)
+      backs = (eqb-true _ _ (c .0), r .backs);
     }
 
 pub right-turn : (v : View) (k x : ℕ) (s : List ℕ) → Turn v k x s → turn v k x s ≡ true
@@ -89,12 +89,12 @@ module _ (l : Layout) (w : List ℕ) (k : ℕ) (s : List ℕ) where
       record {
         ident = i .0;
         turn =
-          record {
-            idents = i .1;
-            forwards = all-map Right (λ (p : Step). write (forwardAt l (p .source)) (p .target)) (steps k s k) (b .0);
-            backs = all-map Right (λ (p : Step). write (backAt l (p .target)) (p .source)) (steps k s k) (c .0)
-          };
-        count = c .1 .0
+            record {
+              idents = i .1;
+              forwards = all-map Right (λ (p : Step). write (forwardAt l (p .source)) (p .target)) (steps k s k) (b .0);
+              backs = all-map Right (λ (p : Step). write (backAt l (p .target)) (p .source)) (steps k s k) (c .0);
+            };
+        count = c .1 .0;
       }
 
   pub holds-agrees : Holds (viewOf l w) k (countIn w k) s → Agrees w (asked l k s)

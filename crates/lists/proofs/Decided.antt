@@ -109,9 +109,12 @@ module _ (l : Layout) (w : List ℕ) where
       apart : (x : ℕ) → x ∈ members l (viewOf l w) n → x ∈ sequenceOf l w n → ⊥
       apart x m m′ =
           let r = members-one l (viewOf l w) n x m in
-          omega (arith, r .1,
+          omega (
+            arith,
+            r .1,
             lists-disjoint l w (r .0) n (sequenceOf l w (r .0)) (sequenceOf l w n) x
-              (h (r .0) (omega (arith, r .1))) (h n (omega arith)) (r .2) m′)
+                (h (r .0) (omega (arith, r .1))) (h n (omega arith)) (r .2) m′,
+          )
 
   abbrev Used : List ℕ
   Used = used (viewOf l w) (firstNode l) (l .nodes)
@@ -135,41 +138,53 @@ module _ (l : Layout) (w : List ℕ) where
     where
       parts : (allHold l (viewOf l w) (countIn w) (l .lists) ≡ true) × (eqb (length All-members) (length Used) ≡ true)
       parts = and-eq-true-iff (allHold l (viewOf l w) (countIn w) (l .lists)) (eqb (length All-members) (length Used)) .0 e
+
       listed : (k : ℕ) → k < l .lists → IsList l w k (sequenceOf l w k)
       listed k h = holds-list l w k h (all-hold-at l (viewOf l w) (countIn w) (l .lists) k (parts .0) h)
+
       unlisted : (i : ℕ) → Node l i → ((k : ℕ) → k < l .lists → i ∈ sequenceOf l w k → ⊥) → getD w (identAt l i) 0 ≡ 0
       unlisted i n h = by (eqb (getD w (identAt l i) 0) 0) refl
         where
           apart : i ∈ All-members → ⊥
           apart m = let r = members-one l (viewOf l w) (l .lists) i m in h (r .0) (r .1) (r .2)
+
           by : (b : Bool) → eqb (getD w (identAt l i) 0) 0 ≡ b → getD w (identAt l i) 0 ≡ 0
           by true q = eqb-true _ _ q
           by false q =
-              absurd (omega (arith, eqb-true (length All-members) (length Used) (parts .1),
+              absurd (omega (
+                arith,
+                eqb-true (length All-members) (length Used) (parts .1),
                 pigeonhole-less All-members Used i (members-different (l .lists) listed) (member-used listed)
-                  (is-used (viewOf l w) (firstNode l) (l .nodes) i (n .low) (n .high) (eqb-false _ _ q)) apart))
+                    (is-used (viewOf l w) (firstNode l) (l .nodes) i (n .low) (n .high) (eqb-false _ _ q)) apart,
+              ))
 
   -- the lists are sound: decided true
   pub lists-sound : SoundLists l w → soundOf l w ≡ true
   unfolding soundIn
   lists-sound s =
-      and-eq-true-iff (allHold l (viewOf l w) (countIn w) (l .lists)) (eqb (length All-members) (length Used)) .1
-      (at-all-hold l (viewOf l w) (countIn w) (l .lists) (λ k h. list-holds l w k h (s .sequence k) (s .lists k h)),
-      eq-eqb (length All-members) (length Used) (omega (arith,
-        pigeonhole All-members Used (members-different (l .lists) listed) (member-used listed),
-        pigeonhole Used All-members (used-different (viewOf l w) (firstNode l) (l .nodes)) used-member)))
+      and-eq-true-iff (allHold l (viewOf l w) (countIn w) (l .lists)) (eqb (length All-members) (length Used)) .1 (
+        at-all-hold l (viewOf l w) (countIn w) (l .lists) (λ k h. list-holds l w k h (s .sequence k) (s .lists k h)),
+        eq-eqb (length All-members) (length Used) (omega (
+          arith,
+          pigeonhole All-members Used (members-different (l .lists) listed) (member-used listed),
+          pigeonhole Used All-members (used-different (viewOf l w) (firstNode l) (l .nodes)) used-member,
+        )),
+      )
     where
       same : (k : ℕ) → k < l .lists → sequenceOf l w k ≡ s .sequence k
       same k h = list-sequence l w k h (s .sequence k) (s .lists k h)
+
       listed : (k : ℕ) → k < l .lists → IsList l w k (sequenceOf l w k)
       listed k h = subst (IsList l w k) (sym (same k h)) (s .lists k h)
+
       used-member : (x : ℕ) → x ∈ Used → x ∈ All-members
       used-member x m = by (member? x All-members)
         where
           u : (firstNode l ≤ x) × (x < firstNode l + l .nodes) × (getD w (identAt l x) 0 ≡ 0 → ⊥)
           u = used-is (viewOf l w) (firstNode l) (l .nodes) x m
+
           by : (x ∈ All-members) ⊎ (x ∈ All-members → ⊥) → x ∈ All-members
           by (inl q) = q
           by (inr q) =
               absurd (u .2 (s .outside x (record { low = u .0; high = u .1 })
-                (λ k h p. q (one-members l (viewOf l w) (l .lists) k x h (subst (λ (t : List ℕ). x ∈ t) (sym (same k h)) p)))))
+              (λ k h p. q (one-members l (viewOf l w) (l .lists) k x h (subst (λ (t : List ℕ). x ∈ t) (sym (same k h)) p)))))

@@ -23,16 +23,16 @@ formatted-list l k h =
       nodes = tt;
       different = tt;
       agrees =
-        holds-agrees l (formatted l) k [] (record {
-          ident = ap (λ (a : ℕ). getD (formatted l) a 0) (sym (add-zero (cellAt l k))) ∙ header-word l k 0 h (omega arith);
-          turn =
-            record {
-              idents = tt;
-              forwards = (header-word l k 1 h (omega arith), tt);
-              backs = (header-word l k 2 h (omega arith), tt)
-            };
-          count = formatted-header l k 3 h (omega arith)
-        })
+          holds-agrees l (formatted l) k [] (record {
+            ident = ap (λ (a : ℕ). getD (formatted l) a 0) (sym (add-zero (cellAt l k))) ∙ header-word l k 0 h (omega arith);
+            turn =
+                record {
+                  idents = tt;
+                  forwards = (header-word l k 1 h (omega arith), tt);
+                  backs = (header-word l k 2 h (omega arith), tt);
+                };
+            count = formatted-header l k 3 h (omega arith);
+          });
     }
 
 node-behind : (l : Layout) (i : ℕ) → headWords + headerWords * l .lists ≤ nodeAt l i
@@ -44,7 +44,7 @@ formatted-lists l =
     record {
       sequence = λ _. [];
       lists = formatted-list l;
-      outside = λ i n _. formatted-node l (cellAt l i) (omega (arith, cell-node l i (n .low), node-behind l i))
+      outside = λ i n _. formatted-node l (cellAt l i) (omega (arith, cell-node l i (n .low), node-behind l i));
     }
 
 pub formatted-sound : (l : Layout) → InRange l → Sound (formatted l)
@@ -54,5 +54,5 @@ formatted-sound l r =
       marked = refl;
       inRange = r;
       exact = length-formatted l;
-      lists = formatted-lists l
+      lists = formatted-lists l;
     }

@@ -55,26 +55,26 @@ module _ (l : Layout) (w : List ℕ) (k : ℕ) (h : k < l .lists) (s : List ℕ)
         nodes = i .nodes;
         different = i .different;
         agrees =
-          holds-agrees l w′ k s (record {
-            ident = ident k (List·Memᴰ·head refl) ∙ a .ident;
-            turn =
-              record {
-                idents =
-                  in-all (λ c. getD w′ (identAt l c) 0 ≡ identOf k) s
-                  (λ x m. ident x (List·Memᴰ·tail m) ∙ all-in (λ c. getD w (identAt l c) 0 ≡ identOf k) s (a .turn .idents) m);
-                forwards =
-                  forward-same (viewOf l w .forward) (viewOf l w′ .forward) k s k
-                  (λ y m. q y 1 m (links-words l y 1 (omega arith))) (a .turn .forwards);
-                backs =
-                  backward-same (viewOf l w .back) (viewOf l w′ .back) k s k
-                  (λ y m. q y 2 (in-front k s m) (links-words l y 2 (omega arith))) (a .turn .backs)
-              };
-            count =
-              ap (λ (n : ℕ). getD w′ n 0) (count-word l k h)
-              ∙ q k 3 (List·Memᴰ·head refl) (omega (arith, words-header l k h))
-              ∙ ap (λ (n : ℕ). getD w n 0) (sym (count-word l k h))
-              ∙ a .count
-          })
+            holds-agrees l w′ k s (record {
+              ident = ident k (List·Memᴰ·head refl) ∙ a .ident;
+              turn =
+                  record {
+                    idents =
+                        in-all (λ c. getD w′ (identAt l c) 0 ≡ identOf k) s
+                        (λ x m. ident x (List·Memᴰ·tail m) ∙ all-in (λ c. getD w (identAt l c) 0 ≡ identOf k) s (a .turn .idents) m);
+                    forwards =
+                        forward-same (viewOf l w .forward) (viewOf l w′ .forward) k s k
+                        (λ y m. q y 1 m (links-words l y 1 (omega arith))) (a .turn .forwards);
+                    backs =
+                        backward-same (viewOf l w .back) (viewOf l w′ .back) k s k
+                        (λ y m. q y 2 (in-front k s m) (links-words l y 2 (omega arith))) (a .turn .backs);
+                  };
+              count =
+                  ap (λ (n : ℕ). getD w′ n 0) (count-word l k h)
+                  ∙ q k 3 (List·Memᴰ·head refl) (omega (arith, words-header l k h))
+                  ∙ ap (λ (n : ℕ). getD w n 0) (sym (count-word l k h))
+                  ∙ a .count;
+            });
       }
     where
       ident : (x : ℕ) → x ∈ (k ∷ s) → getD w′ (identAt l x) 0 ≡ getD w (identAt l x) 0
@@ -94,7 +94,7 @@ lists-apart l w j k s t hj hk n i i′ x y (List·Memᴰ·tail m) (List·Memᴰ�
     omega (arith, all-in (Node l) s (i .nodes) m .low)
 lists-apart l w j k s t hj hk n i i′ x y (List·Memᴰ·tail m) (List·Memᴰ·tail m′) q =
     let e : 42400 + j ≡ 42400 + k =
-          sym (member-ident l w j s x i m) ∙ ap (λ (c : ℕ). getD w (identAt l c) 0) q ∙ member-ident l w k t y i′ m′ in
+    sym (member-ident l w j s x i m) ∙ ap (λ (c : ℕ). getD w (identAt l c) 0) q ∙ member-ident l w k t y i′ m′ in
     n (omega arith)
 
 -- words that have the same first eight have the same mark and layout
@@ -111,21 +111,23 @@ same-layout w w′ h =
 pub same-sound
     : (w w′ : List ℕ) → Sound w → ((a : ℕ) → a < 8 → getD w′ a 0 ≡ getD w a 0) → length w′ ≡ length w
     → (x : SoundLists (layoutOf w) w′) → (y : Sound w′) × (y .lists .sequence ≡ x .sequence)
-same-sound w w′ s h e x =
-    (record {
-      marked = same-marked w w′ h ∙ s .marked;
-      inRange = subst InRange back (s .inRange);
-      exact = e ∙ s .exact ∙ ap sizeOf back;
-      lists =
+same-sound w w′ s h e x = (
+  record {
+    marked = same-marked w w′ h ∙ s .marked;
+    inRange = subst InRange back (s .inRange);
+    exact = e ∙ s .exact ∙ ap sizeOf back;
+    lists =
         record {
           sequence = x .sequence;
           lists = λ k g. subst (λ (m : Layout). IsList m w′ k (x .sequence k)) back (x .lists k (subst⁻¹ (λ (m : Layout). k < m .lists) back g));
           outside =
-            λ i n q.
-            subst (λ (m : Layout). getD w′ (identAt m i) 0 ≡ 0) back
-            (x .outside i (subst⁻¹ (λ (m : Layout). Node m i) back n) (λ k g. q k (subst (λ (m : Layout). k < m .lists) back g)))
-        }
-    }, refl)
+              λ i n q.
+              subst (λ (m : Layout). getD w′ (identAt m i) 0 ≡ 0) back
+              (x .outside i (subst⁻¹ (λ (m : Layout). Node m i) back n) (λ k g. q k (subst (λ (m : Layout). k < m .lists) back g)));
+        };
+  },
+  refl,
+)
   where
     back : layoutOf w ≡ layoutOf w′
     back = sym (same-layout w w′ h)

@@ -25,9 +25,11 @@ header-out l k h = rw (lt-leb (firstNode l) k h)
 -- different nodes are at most N
 pub nodes-few : (l : Layout) (s : List ℕ) → All (Node l) s → Different s → length s ≤ l .nodes
 nodes-few l s h d =
-    omega (arith,
+    omega (
+      arith,
       pigeonhole s (range (firstNode l) (l .nodes)) d (λ x m. let n = all-in (Node l) s h m in in-range _ _ x (n .low) (n .high)),
-      length-range (firstNode l) (l .nodes))
+      length-range (firstNode l) (l .nodes),
+    )
 
 -- nodes, by the test
 pub all-nodes : (l : Layout) (s : List ℕ) → All (λ x. isNode l x ≡ true) s → All (Node l) s
@@ -53,7 +55,7 @@ module _ (l : Layout) (w : List ℕ) (k : ℕ) (h : k < l .lists) where
       record {
         nodes = n;
         different = leads-different (viewOf l w .forward) (isNode l) k s k (nodes-all l s n) (header-out l k h) (r .turn .forwards);
-        agrees = holds-agrees l w k s r
+        agrees = holds-agrees l w k s r;
       }
 
   -- if the turn round what the forward links give is right, that is the list

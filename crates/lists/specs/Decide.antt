@@ -21,7 +21,7 @@ viewOf l w =
     record {
       ident = λ c. getD w (identAt l c) 0;
       forward = λ c. getD w (forwardAt l c) 0;
-      back = λ c. getD w (backAt l c) 0
+      back = λ c. getD w (backAt l c) 0;
     }
 
 abbrev pub countIn : List ℕ → ℕ → ℕ

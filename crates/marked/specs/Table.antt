@@ -117,12 +117,12 @@ row2 =
       words = c1;
       call = insert 0 0 2 (700 ∷ []) 65535;
       outcome =
-        record {
-          ended = done 7;
-          values = [];
-          stores = write 19 700 ∷ write 17 0 ∷ write 18 0 ∷ write 16 42400 ∷ write 11 1 ∷ write 9 2 ∷ write 10 2 ∷ [];
-          words = c2
-        }
+          record {
+            ended = done 7;
+            values = [];
+            stores = write 19 700 ∷ write 17 0 ∷ write 18 0 ∷ write 16 42400 ∷ write 11 1 ∷ write 9 2 ∷ write 10 2 ∷ [];
+            words = c2;
+          };
     }
 
 -- C3. "C2, insert 512 at position 1 from cell 2: cell 3 is used; 23 = 512, 21 = 0, 22 = 2, 20 = 42400, 11 = 2, 17 = 3, 10 = 3."
@@ -132,12 +132,12 @@ rows3 =
       words = c2;
       call = insert 0 1 2 (512 ∷ []) 7;
       outcome =
-        record {
-          ended = done 7;
-          values = [];
-          stores = write 23 512 ∷ write 21 0 ∷ write 22 2 ∷ write 20 42400 ∷ write 11 2 ∷ write 17 3 ∷ write 10 3 ∷ [];
-          words = c3
-        }
+          record {
+            ended = done 7;
+            values = [];
+            stores = write 23 512 ∷ write 21 0 ∷ write 22 2 ∷ write 20 42400 ∷ write 11 2 ∷ write 17 3 ∷ write 10 3 ∷ [];
+            words = c3;
+          };
     }
     ∷ record { words = c3; call = check; outcome = record { ended = number 0; values = []; stores = []; words = c3 } }
     ∷ record { words = c3; call = read 0 1; outcome = record { ended = number 0; values = 512 ∷ []; stores = []; words = c3 } }
@@ -150,17 +150,17 @@ rows4 =
       words = c2;
       call = insert 0 1 2 (512 ∷ []) 5;
       outcome =
-        record {
-          ended = stopped 5;
-          values = [];
-          stores = write 23 512 ∷ write 21 0 ∷ write 22 2 ∷ write 20 42400 ∷ write 11 2 ∷ [];
-          words = c4cut
-        }
+          record {
+            ended = stopped 5;
+            values = [];
+            stores = write 23 512 ∷ write 21 0 ∷ write 22 2 ∷ write 20 42400 ∷ write 11 2 ∷ [];
+            words = c4cut;
+          };
     }
     ∷ record {
       words = c4cut;
       call = recover 65535;
-      outcome = record { ended = done 2; values = []; stores = write 11 1 ∷ write 20 0 ∷ []; words = c4 }
+      outcome = record { ended = done 2; values = []; stores = write 11 1 ∷ write 20 0 ∷ []; words = c4 };
     }
     ∷ record { words = c4; call = check; outcome = record { ended = number 0; values = []; stores = []; words = c4 } }
     ∷ record { words = c4; call = length 0; outcome = record { ended = number 0; values = 1 ∷ []; stores = []; words = c4 } }
@@ -174,17 +174,17 @@ rows5 =
       words = c2;
       call = insert 0 1 2 (512 ∷ []) 6;
       outcome =
-        record {
-          ended = stopped 6;
-          values = [];
-          stores = write 23 512 ∷ write 21 0 ∷ write 22 2 ∷ write 20 42400 ∷ write 11 2 ∷ write 17 3 ∷ [];
-          words = c5cut
-        }
+          record {
+            ended = stopped 6;
+            values = [];
+            stores = write 23 512 ∷ write 21 0 ∷ write 22 2 ∷ write 20 42400 ∷ write 11 2 ∷ write 17 3 ∷ [];
+            words = c5cut;
+          };
     }
     ∷ record {
       words = c5cut;
       call = recover 65535;
-      outcome = record { ended = done 1; values = []; stores = write 10 3 ∷ []; words = c3 }
+      outcome = record { ended = done 1; values = []; stores = write 10 3 ∷ []; words = c3 };
     }
     ∷ record { words = c3; call = length 0; outcome = record { ended = number 0; values = 2 ∷ []; stores = []; words = c3 } }
     ∷ record { words = c3; call = read 0 0; outcome = record { ended = number 0; values = 700 ∷ []; stores = []; words = c3 } }
@@ -197,13 +197,13 @@ rows6 =
       words = c3;
       call = delete 0 0 4;
       outcome =
-        record { ended = done 4; values = []; stores = write 22 0 ∷ write 9 3 ∷ write 11 1 ∷ write 16 0 ∷ []; words = c6 }
+          record { ended = done 4; values = []; stores = write 22 0 ∷ write 9 3 ∷ write 11 1 ∷ write 16 0 ∷ []; words = c6 };
     }
     ∷ record { words = c3; call = delete 0 0 1; outcome = record { ended = stopped 1; values = []; stores = write 22 0 ∷ []; words = c6cut } }
     ∷ record {
       words = c6cut;
       call = recover 65535;
-      outcome = record { ended = done 1; values = []; stores = write 22 2 ∷ []; words = c3 }
+      outcome = record { ended = done 1; values = []; stores = write 22 2 ∷ []; words = c3 };
     }
     ∷ []
 
@@ -213,12 +213,12 @@ rows7 =
     record {
       words = c3;
       call = delete 0 0 2;
-      outcome = record { ended = stopped 2; values = []; stores = write 22 0 ∷ write 9 3 ∷ []; words = c7cut }
+      outcome = record { ended = stopped 2; values = []; stores = write 22 0 ∷ write 9 3 ∷ []; words = c7cut };
     }
     ∷ record {
       words = c7cut;
       call = recover 65535;
-      outcome = record { ended = done 2; values = []; stores = write 11 1 ∷ write 16 0 ∷ []; words = c6 }
+      outcome = record { ended = done 2; values = []; stores = write 11 1 ∷ write 16 0 ∷ []; words = c6 };
     }
     ∷ record { words = c6; call = check; outcome = record { ended = number 0; values = []; stores = []; words = c6 } }
     ∷ record { words = c6; call = length 0; outcome = record { ended = number 0; values = 1 ∷ []; stores = []; words = c6 } }
@@ -232,7 +232,7 @@ rows8 =
     ∷ record {
       words = c3;
       call = insert 0 2 1 (9 ∷ []) 0;
-      outcome = record { ended = stopped 0; values = []; stores = []; words = c3 }
+      outcome = record { ended = stopped 0; values = []; stores = []; words = c3 };
     }
     ∷ []
 

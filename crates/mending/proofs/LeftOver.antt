@@ -76,9 +76,12 @@ module _ (l : Layout) (w : List ℕ) (s : ℕ → List ℕ) (fits : (k : ℕ) �
           → getD w (identAt l c) 0 ≡ 0
       by c p q o (yes z) = z
       by c p q o (no z) =
-          absurd (omega (arith, e,
+          absurd (omega (
+            arith,
+            e,
             pigeonhole-less Members Used c (joined-different (l .lists) (omega arith)) member-used
-              (is-used (viewOf l w) (firstNode l) (l .nodes) c p q z) o))
+                (is-used (viewOf l w) (firstNode l) (l .nodes) c p q z) o,
+          ))
 
 -- As it is told by the faults: no list is refused, all members carry an identifier, and they are as many as the nodes that do. Then
 -- nothing is to be cleared.
@@ -91,17 +94,19 @@ pub nothing-left : (l : Layout) (w : List ℕ)
 nothing-left l w fitted carried number =
     none-else l w s fits
     (λ k h. members-carry (viewOf l w) k (countIn w k) (s k) (few k h)
-      (ap (carries (viewOf l w .ident)) (sym (chosen-told l w k h (fitted k h) .1)) ∙ carried k h))
+    (ap (carries (viewOf l w .ident)) (sym (chosen-told l w k h (fitted k h) .1)) ∙ carried k h))
     (length-joined s (l .lists)
     ∙ total-same (λ k. length (s k)) (λ k. lengthBy (faultAt l (viewOf l w) (countIn w) k) (countIn w k)) (l .lists)
-      (λ k h.
-        sym (ap (λ (f : Faults). lengthBy f (countIn w k)) (chosen-told l w k h (fitted k h) .1)
-          ∙ members-number l (viewOf l w) k (countIn w k) (s k) h (fits k h .nodes) (few k h)))
+    (λ k h.
+    sym (ap (λ (f : Faults). lengthBy f (countIn w k)) (chosen-told l w k h (fitted k h) .1)
+    ∙ members-number l (viewOf l w) k (countIn w k) (s k) h (fits k h .nodes) (few k h)))
     ∙ number)
   where
     s : ℕ → List ℕ
     s = fittingOf l w
+
     fits : (k : ℕ) → k < l .lists → Fits l w k (s k)
     fits = fit-accepted l w s (λ k h. chosen-told l w k h (fitted k h) .0) .fits
+
     few : (k : ℕ) → k < l .lists → Few (faultSum l w k (s k))
     few k h = few-summed l (faultSum l w k (s k)) (wrong w (asked l k (s k))) (summed-forward l w k (s k) h) (fits k h .few)

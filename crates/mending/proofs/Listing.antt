@@ -34,12 +34,12 @@ module _ (l : Layout) (at values : List ℕ) (n : ℕ) (ps : List Write) (h : Li
         contents = length-set values n v ∙ h .contents;
         few = omega arith;
         same =
-          ap₂ writesOf (ap (λ (m : ℕ). take m (set at n a)) (add-one n) ∙ take-suc-set at n a (omega (arith, h .addresses)))
+            ap₂ writesOf (ap (λ (m : ℕ). take m (set at n a)) (add-one n) ∙ take-suc-set at n a (omega (arith, h .addresses)))
             (ap (λ (m : ℕ). take m (set values n v)) (add-one n) ∙ take-suc-set values n v (omega (arith, h .contents)))
-          ∙ writes-snoc (take n at) (take n values) a v
+            ∙ writes-snoc (take n at) (take n values) a v
             (length-take-le n at (omega (arith, h .addresses, h .few)) ∙ sym (length-take-le n values (omega (arith, h .contents, h .few))))
-          ∙ ap (λ (t : List Write). t ++ write a v ∷ []) (h .same);
-        inside = all-append (λ (p : Write). p .at < sizeOf l) ps (write a v ∷ []) (h .inside) (g, tt)
+            ∙ ap (λ (t : List Write). t ++ write a v ∷ []) (h .same);
+        inside = all-append (λ (p : Write). p .at < sizeOf l) ps (write a v ∷ []) (h .inside) (g, tt);
       }
 
   -- listed stores are a plan
@@ -66,11 +66,11 @@ module _ (l : Layout) (idents at values : List ℕ) (n i : ℕ) (all : List Writ
       record {
         front = listed-self l (set at n a) (set values n 0) (n + 1) _ m;
         rest =
-          ap (λ (ps : List Write). ps ++ clearsIn l idents (i + 1) (cellCount l - (i + 1))) (m .same)
-          ∙ append-assoc (listed n at values) (write a 0 ∷ []) (clearsIn l idents (i + 1) (cellCount l - (i + 1)))
-          ∙ ap (λ (x : ℕ). listed n at values ++ write x 0 ∷ clearsIn l idents (i + 1) (cellCount l - (i + 1))) e
-          ∙ ap (λ (ps : List Write). listed n at values ++ ps) (sym (clears-one l idents i (cellCount l) h z))
-          ∙ c .rest;
+            ap (λ (ps : List Write). ps ++ clearsIn l idents (i + 1) (cellCount l - (i + 1))) (m .same)
+            ∙ append-assoc (listed n at values) (write a 0 ∷ []) (clearsIn l idents (i + 1) (cellCount l - (i + 1)))
+            ∙ ap (λ (x : ℕ). listed n at values ++ write x 0 ∷ clearsIn l idents (i + 1) (cellCount l - (i + 1))) e
+            ∙ ap (λ (ps : List Write). listed n at values ++ ps) (sym (clears-one l idents i (cellCount l) h z))
+            ∙ c .rest;
         below = omega (arith, c .below);
       }
 

@@ -57,8 +57,8 @@ mends-told l w k (suc n) h z =
   where
     by : (r : Fitted) → fitIn l (viewOf l w) k (countIn w k) ≡ r → Told l w k r
         → (refusalIn l (viewOf l w) (countIn w) (suc k) n ≡ 0
-          → mendsIn l (viewOf l w) (countIn w) (suc k) n ++ clears l w (joined (fittingOf l w) (l .lists)) (firstNode l) (l .nodes)
-          ≡ storesFrom l w (fittingOf l w) (suc k) n)
+        → mendsIn l (viewOf l w) (countIn w) (suc k) n ++ clears l w (joined (fittingOf l w) (l .lists)) (firstNode l) (l .nodes)
+        ≡ storesFrom l w (fittingOf l w) (suc k) n)
         → mendsIn l (viewOf l w) (countIn w) k (suc n) ++ clears l w (joined (fittingOf l w) (l .lists)) (firstNode l) (l .nodes)
         ≡ storesFrom l w (fittingOf l w) k (suc n)
     by G.Nothing e t i = absurd (omega (arith, rw e at z))
@@ -135,7 +135,7 @@ module _ (l : Layout) (w idents forwards backs : List ℕ) (loaded : Loaded l w 
         (ap stores
         (sym
         (ap (λ (ps : List Write). ps ++ Left)
-          (told-words .rows z .same ∙ mends-counts l v counts (countIn w) 0 (l .lists) (λ j p q. same j (omega arith)))
+        (told-words .rows z .same ∙ mends-counts l v counts (countIn w) 0 (l .lists) (λ j p q. same j (omega arith)))
         ∙ mends-told l w 0 (l .lists) (omega arith) none)))
 
     -- .. by what is left of the identifiers
@@ -147,13 +147,14 @@ module _ (l : Layout) (w idents forwards backs : List ℕ) (loaded : Loaded l w 
       where
         back : (k : ℕ) → k < l .lists → getD (m .back) k false ≡ isBackward (fitIn l v k (countIn w k))
         back k h = told-words .back z k h ∙ ap (λ (n : ℕ). isBackward (fitIn l v k n)) (same k h)
+
         cleared : Clears ≡ Left
         cleared =
             ap (λ (u : View). clearsIn l (erasedFrom l u (λ k. getD (m .back) k false) 0 (l .lists) idents) (firstNode l) (l .nodes))
             (loaded-view l w idents forwards backs loaded)
             ∙ cleared-told l w idents v (λ k. getD (m .back) k false) (fittingOf l w) (λ c _. loaded .idents c)
-              (λ k h. subst (λ (b : Bool). (c : ℕ) → (c ∈ membersBy l v b k → c ∈ fittingOf l w k) × (c ∈ fittingOf l w k → c ∈ membersBy l v b k)) (sym (back k h))
-                (members-told l w k h (fitted k h)))
+            (λ k h. subst (λ (b : Bool). (c : ℕ) → (c ∈ membersBy l v b k → c ∈ fittingOf l w k) × (c ∈ fittingOf l w k → c ∈ membersBy l v b k)) (sym (back k h))
+            (members-told l w k h (fitted k h)))
 
     -- .. or none, if nobody is left over
     pub recover-mends : (m .carried && eqb (m .members) (length (used (columns idents idents idents) (firstNode l) (l .nodes)))) ≡ true
@@ -165,11 +166,14 @@ module _ (l : Layout) (w idents forwards backs : List ℕ) (loaded : Loaded l w 
       where
         both : (m .carried ≡ true) × (eqb (m .members) (length (used (columns idents idents idents) (firstNode l) (l .nodes))) ≡ true)
         both = and-eq-true-iff _ _ .0 e
+
         carried : (k : ℕ) → k < l .lists → carries (v .ident) (faultIn (fitIn l v k (countIn w k))) ≡ true
         carried k h =
             ap (λ (n : ℕ). carries (v .ident) (faultIn (fitIn l v k n))) (sym (same k h)) ∙ told-words .carried z (both .0) k h
+
         idents-same : columns idents idents idents .ident ≡ v .ident
         idents-same = ap (λ (u : View). u .ident) (loaded-view l w idents forwards backs loaded)
+
         number : total (λ k. lengthBy (faultIn (fitIn l v k (countIn w k))) (countIn w k)) (l .lists) ≡ length (used v (firstNode l) (l .nodes))
         number =
             total-same _ _ (l .lists) (λ k h. ap (λ (n : ℕ). lengthBy (faultIn (fitIn l v k n)) n) (sym (same k h)))

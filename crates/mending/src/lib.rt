@@ -65,13 +65,7 @@ fn mend_of(l: Layout, f: Faults) -> Mend
 }
 
 // The mends of all lists, from list 0 on: does a sequence fit, and only one?
-fn all_mends(
-    idents: &[u16],
-    forwards: &[u16],
-    backs: &[u16],
-    counts: [u16; 8],
-    l: Layout,
-) -> Mends
+fn all_mends(idents: &[u16], forwards: &[u16], backs: &[u16], counts: [u16; 8], l: Layout) -> Mends
     requires { ⌜ Columns l (now idents) (now forwards) (now backs) ⌝ }
     ensures { λ r. ⌜ MendsOf l (columns (now (idents .entry)) (now (forwards .entry)) (now (backs .entry))) (λ k. getD counts k 0) r ⌝ }
 {
@@ -92,11 +86,7 @@ fn all_mends(
                 members,
                 carried,
                 back,
-                rows: Rows {
-                    at,
-                    values,
-                    len,
-                },
+                rows: Rows { at, values, len },
             };
         }
         let fault = f.fault();
@@ -114,11 +104,7 @@ fn all_mends(
         members,
         carried,
         back,
-        rows: Rows {
-            at,
-            values,
-            len,
-        },
+        rows: Rows { at, values, len },
     }
 }
 
@@ -200,7 +186,13 @@ fn none_left(idents: &[u16], l: Layout, members: u32, carried: bool) -> bool
 
 // Decides recovery by the columns and the counts. The stores are listed in the columns of links: addresses in the forward one, values
 // in the back one. The members are told from the other nodes only if one of those carries an identifier.
-pub fn plan(idents: &mut [u16], forwards: &mut [u16], backs: &mut [u16], counts: [u16; 8], l: Layout) -> Finding
+pub fn plan(
+    idents: &mut [u16],
+    forwards: &mut [u16],
+    backs: &mut [u16],
+    counts: [u16; 8],
+    l: Layout,
+) -> Finding
     requires { ⌜ Columns l (now idents) (now forwards) (now backs) ⌝ }
     ensures { λ r. ⌜ ((w : List ℕ) → Told l w (now (idents .entry)) (now (forwards .entry)) (now (backs .entry)) counts → recoverOf l w ≡ planOf r (now (forwards .exit)) (now (backs .exit))) ⌝ }
     ensures rows { λ r. ⌜ Listed l (now (forwards .exit)) (now (backs .exit)) (r .stores) (listed (r .stores) (now (forwards .exit)) (now (backs .exit))) ⌝ }

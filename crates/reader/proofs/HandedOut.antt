@@ -75,9 +75,9 @@ module _ (w : List ℕ) (s : Sound w) (k : ℕ) (h : k < layoutOf w .lists) wher
   unfolding siteIn memberAt
   beyond p g =
       let q : length (sequenceOf (layoutOf w) w k) ≤ p =
-            subst (λ (x : List ℕ). length x ≤ p) (sym (list-sequence (layoutOf w) w k h members (s .lists .lists k h))) g in
+      subst (λ (x : List ℕ). length x ≤ p) (sym (list-sequence (layoutOf w) w k h members (s .lists .lists k h))) g in
       let e : siteOf (layoutOf w) w (Member k p) ≡ Refused 7 =
-            rw (lt-ltb k (layoutOf w .lists) h, sound-decided w s, le-ltb p (length (sequenceOf (layoutOf w) w k)) q) in
+      rw (lt-ltb k (layoutOf w .lists) h, sound-decided w s, le-ltb p (length (sequenceOf (layoutOf w) w k)) q) in
       sym (read-refused w k p (sym (look-refused w (Member k p) (sound-opened w s) e)) .0)
 
   -- from position p on, with j records left
@@ -111,6 +111,7 @@ module _ (w : List ℕ) (k c : ℕ) (refused : lengthAnswer w k ≡ L.Refused c)
     where
       no-site : (l : Layout) (n : ℕ) → opened w ≡ O.Open l → siteOf l w (Member k p) ≡ Refused n → readWords w k p ≡ []
       no-site l n e q = sym (read-refused w k p (sym (look-refused w (Member k p) e q)) .0)
+
       within : (l : Layout) (b d : Bool) → opened w ≡ O.Open l → ltb k (l .lists) ≡ b → soundOf l w ≡ d → readWords w k p ≡ []
       within l false d e x y = no-site l 5 e (rw x)
       within l true false e x y = no-site l 6 e (rw (x, y))
@@ -118,6 +119,7 @@ module _ (w : List ℕ) (k c : ℕ) (refused : lengthAnswer w k ≡ L.Refused c)
           let q : siteOf l w (Whole k) ≡ At (record { before = k; cell = k; after = k; count = length (sequenceOf l w k) }) = rw (x, y) in
           let z : _≡_ {A = ℕ} 0 1 = ap told (length-at w k (sym (look-at w (Whole k) e q)) ∙ refused) in
           absurd (omega arith)
+
       by : (o : Opened) → opened w ≡ o → readWords w k p ≡ []
       by (O.Refused n) e = sym (read-refused w k p (sym (look-shut w (Member k p) e)) .0)
       by (O.Open l) e = within l (ltb k (l .lists)) (soundOf l w) e refl refl

@@ -22,8 +22,13 @@ impl Place {
     pub fn step(self) -> Place
         ensures { λ r. ⌜ r ≡ nextPlace self ⌝ }
     {
-        let at = if self.at < 65535 { self.at + 1 } else { self.at };
-        Place { list: self.list, at }
+        if self.at == 65535 {
+            return self;
+        }
+        Place {
+            list: self.list,
+            at: self.at + 1,
+        }
     }
 }
 

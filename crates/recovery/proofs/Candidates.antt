@@ -89,10 +89,10 @@ module _ (l : Layout) (w : List ℕ) (k : ℕ) (s : List ℕ) where
       ap length (wrong-append w (identsAsked l k s) (forwardsAsked l k s ++ (backsAsked l k s ++ countAsked k s)))
       ∙ length-append (wrong w (identsAsked l k s)) (wrong w (forwardsAsked l k s ++ (backsAsked l k s ++ countAsked k s)))
       ∙ ap (λ (n : ℕ). length (wrong w (identsAsked l k s)) + n)
-        (ap length (wrong-append w (forwardsAsked l k s) (backsAsked l k s ++ countAsked k s))
-        ∙ length-append (wrong w (forwardsAsked l k s)) (wrong w (backsAsked l k s ++ countAsked k s))
-        ∙ ap (λ (n : ℕ). length (wrong w (forwardsAsked l k s)) + n)
-          (ap length (wrong-append w (backsAsked l k s) (countAsked k s)) ∙ length-append (wrong w (backsAsked l k s)) (wrong w (countAsked k s))))
+      (ap length (wrong-append w (forwardsAsked l k s) (backsAsked l k s ++ countAsked k s))
+      ∙ length-append (wrong w (forwardsAsked l k s)) (wrong w (backsAsked l k s ++ countAsked k s))
+      ∙ ap (λ (n : ℕ). length (wrong w (forwardsAsked l k s)) + n)
+      (ap length (wrong-append w (backsAsked l k s) (countAsked k s)) ∙ length-append (wrong w (backsAsked l k s)) (wrong w (countAsked k s))))
 
   abbrev Right : Write → Type 0
   Right p = getD w (p .at) 0 ≡ p .value
@@ -187,8 +187,9 @@ module _ (l : Layout) (w : List ℕ) (k : ℕ) (h : k < l .lists) where
             first = rest-right s f (inr (λ e. n (sym (back-candidate s f e) ∙ back-candidate r g b)));
             second = rest-right r g (inl (λ e. n (sym (forward-candidate s f a) ∙ forward-candidate r g e)));
             forward = a;
-            back = b
+            back = b;
           }
+
       by : (length (wrong w (forwardsAsked l k s)) ≡ 0) ⊎ (length (wrong w (backsAsked l k s)) ≡ 0)
           → (length (wrong w (forwardsAsked l k r)) ≡ 0) ⊎ (length (wrong w (backsAsked l k r)) ≡ 0) → Rivals s r ⊎ Rivals r s
       by (inl a) (inl b) = absurd (n (sym (forward-candidate s f a) ∙ forward-candidate r g b))
@@ -227,17 +228,24 @@ module _ (l : Layout) (w : List ℕ) (k : ℕ) (h : k < l .lists) where
     where
       by : (a : Bool) → fewWrong l w k (sequenceOf l w k) ≡ a → (b : Bool) → fewWrong l w k (backwardOf l w k) ≡ b
           → (c : Bool) → same (sequenceOf l w k) (backwardOf l w k) ≡ c → Decided (fitting a b c (sequenceOf l w k) (backwardOf l w k))
-      by true p true q true e =
-          (fits-yes (sequenceOf l w k) forward-nodes p,
-          (λ r f. ⊎-elim (λ d. sym d) (λ d. sym d ∙ sym (same-yes (sequenceOf l w k) (backwardOf l w k) e)) (candidates r f)))
-      by true p true q false e =
-          (sequenceOf l w k, backwardOf l w k, fits-yes (sequenceOf l w k) forward-nodes p, fits-yes (backwardOf l w k) back-nodes q,
-          (λ d. true≢false (sym (same-refl (sequenceOf l w k)) ∙ ap (same (sequenceOf l w k)) d ∙ e)))
-      by true p false q c e =
-          (fits-yes (sequenceOf l w k) forward-nodes p,
-          (λ r f. ⊎-elim (λ d. sym d) (λ d. absurd (fits-no (backwardOf l w k) q (subst (Fits l w k) (sym d) f))) (candidates r f)))
-      by false p true q c e =
-          (fits-yes (backwardOf l w k) back-nodes q,
-          (λ r f. ⊎-elim (λ d. absurd (fits-no (sequenceOf l w k) p (subst (Fits l w k) (sym d) f))) (λ d. sym d) (candidates r f)))
+      by true p true q true e = (
+        fits-yes (sequenceOf l w k) forward-nodes p,
+        (λ r f. ⊎-elim (λ d. sym d) (λ d. sym d ∙ sym (same-yes (sequenceOf l w k) (backwardOf l w k) e)) (candidates r f)),
+      )
+      by true p true q false e = (
+        sequenceOf l w k,
+        backwardOf l w k,
+        fits-yes (sequenceOf l w k) forward-nodes p,
+        fits-yes (backwardOf l w k) back-nodes q,
+        (λ d. true≢false (sym (same-refl (sequenceOf l w k)) ∙ ap (same (sequenceOf l w k)) d ∙ e)),
+      )
+      by true p false q c e = (
+        fits-yes (sequenceOf l w k) forward-nodes p,
+        (λ r f. ⊎-elim (λ d. sym d) (λ d. absurd (fits-no (backwardOf l w k) q (subst (Fits l w k) (sym d) f))) (candidates r f)),
+      )
+      by false p true q c e = (
+        fits-yes (backwardOf l w k) back-nodes q,
+        (λ r f. ⊎-elim (λ d. absurd (fits-no (sequenceOf l w k) p (subst (Fits l w k) (sym d) f))) (λ d. sym d) (candidates r f)),
+      )
       by false p false q c e =
           (λ r f. ⊎-elim (λ d. fits-no (sequenceOf l w k) p (subst (Fits l w k) (sym d) f)) (λ d. fits-no (backwardOf l w k) q (subst (Fits l w k) (sym d) f)) (candidates r f))

@@ -76,6 +76,7 @@ module _ (l : Layout) (x : List ℕ) (s : ℕ → List ℕ) (a : Accepted l x s)
     where
       at : cellAt l c + f ≡ cellAt l d + 0
       at = q ∙ ap (λ (t : Write). t .at) r ∙ ident-word l d
+
       by : Dec (c ≡ d) → (c ∈ joined s (l .lists)) ⊎ ((c < firstNode l) ⊎ ((f ≡ 0) × (v ≡ 0))) → ⊥
       by (no n) z = cells-apart l c d f 0 n h (links-words l d 0 (omega arith)) at
       by (yes z) (inl m) = out (subst (λ (t : ℕ). t ∈ joined s (l .lists)) z m)
@@ -115,19 +116,21 @@ module _ (l : Layout) (w : List ℕ) (exact : length w ≡ sizeOf l) (s : ℕ �
       subst (Spares (p .at)) (n .left)
       (in-all-writes (λ (q : Write). p .at ≡ q .at → ⊥) (recoverStores l (store w p) s)
       (λ q t z.
-        elsewhere l (store w p) s (n .accepted) (y .cell) (y .word) (p .value) (y .fits)
-        (ap (λ (b : ℕ). getD (store w p) b 0) (sym (y .at)) ∙ getD-set-same w (p .at) (p .value) 0 (n .inside))
-        (λ k hk c r g.
-          nothing (subst (λ (ps : List Write). List·Memᴰ r ps)
-            (ap (λ (j : ℕ). wrong (store w p) (asked l j (s j))) (one-list l w s a i k (y .cell) hi hk (y .within) c)
-            ∙ mend-own l w exact s a i hi p e) g))
-        (side (y .cell) (y .within)) q (at-kind (recoverStores l (store w p) s) (plan-kinds l (store w p) s) t) (sym (y .at) ∙ z)))
+      elsewhere l (store w p) s (n .accepted) (y .cell) (y .word) (p .value) (y .fits)
+      (ap (λ (b : ℕ). getD (store w p) b 0) (sym (y .at)) ∙ getD-set-same w (p .at) (p .value) 0 (n .inside))
+      (λ k hk c r g.
+      nothing (subst (λ (ps : List Write). List·Memᴰ r ps)
+      (ap (λ (j : ℕ). wrong (store w p) (asked l j (s j))) (one-list l w s a i k (y .cell) hi hk (y .within) c)
+      ∙ mend-own l w exact s a i hi p e) g))
+      (side (y .cell) (y .within)) q (at-kind (recoverStores l (store w p) s) (plan-kinds l (store w p) s) t) (sym (y .at) ∙ z)))
     where
       nothing : {r : Write} → List·Memᴰ r [] → ⊥
       nothing m = elim m [ ]
+
       at-kind : (ps : List Write) → All (Kind l (store w p) s) ps → {q : Write} → List·Memᴰ q ps → Kind l (store w p) s q
       at-kind (r ∷ ps) h (List·Memᴰ·head e) = subst (Kind l (store w p) s) (sym e) (h .0)
       at-kind (r ∷ ps) h (List·Memᴰ·tail t) = at-kind ps (h .1) t
+
       side : (c : ℕ) → c ∈ (i ∷ s i) → (c ∈ joined s (l .lists)) ⊎ ((c < firstNode l) ⊎ ((slot l i (s i) hi (wrong-in w (asked l i (s i)) m .0) .word ≡ 0) × (p .value ≡ 0)))
       side c (List·Memᴰ·head e) = inr (inl (omega arith))
       side c (List·Memᴰ·tail t) = inl (one-joined s (l .lists) i c hi t)
@@ -135,16 +138,17 @@ module _ (l : Layout) (w : List ℕ) (exact : length w ≡ sizeOf l) (s : ℕ �
       subst (Spares (p .at)) (n .left)
       (in-all-writes (λ (q : Write). p .at ≡ q .at → ⊥) (recoverStores l (store w p) s)
       (λ q t z.
-        elsewhere l (store w p) s (n .accepted) d 0 0 (links-words l d 0 (omega arith))
-        (ap (λ (b : ℕ). getD (store w p) b 0) (sym (ap (λ (u : Write). u .at) r ∙ ident-word l d))
-        ∙ getD-set-same w (p .at) (p .value) 0 (n .inside) ∙ ap (λ (u : Write). u .value) r)
-        (λ k hk c g h. member-out k hk c)
-        (inr (inr (refl, refl))) q (at-kind (recoverStores l (store w p) s) (plan-kinds l (store w p) s) t)
-        (sym (ap (λ (u : Write). u .at) r ∙ ident-word l d) ∙ z)))
+      elsewhere l (store w p) s (n .accepted) d 0 0 (links-words l d 0 (omega arith))
+      (ap (λ (b : ℕ). getD (store w p) b 0) (sym (ap (λ (u : Write). u .at) r ∙ ident-word l d))
+      ∙ getD-set-same w (p .at) (p .value) 0 (n .inside) ∙ ap (λ (u : Write). u .value) r)
+      (λ k hk c g h. member-out k hk c)
+      (inr (inr (refl, refl))) q (at-kind (recoverStores l (store w p) s) (plan-kinds l (store w p) s) t)
+      (sym (ap (λ (u : Write). u .at) r ∙ ident-word l d) ∙ z)))
     where
       at-kind : (ps : List Write) → All (Kind l (store w p) s) ps → {q : Write} → List·Memᴰ q ps → Kind l (store w p) s q
       at-kind (r ∷ ps) h (List·Memᴰ·head e) = subst (Kind l (store w p) s) (sym e) (h .0)
       at-kind (r ∷ ps) h (List·Memᴰ·tail t) = at-kind ps (h .1) t
+
       member-out : (k : ℕ) → k < l .lists → d ∈ (k ∷ s k) → ⊥
       member-out k hk (List·Memᴰ·head e) = omega arith
       member-out k hk (List·Memᴰ·tail t) = out (one-joined s (l .lists) k d hk t)

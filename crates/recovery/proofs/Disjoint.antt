@@ -35,19 +35,27 @@ module _ (l : Layout) (w : List ℕ) (i j : ℕ) (hi : i < l .lists) (hj : j < l
 
   pub fits-disjoint : (s t : List ℕ) (x : ℕ) → Fits l w i s → Fits l w j t → x ∈ s → x ∈ t → ⊥
   fits-disjoint s t x f g ms mt =
-      omega (arith, wrong-parts l w i s, wrong-parts l w j t, f .few, g .few,
+      omega (
+        arith,
+        wrong-parts l w i s,
+        wrong-parts l w j t,
+        f .few,
+        g .few,
         some (length (wrong w (identsAsked l i s))) (length (wrong w (identsAsked l j t))) idents,
         some (length (wrong w (forwardsAsked l i s))) (length (wrong w (forwardsAsked l j t))) forwards,
-        some (length (wrong w (backsAsked l i s))) (length (wrong w (backsAsked l j t))) backs)
+        some (length (wrong w (backsAsked l i s))) (length (wrong w (backsAsked l j t))) backs,
+      )
     where
       idents : length (wrong w (identsAsked l i s)) ≡ 0 → length (wrong w (identsAsked l j t)) ≡ 0 → ⊥
       idents a b =
           let p : 42400 + i ≡ 42400 + j =
-                sym (all-in (λ c. getD w (identAt l c) 0 ≡ identOf i) s (right-idents l w i s a .1) ms)
-                ∙ all-in (λ c. getD w (identAt l c) 0 ≡ identOf j) t (right-idents l w j t b .1) mt in
+          sym (all-in (λ c. getD w (identAt l c) 0 ≡ identOf i) s (right-idents l w i s a .1) ms)
+          ∙ all-in (λ c. getD w (identAt l c) 0 ≡ identOf j) t (right-idents l w j t b .1) mt in
           n (omega arith)
+
       forwards : length (wrong w (forwardsAsked l i s)) ≡ 0 → length (wrong w (forwardsAsked l j t)) ≡ 0 → ⊥
       forwards a b = no-paths (viewOf l w .forward) s t x (f .nodes) (g .nodes) ms mt (right-forward l w i s a) (right-forward l w j t b)
+
       backs : length (wrong w (backsAsked l i s)) ≡ 0 → length (wrong w (backsAsked l j t)) ≡ 0 → ⊥
       backs a b =
           no-paths (viewOf l w .back) (reverse s) (reverse t) x (all-reverse (Node l) s (f .nodes)) (all-reverse (Node l) t (g .nodes))

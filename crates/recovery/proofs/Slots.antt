@@ -86,32 +86,47 @@ slot l k s h {p} m = ⊎-elim idents (λ m. ⊎-elim forwards (λ m. ⊎-elim ba
     idents m =
         let r = map-in (λ c. write (identAt l c) (identOf k)) (k ∷ s) m in
         record {
-          cell = r .0; word = 0; within = r .1; fits = links-words l (r .0) 0 (omega arith);
+          cell = r .0;
+          word = 0;
+          within = r .1;
+          fits = links-words l (r .0) 0 (omega arith);
           at = ap (λ (q : Write). q .at) (r .2) ∙ ident-word l (r .0);
-          value = ident refl (ap (λ (q : Write). q .value) (r .2))
+          value = ident refl (ap (λ (q : Write). q .value) (r .2));
         }
+
     forwards : List·Memᴰ p (forwardsAsked l k s) → Slot l k s p
     forwards m =
         let r = map-in (λ (t : Step). write (forwardAt l (t .source)) (t .target)) (steps k s k) m in
         record {
-          cell = r .0 .source; word = 1; within = step-source k s k (r .1); fits = links-words l (r .0 .source) 1 (omega arith);
+          cell = r .0 .source;
+          word = 1;
+          within = step-source k s k (r .1);
+          fits = links-words l (r .0 .source) 1 (omega arith);
           at = ap (λ (q : Write). q .at) (r .2);
-          value = forward (r .0) refl (r .1) refl (ap (λ (q : Write). q .value) (r .2))
+          value = forward (r .0) refl (r .1) refl (ap (λ (q : Write). q .value) (r .2));
         }
+
     backs : List·Memᴰ p (backsAsked l k s) → Slot l k s p
     backs m =
         let r = map-in (λ (t : Step). write (backAt l (t .target)) (t .source)) (steps k s k) m in
         record {
-          cell = r .0 .target; word = 2; within = in-front k s (step-target k s k (r .1)); fits = links-words l (r .0 .target) 2 (omega arith);
+          cell = r .0 .target;
+          word = 2;
+          within = in-front k s (step-target k s k (r .1));
+          fits = links-words l (r .0 .target) 2 (omega arith);
           at = ap (λ (q : Write). q .at) (r .2);
-          value = back (r .0) refl (r .1) refl (ap (λ (q : Write). q .value) (r .2))
+          value = back (r .0) refl (r .1) refl (ap (λ (q : Write). q .value) (r .2));
         }
+
     counts : List·Memᴰ p (countAsked k s) → Slot l k s p
     counts (List·Memᴰ·head e) =
         record {
-          cell = k; word = 3; within = List·Memᴰ·head refl; fits = omega (arith, words-header l k h);
+          cell = k;
+          word = 3;
+          within = List·Memᴰ·head refl;
+          fits = omega (arith, words-header l k h);
           at = ap (λ (q : Write). q .at) e ∙ count-word l k h;
-          value = count refl refl (ap (λ (q : Write). q .value) e)
+          value = count refl refl (ap (λ (q : Write). q .value) e);
         }
     counts (List·Memᴰ·tail m) = absurd (elim m [ ])
 
@@ -142,6 +157,7 @@ slots-agree l k s a b {p} {q} x y e = by (ℕ-discrete (x .cell) (y .cell)) (ℕ
   where
     at : cellAt l (x .cell) + x .word ≡ cellAt l (y .cell) + y .word
     at = sym (x .at) ∙ e ∙ y .at
+
     by : Dec (x .cell ≡ y .cell) → Dec (x .word ≡ y .word) → p .value ≡ q .value
     by (yes c) (yes f) = one-value k s a b (x .cell) (y .cell) (x .word) (y .word) (p .value) (q .value) c f (x .value) (y .value)
     by (yes c) (no f) = absurd (words-apart l (x .cell) (y .cell) (x .word) (y .word) (λ _ g. f g) (x .fits) (y .fits) at)

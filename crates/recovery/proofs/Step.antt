@@ -33,6 +33,7 @@ wrong-in w (q ∷ ps) {p} m = by (λ r. wrong-in w ps r) (eqb (getD w (q .at) 0)
         → List·Memᴰ p (q ∷ wrong w ps) → List·Memᴰ p (q ∷ ps) × (getD w (p .at) 0 ≡ p .value → ⊥)
     cases below n (List·Memᴰ·head e) = (List·Memᴰ·head e, subst (λ (r : Write). getD w (r .at) 0 ≡ r .value → ⊥) (sym e) n)
     cases below n (List·Memᴰ·tail t) = let r = below t in (List·Memᴰ·tail (r .0), r .1)
+
     by : (List·Memᴰ p (wrong w ps) → List·Memᴰ p ps × (getD w (p .at) 0 ≡ p .value → ⊥)) → (b : Bool) → eqb (getD w (q .at) 0) (q .value) ≡ b
         → List·Memᴰ p (q ∷ ps) × (getD w (p .at) 0 ≡ p .value → ⊥)
     by below true e =
@@ -58,6 +59,7 @@ wrong-same w x (q ∷ ps) h = by (wrong-same w x ps (λ p m. h p (List·Memᴰ·
   where
     same-word : getD x (q .at) 0 ≡ getD w (q .at) 0
     same-word = h q (List·Memᴰ·head refl)
+
     by : wrong x ps ≡ wrong w ps → (b : Bool) → eqb (getD w (q .at) 0) (q .value) ≡ b → wrong x (q ∷ ps) ≡ wrong w (q ∷ ps)
     by r true e = wrong-right x q ps (same-word ∙ eqb-true _ _ e) ∙ r ∙ sym (wrong-right w q ps (eqb-true _ _ e))
     by r false e =
@@ -75,8 +77,8 @@ module _ (l : Layout) (w x : List ℕ) (k : ℕ) (h : k < l .lists) (s : List �
   asked-same =
       wrong-same w x (asked l k s)
       (λ p m.
-        let y = slot l k s h m in
-        ap (λ (a : ℕ). getD x a 0) (y .at) ∙ c (y .cell) (y .word) (y .within) (y .fits) ∙ ap (λ (a : ℕ). getD w a 0) (sym (y .at)))
+      let y = slot l k s h m in
+      ap (λ (a : ℕ). getD x a 0) (y .at) ∙ c (y .cell) (y .word) (y .within) (y .fits) ∙ ap (λ (a : ℕ). getD w a 0) (sym (y .at)))
 
   pub fits-same : Fits l w k s → Fits l x k s
   fits-same f = record { nodes = f .nodes; different = f .different; few = subst (λ (ps : List Write). length ps ≤ 1) (sym asked-same) (f .few) }
@@ -93,10 +95,11 @@ set-cells l w c f v cells h n d g m k =
 
 -- the header and the members of a sequence that fits are different cells
 pub ring-cells : (l : Layout) (k : ℕ) (s : List ℕ) → k < l .lists → All (Node l) s → Different s → Different (k ∷ s) × Different (s ++ k ∷ [])
-ring-cells l k s h n d =
-    ((apart, d),
-    different-append s (k ∷ []) d ((λ m. elim m [ ]), tt)
-    (λ x m m′. apart (subst (λ (c : ℕ). c ∈ s) (List·Memᴰ·eq-of-singleton m′) m)))
+ring-cells l k s h n d = (
+  (apart, d),
+  different-append s (k ∷ []) d ((λ m. elim m [ ]), tt)
+      (λ x m m′. apart (subst (λ (c : ℕ). c ∈ s) (List·Memᴰ·eq-of-singleton m′) m)),
+)
   where
     apart : k ∈ s → ⊥
     apart m = omega (arith, all-in (Node l) s n m .low)
@@ -137,6 +140,7 @@ module _ (l : Layout) (w : List ℕ) (exact : length w ≡ sizeOf l) (s : ℕ �
     where
       cells : Different (i ∷ s i) × Different (s i ++ i ∷ [])
       cells = ring-cells l i (s i) hi (a .fits i hi .nodes) (a .fits i hi .different)
+
       right : (p : Write) → List·Memᴰ p (asked l i (s i)) → getD x (p .at) 0 ≡ p .value
       right p m = by (ℕ-discrete (p .at) (q .at))
         where
@@ -144,7 +148,8 @@ module _ (l : Layout) (w : List ℕ) (exact : length w ≡ sizeOf l) (s : ℕ �
           kept n true d = getD-set-other w (q .at) (p .at) (q .value) 0 n ∙ eqb-true _ _ d
           kept n false d =
               absurd (n (ap (λ (r : Write). r .at)
-                (List·Memᴰ·eq-of-singleton (subst (λ (t : List Write). List·Memᴰ p t) e (in-wrong w (asked l i (s i)) m (eqb-false _ _ d))))))
+              (List·Memᴰ·eq-of-singleton (subst (λ (t : List Write). List·Memᴰ p t) e (in-wrong w (asked l i (s i)) m (eqb-false _ _ d))))))
+
           by : Dec (p .at ≡ q .at) → getD x (p .at) 0 ≡ p .value
           by (yes d) =
               ap (λ (n : ℕ). getD x n 0) d ∙ getD-set-same w (q .at) (q .value) 0 mend-inside
@@ -156,7 +161,7 @@ module _ (l : Layout) (w : List ℕ) (exact : length w ≡ sizeOf l) (s : ℕ �
       record {
         nodes = a .fits i hi .nodes;
         different = a .fits i hi .different;
-        few = omega (arith, ap length mend-own)
+        few = omega (arith, ap length mend-own);
       }
 
   -- cells that list i does not have keep their words
@@ -185,6 +190,7 @@ module _ (l : Layout) (w : List ℕ) (exact : length w ≡ sizeOf l) (s : ℕ �
           by : Dec (j ≡ i) → Fits l x j (s j)
           by (yes d) = subst (λ (m : ℕ). Fits l x m (s m)) (sym d) mend-fits
           by (no n) = fits-same l w x j hj (s j) (mend-other j hj n) (a .fits j hj)
+
       unique : (j : ℕ) → j < l .lists → (r : List ℕ) → Fits l x j r → r ≡ s j
       unique j hj r g = by (ℕ-discrete j i) (sequence-dec r (s j))
         where
@@ -193,19 +199,21 @@ module _ (l : Layout) (w : List ℕ) (exact : length w ≡ sizeOf l) (s : ℕ �
             where
               idents : All (λ c. getD x (identAt l c) 0 ≡ identOf i) (s i)
               idents = right-idents l x i (s i) (omega (arith, wrong-parts l x i (s i), ap length mend-own)) .1
+
               apart : (c : ℕ) → c ∈ (i ∷ s i) → c ∈ (j ∷ r) → ⊥
               apart c (List·Memᴰ·head e) (List·Memᴰ·head e′) = n (sym e′ ∙ e)
               apart c (List·Memᴰ·head e) (List·Memᴰ·tail m) = omega (arith, all-in (Node l) r (g .nodes) m .low)
               apart c (List·Memᴰ·tail m) (List·Memᴰ·head e) = omega (arith, all-in (Node l) (s i) (a .fits i hi .nodes) m .low)
               apart c (List·Memᴰ·tail m) (List·Memᴰ·tail m′) =
                   let z : 42400 + i ≡ 42400 + j =
-                        sym (all-in (λ c. getD x (identAt l c) 0 ≡ identOf i) (s i) idents m)
-                        ∙ all-in (λ c. getD x (identAt l c) 0 ≡ identOf j) r (whole .1) m′ in
+                  sym (all-in (λ c. getD x (identAt l c) 0 ≡ identOf i) (s i) idents m)
+                  ∙ all-in (λ c. getD x (identAt l c) 0 ≡ identOf j) r (whole .1) m′ in
                   n (omega arith)
+
           by : Dec (j ≡ i) → Dec (r ≡ s j) → r ≡ s j
           by k (yes d) = d
           by (yes k) (no d) =
               subst (λ (m : ℕ). (t : List ℕ) → Fits l x m t → t ≡ s m) (sym k) (right-unique l x i hi (s i) mend-fits mend-own) r g
           by (no n) (no d) =
               absurd (⊎-elim (λ v. rival n (v .first .header, v .first .idents) d) (λ v. rival n (v .second .header, v .second .idents) d)
-                (rivals l x j hj r (s j) g (fits j hj) d))
+              (rivals l x j hj r (s j) g (fits j hj) d))

@@ -86,6 +86,7 @@ module _ (l : Layout) (members : List ℕ) where
         where
           tested : (eqb (getD x (identAt l a) 0) 0 || isIn a members) ≡ (eqb (getD w (identAt l a) 0) 0 || isIn a members)
           tested = ap (λ (v : ℕ). eqb v 0 || isIn a members) (h a (omega arith) (isIn-in a members e))
+
           here : (b : Bool) → (eqb (getD w (identAt l a) 0) 0 || isIn a members) ≡ b → clears l x members a (suc n) ≡ clears l w members a (suc n)
           here true d = clear-skip x a n (tested ∙ d) ∙ r ∙ sym (clear-skip w a n d)
           here false d = clear-here x a n (tested ∙ d) ∙ ap (λ (t : List Write). write (identAt l a) 0 ∷ t) r ∙ sym (clear-here w a n d)
@@ -111,13 +112,14 @@ module _ (l : Layout) (members : List ℕ) where
       parts false false q = (refl, refl)
       parts false true q = absurd (true≢false q)
       parts true c q = absurd (true≢false q)
+
       by : (clears l w members (suc a) n ≡ p ∷ rest → Cleared w (suc a) n p rest) → (b : Bool) → (eqb (getD w (identAt l a) 0) 0 || isIn a members) ≡ b
           → Cleared w a (suc n) p rest
       by below true q =
           let r = below (sym (clear-skip w a n q) ∙ e) in
           let kept : getD (set w (p .at) (p .value)) (identAt l a) 0 ≡ getD w (identAt l a) 0 =
-                getD-set-other w (p .at) (identAt l a) (p .value) 0
-                (λ d. ident-apart l a (r .cell) (λ z. omega (arith, r .low)) (d ∙ ap (λ (t : Write). t .at) (r .store))) in
+          getD-set-other w (p .at) (identAt l a) (p .value) 0
+          (λ d. ident-apart l a (r .cell) (λ z. omega (arith, r .low)) (d ∙ ap (λ (t : Write). t .at) (r .store))) in
           record {
             cell = r .cell;
             low = omega (arith, r .low);
@@ -126,7 +128,7 @@ module _ (l : Layout) (members : List ℕ) where
             nonzero = r .nonzero;
             out = r .out;
             left =
-              clear-skip (set w (p .at) (p .value)) a n (ap (λ (v : ℕ). eqb v 0 || isIn a members) kept ∙ q) ∙ r .left
+                clear-skip (set w (p .at) (p .value)) a n (ap (λ (v : ℕ). eqb v 0 || isIn a members) kept ∙ q) ∙ r .left;
           }
       by below false q =
           let f : (write (identAt l a) 0 ∷ clears l w members (suc a) n) ≡ p ∷ rest = sym (clear-here w a n q) ∙ e in
@@ -143,11 +145,11 @@ module _ (l : Layout) (members : List ℕ) where
             nonzero = eqb-false _ _ (b .0);
             out = isIn-in a members (b .1);
             left =
-              subst (λ (t : Write). clears l (set w (t .at) (t .value)) members a (suc n) ≡ rest) p-is
-              (clear-skip x a n (rw (eq-eqb (getD x (identAt l a) 0) 0 zeroed))
-              ∙ clears-same w x (suc a) n
+                subst (λ (t : Write). clears l (set w (t .at) (t .value)) members a (suc n) ≡ rest) p-is
+                (clear-skip x a n (rw (eq-eqb (getD x (identAt l a) 0) 0 zeroed))
+                ∙ clears-same w x (suc a) n
                 (λ c h _. getD-set-other w (identAt l a) (identAt l c) 0 0 (λ d. ident-apart l c a (λ z. omega arith) d))
-              ∙ rest-is)
+                ∙ rest-is);
           }
 
 -- the plan from list k on
@@ -189,8 +191,8 @@ module _ (l : Layout) (s : ℕ → List ℕ) where
       by below (inl e) =
           ap (λ (t : List Write). t ++ storesFrom l w s (suc k) n) (ap (wrongAt w) e ∙ here)
           ∙ ap (λ (t : List Write). q ∷ t)
-            (sym (stores-same w x (suc k) n (λ j p r. others j (omega arith) (λ z. omega arith)) c)
-            ∙ ap (λ (t : List Write). t ++ storesFrom l x s (suc k) n) (sym (ap (wrongAt x) e ∙ after)))
+          (sym (stores-same w x (suc k) n (λ j p r. others j (omega arith) (λ z. omega arith)) c)
+          ∙ ap (λ (t : List Write). t ++ storesFrom l x s (suc k) n) (sym (ap (wrongAt x) e ∙ after)))
       by below (inr h) =
           ap (λ (t : List Write). t ++ storesFrom l w s (suc k) n) (before k h)
           ∙ below h
@@ -205,6 +207,7 @@ module _ (l : Layout) (s : ℕ → List ℕ) where
       some-below : (i : ℕ) × (i < n) × ((j : ℕ) → j < i → wrongAt w j ≡ []) × (wrongAt w i ≡ [] → ⊥)
           → ((j : ℕ) → j < suc n → wrongAt w j ≡ []) ⊎ ((i : ℕ) × (i < suc n) × ((j : ℕ) → j < i → wrongAt w j ≡ []) × (wrongAt w i ≡ [] → ⊥))
       some-below r = inr (r .0, omega (arith, r .1), r .2, r .3)
+
       none-below : ((j : ℕ) → j < n → wrongAt w j ≡ [])
           → ((j : ℕ) → j < suc n → wrongAt w j ≡ []) ⊎ ((i : ℕ) × (i < suc n) × ((j : ℕ) → j < i → wrongAt w j ≡ []) × (wrongAt w i ≡ [] → ⊥))
       none-below h = by (wrongAt w n) refl
@@ -236,14 +239,15 @@ module _ (l : Layout) (w : List ℕ) (exact : length w ≡ sizeOf l) (s : ℕ �
   -- a mend
   next-mend : (i : ℕ) → i < l .lists → ((j : ℕ) → j < i → wrong w (asked l j (s j)) ≡ []) → (q : Write) → wrong w (asked l i (s i)) ≡ q ∷ []
       → (recoverStores l w s ≡ q ∷ recoverStores l (store w q) s) × Accepted l (store w q) s × (q .at < length w) × (getD w (q .at) 0 ≡ q .value → ⊥)
-  next-mend i hi before q e =
-      (stores-mend l s w (store w q) i q 0 (l .lists) (omega arith) (omega arith) before e
+  next-mend i hi before q e = (
+    stores-mend l s w (store w q) i q 0 (l .lists) (omega arith) (omega arith) before e
         (mend-own l w exact s a i hi q e)
         (λ j h n. asked-same l w (store w q) j (omega arith) (s j) (mend-other l w exact s a i hi q e j (omega arith) n))
         (clears-same l members w (store w q) (firstNode l) (l .nodes) kept),
-      mend-accepted l w exact s a i hi q e,
-      mend-inside l w exact s a i hi q e,
-      wrong-in w (asked l i (s i)) (subst (λ (t : List Write). List·Memᴰ q t) (sym e) (List·Memᴰ·head refl)) .1)
+    mend-accepted l w exact s a i hi q e,
+    mend-inside l w exact s a i hi q e,
+    wrong-in w (asked l i (s i)) (subst (λ (t : List Write). List·Memᴰ q t) (sym e) (List·Memᴰ·head refl)) .1,
+  )
     where
       kept : (c : ℕ) → firstNode l ≤ c → (c ∈ members → ⊥) → getD (store w q) (identAt l c) 0 ≡ getD w (identAt l c) 0
       kept c h n =
@@ -266,13 +270,15 @@ module _ (l : Layout) (w : List ℕ) (exact : length w ≡ sizeOf l) (s : ℕ �
         inside = subst (λ (n : ℕ). n < length w) (sym (ap (λ (t : Write). t .at) (r .store))) (idents (r .cell) (r .low) (r .high));
         changes = λ z. r .nonzero (ap (λ (t : Write). getD w (t .at) 0) (sym (r .store)) ∙ z ∙ ap (λ (t : Write). t .value) (r .store));
         accepted = record { fits = fits; unique = λ j h. right-unique l (store w p) j h (s j) (fits j h) (still j h) };
-        left = stores-right l s (store w p) 0 (l .lists) (λ j _ h. still j (omega arith)) ∙ r .left
+        left = stores-right l s (store w p) 0 (l .lists) (λ j _ h. still j (omega arith)) ∙ r .left;
       }
     where
       idents : (c : ℕ) → firstNode l ≤ c → c < firstNode l + l .nodes → identAt l c < length w
       idents c low high = omega (arith, ident-word l c, word-fits l c 0 high (links-words l c 0 (omega arith)))
+
       r : Cleared l members w (firstNode l) (l .nodes) p rest
       r = clear-first l members w (firstNode l) (l .nodes) idents p rest e
+
       cells : (j : ℕ) → j < l .lists → SameCells l w (store w p) (j ∷ s j)
       cells j h =
           subst (λ (t : Write). SameCells l w (store w t) (j ∷ s j)) (sym (r .store))
@@ -282,8 +288,10 @@ module _ (l : Layout) (w : List ℕ) (exact : length w ≡ sizeOf l) (s : ℕ �
           out : r .cell ∈ (j ∷ s j) → ⊥
           out (List·Memᴰ·head z) = omega (arith, r .low)
           out (List·Memᴰ·tail m) = r .out (one-joined s (l .lists) j (r .cell) h m)
+
       still : (j : ℕ) → j < l .lists → wrong (store w p) (asked l j (s j)) ≡ []
       still j h = asked-same l w (store w p) j h (s j) (cells j h) ∙ right j h
+
       fits : (j : ℕ) → j < l .lists → Fits l (store w p) j (s j)
       fits j h = fits-same l w (store w p) j h (s j) (cells j h) (a .fits j h)
 
@@ -292,6 +300,7 @@ module _ (l : Layout) (w : List ℕ) (exact : length w ≡ sizeOf l) (s : ℕ �
     where
       clear : ((j : ℕ) → j < l .lists → wrong w (asked l j (s j)) ≡ []) → Next l w s p rest
       clear right = next-clear right p rest (sym (stores-right l s w 0 (l .lists) (λ j _ h. right j (omega arith))) ∙ e)
+
       mend : (i : ℕ) × (i < l .lists) × ((j : ℕ) → j < i → wrong w (asked l j (s j)) ≡ []) × (wrong w (asked l i (s i)) ≡ [] → ⊥) → Next l w s p rest
       mend f =
           let o = one-wrong (f .0) (f .1) (f .3) in
@@ -305,7 +314,7 @@ module _ (l : Layout) (w : List ℕ) (exact : length w ≡ sizeOf l) (s : ℕ �
 pub suffix
     : (l : Layout) (s : ℕ → List ℕ) (t : ℕ) (w : List ℕ) → length w ≡ sizeOf l → Accepted l w s
     → Accepted l (applied (recoverStores l w s) t w) s
-      × (recoverStores l (applied (recoverStores l w s) t w) s ≡ drop t (recoverStores l w s))
+    × (recoverStores l (applied (recoverStores l w s) t w) s ≡ drop t (recoverStores l w s))
 unfolding run
 suffix l s zero w e a = by (recoverStores l w s) refl
   where
@@ -315,15 +324,15 @@ suffix l s zero w e a = by (recoverStores l w s) refl
     by (p ∷ ps) q = (a, q)
 suffix l s (suc t) w e a = by (recoverStores l w s) refl
     (λ p ps q.
-      let n = next l w e s a p ps q in
-      let r = suffix l s t (store w p) (length-set w (p .at) (p .value) ∙ e) (n .accepted) in
-      subst (λ (qs : List Write). Accepted l (applied qs t (store w p)) s × (recoverStores l (applied qs t (store w p)) s ≡ drop t qs)) (n .left) r)
+    let n = next l w e s a p ps q in
+    let r = suffix l s t (store w p) (length-set w (p .at) (p .value) ∙ e) (n .accepted) in
+    subst (λ (qs : List Write). Accepted l (applied qs t (store w p)) s × (recoverStores l (applied qs t (store w p)) s ≡ drop t qs)) (n .left) r)
   where
     by : (ps : List Write) → recoverStores l w s ≡ ps
         → ((p : Write) (rest : List Write) → recoverStores l w s ≡ p ∷ rest
-          → Accepted l (applied rest t (store w p)) s × (recoverStores l (applied rest t (store w p)) s ≡ drop t rest))
+        → Accepted l (applied rest t (store w p)) s × (recoverStores l (applied rest t (store w p)) s ≡ drop t rest))
         → Accepted l (applied (recoverStores l w s) (suc t) w) s
-          × (recoverStores l (applied (recoverStores l w s) (suc t) w) s ≡ drop (suc t) (recoverStores l w s))
+        × (recoverStores l (applied (recoverStores l w s) (suc t) w) s ≡ drop (suc t) (recoverStores l w s))
     by [] q h =
         subst (λ (ps : List Write). Accepted l (applied ps (suc t) w) s × (recoverStores l (applied ps (suc t) w) s ≡ drop (suc t) ps)) (sym q) (a, q)
     by (p ∷ ps) q h =

@@ -93,6 +93,7 @@ none-clear l w ms a (suc n) e c p q o = by (eqb (getD w (identAt l a) 0) 0 || is
     parts : (b d : Bool) → (b || d) ≡ true → (b ≡ true) ⊎ (d ≡ true)
     parts true d z = inl refl
     parts false d z = inr z
+
     by : (b : Bool) → (eqb (getD w (identAt l a) 0) 0 || isIn a ms) ≡ b
         → (clears l w ms (suc a) n ≡ [] → suc a ≤ c → getD w (identAt l c) 0 ≡ 0) → (a ≡ c) ⊎ (a < c) → getD w (identAt l c) 0 ≡ 0
     by true z below (inl d) =
@@ -116,21 +117,23 @@ clear-none l w ms a (suc n) h =
 -- an accepted store with nothing to do is sound
 pub settled-sound : (l : Layout) (w : List ℕ) (s : ℕ → List ℕ) → Accepted l w s → recoverStores l w s ≡ [] → (x : SoundLists l w) × (x .sequence ≡ s)
 settled-sound l w s a e =
-    let r = none-wrong l w s 0 (l .lists) e in
-    (record {
-      sequence = s;
-      lists =
-        λ k h.
-        record {
-          nodes = a .fits k h .nodes;
-          different = a .fits k h .different;
-          agrees = wrong-agrees w (asked l k (s k)) (ap length (r .0 k (omega arith) (omega arith)))
-        };
-      outside =
-        λ i n q.
-        none-clear l w (joined s (l .lists)) (firstNode l) (l .nodes) (r .1) i (n .low) (n .high)
-        (λ m. let j = joined-one s (l .lists) i m in q (j .0) (j .1) (j .2))
-    }, refl)
+    let r = none-wrong l w s 0 (l .lists) e in (
+      record {
+        sequence = s;
+        lists =
+            λ k h.
+            record {
+              nodes = a .fits k h .nodes;
+              different = a .fits k h .different;
+              agrees = wrong-agrees w (asked l k (s k)) (ap length (r .0 k (omega arith) (omega arith)));
+            };
+        outside =
+            λ i n q.
+            none-clear l w (joined s (l .lists)) (firstNode l) (l .nodes) (r .1) i (n .low) (n .high)
+            (λ m. let j = joined-one s (l .lists) i m in q (j .0) (j .1) (j .2));
+      },
+      refl,
+    )
 
 -- so a whole run leaves an accepted store sound
 pub whole-sound : (l : Layout) (w : List ℕ) (s : ℕ → List ℕ) → length w ≡ sizeOf l → Accepted l w s
@@ -151,7 +154,7 @@ sound-accepted l w x =
         record {
           nodes = x .lists k h .nodes;
           different = x .lists k h .different;
-          few = omega (arith, ap length (agrees-wrong w (asked l k (x .sequence k)) (x .lists k h .agrees)))
+          few = omega (arith, ap length (agrees-wrong w (asked l k (x .sequence k)) (x .lists k h .agrees)));
         }
 
 pub sound-settled : (l : Layout) (w : List ℕ) (x : SoundLists l w) → recoverStores l w (x .sequence) ≡ []

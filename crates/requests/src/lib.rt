@@ -95,11 +95,25 @@ fn member(forwards: &[u16], l: Layout, k: u16, n: u16, p: u16) -> Sited
     let before = survey::cell_before(forwards, l, k, p);
     let cell = forwards[before as usize];
     let after = forwards[cell as usize];
-    Sited::At(Site { before, cell, after, count: n })
+    Sited::At(Site {
+        before,
+        cell,
+        after,
+        count: n,
+    })
 }
 
 // The gap of list k, which has n members, at position p, and a free cell.
-fn gap(idents: &[u16], forwards: &[u16], l: Layout, k: u16, n: u16, p: u16, start: u16, size: usize) -> Sited
+fn gap(
+    idents: &[u16],
+    forwards: &[u16],
+    l: Layout,
+    k: u16,
+    n: u16,
+    p: u16,
+    start: u16,
+    size: usize,
+) -> Sited
     requires { ⌜ Closed l (now forwards) k n × (length (now idents) ≡ cellCount l) ⌝ }
     ensures { λ r. ⌜ r ≡ gapAt l (λ c. getD (now (idents .entry)) c 0) k p start size (sequenceBy l (now (forwards .entry)) k) ⌝ }
 {
@@ -116,13 +130,25 @@ fn gap(idents: &[u16], forwards: &[u16], l: Layout, k: u16, n: u16, p: u16, star
         Free::Full => Sited::Refused(10),
         Free::Cell(cell) => {
             let before = survey::cell_before(forwards, l, k, p);
-            Sited::At(Site { before, cell, after: forwards[before as usize], count: n })
+            Sited::At(Site {
+                before,
+                cell,
+                after: forwards[before as usize],
+                count: n,
+            })
         }
     }
 }
 
 // The site that a request gets, by the columns and the counts.
-pub fn site_by(idents: &[u16], forwards: &[u16], backs: &[u16], counts: [u16; 8], l: Layout, q: Request) -> Sited
+pub fn site_by(
+    idents: &[u16],
+    forwards: &[u16],
+    backs: &[u16],
+    counts: [u16; 8],
+    l: Layout,
+    q: Request,
+) -> Sited
     requires { ⌜ Columns l (now idents) (now forwards) (now backs) ⌝ }
     ensures { λ r. ⌜ r ≡ siteIn l (columns (now (idents .entry)) (now (forwards .entry)) (now (backs .entry))) (λ k. getD counts k 0) q ⌝ }
 {
@@ -135,15 +161,32 @@ pub fn site_by(idents: &[u16], forwards: &[u16], backs: &[u16], counts: [u16; 8]
     }
     let n = counts[k as usize];
     match q {
-        Request::Check => Sited::At(Site { before: 0, cell: 0, after: 0, count: 0 }),
-        Request::Whole(k) => Sited::At(Site { before: k, cell: k, after: k, count: n }),
+        Request::Check => Sited::At(Site {
+            before: 0,
+            cell: 0,
+            after: 0,
+            count: 0,
+        }),
+        Request::Whole(k) => Sited::At(Site {
+            before: k,
+            cell: k,
+            after: k,
+            count: n,
+        }),
         Request::Member(k, p) => member(forwards, l, k, n, p),
         Request::Gap(k, p, start, size) => gap(idents, forwards, l, k, n, p, start, size),
     }
 }
 
 // The same by the lent words, which are read into the columns.
-fn site_in(words: &[u16], l: Layout, q: Request, idents: &mut [u16], forwards: &mut [u16], backs: &mut [u16]) -> Sited
+fn site_in(
+    words: &[u16],
+    l: Layout,
+    q: Request,
+    idents: &mut [u16],
+    forwards: &mut [u16],
+    backs: &mut [u16],
+) -> Sited
     requires { ⌜ Laid l (now words) × Columns l (now idents) (now forwards) (now backs) ⌝ }
     ensures { λ r. ⌜ r ≡ siteOf l (now (words .entry)) q ⌝ }
 {
@@ -159,7 +202,14 @@ fn site_of(words: &[u16], l: Layout, q: Request) -> Sited
     let mut idents = survey::column();
     let mut forwards = survey::column();
     let mut backs = survey::column();
-    site_in(words, l, q, &mut idents[..n], &mut forwards[..n], &mut backs[..n])
+    site_in(
+        words,
+        l,
+        q,
+        &mut idents[..n],
+        &mut forwards[..n],
+        &mut backs[..n],
+    )
 }
 
 // All questions of a call, put to the lent words.

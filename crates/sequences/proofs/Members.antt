@@ -46,6 +46,7 @@ member? x (y ∷ s) = by (ℕ-discrete x y) (member? x s)
     cases : (x ∈ s → ⊥) → (x ≡ y → ⊥) → x ∈ (y ∷ s) → ⊥
     cases h k (List·Memᴰ·head e) = k e
     cases h k (List·Memᴰ·tail m) = h m
+
     by : Dec (x ≡ y) → (x ∈ s) ⊎ (x ∈ s → ⊥) → (x ∈ (y ∷ s)) ⊎ (x ∈ (y ∷ s) → ⊥)
     by (yes e) r = inl (List·Memᴰ·head e)
     by (no k) (inl m) = inl (List·Memᴰ·tail m)
@@ -65,9 +66,10 @@ all-nth P (x ∷ s) (suc i) d h k = all-nth P s i d (h .1) (omega arith)
 -- two sequences of different members that share none, one behind the other
 pub different-append : (s t : List ℕ) → Different s → Different t → ((x : ℕ) → x ∈ s → x ∈ t → ⊥) → Different (s ++ t)
 different-append [] t ds dt h = dt
-different-append (x ∷ s) t ds dt h =
-    (λ m. ⊎-elim (ds .0) (h x (List·Memᴰ·head refl)) (List·Memᴰ·append-cases s m),
-    different-append s t (ds .1) dt (λ y m. h y (List·Memᴰ·tail m)))
+different-append (x ∷ s) t ds dt h = (
+  λ m. ⊎-elim (ds .0) (h x (List·Memᴰ·head refl)) (List·Memᴰ·append-cases s m),
+  different-append s t (ds .1) dt (λ y m. h y (List·Memᴰ·tail m)),
+)
 
 -- a cell in front of a sequence or behind it
 pub in-front : (k : ℕ) (s : List ℕ) {x : ℕ} → x ∈ (s ++ k ∷ []) → x ∈ (k ∷ s)

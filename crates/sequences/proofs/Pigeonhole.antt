@@ -35,8 +35,8 @@ pub pigeonhole : (s t : List ℕ) → Different s → ((x : ℕ) → x ∈ s →
 pigeonhole [] t d h = zero-le
 pigeonhole (x ∷ s) t d h =
     let r : length s ≤ length (without x t) =
-          pigeonhole s (without x t) (d .1)
-          (λ z m. in-without x z t (λ e. d .0 (subst (λ (y : ℕ). y ∈ s) e m)) (h z (List·Memᴰ·tail m))) in
+    pigeonhole s (without x t) (d .1)
+    (λ z m. in-without x z t (λ e. d .0 (subst (λ (y : ℕ). y ∈ s) e m)) (h z (List·Memᴰ·tail m))) in
     omega (arith, length-without x t (h x (List·Memᴰ·head refl)))
 
 -- one member of t that is not in s makes it more

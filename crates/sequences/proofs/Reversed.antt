@@ -49,7 +49,7 @@ module _ (link : ℕ → ℕ) (inside : ℕ → Bool) where
       → reverse (trail link inside n (link z)) ≡ s
   backs-trail n x s z h o p k =
       ap reverse (leads-trail link inside n z (reverse s) x (all-reverse (λ y. inside y ≡ true) s h) o (backward-forward link x s z p)
-        (omega (arith, length-reverse s)))
+      (omega (arith, length-reverse s)))
       ∙ reverse-reverse s
 
   pub backs-different

@@ -52,9 +52,10 @@ module _ (c : ℕ) (t : List ℕ) (z : ℕ) where
       rest [] b h d p = (b, tt)
       rest (y ∷ t) b h d p =
           (b, forward-same f f′ y t z (λ q m. h q (List·Memᴰ·tail m) (λ e. d .0 (subst (λ (n : ℕ). n ∈ (y ∷ t)) e m))) (p .1))
-  splice-forward f f′ x (y ∷ r) d h a b p =
-      (h x (List·Memᴰ·head refl) (λ e. d .0 (subst (λ (n : ℕ). n ∈ (y ∷ r ++ t)) (sym e) (Memᴰ·append-left t (last-in y r)))) ∙ p .0,
-      splice-forward f f′ y r (d .1) (λ q m. h q (List·Memᴰ·tail m)) a b (p .1))
+  splice-forward f f′ x (y ∷ r) d h a b p = (
+    h x (List·Memᴰ·head refl) (λ e. d .0 (subst (λ (n : ℕ). n ∈ (y ∷ r ++ t)) (sym e) (Memᴰ·append-left t (last-in y r)))) ∙ p .0,
+    splice-forward f f′ y r (d .1) (λ q m. h q (List·Memᴰ·tail m)) a b (p .1),
+  )
 
   pub splice-backward
       : (g g′ : ℕ → ℕ) (x : ℕ) (r : List ℕ) → Different (r ++ (t ++ z ∷ []))
@@ -68,9 +69,10 @@ module _ (c : ℕ) (t : List ℕ) (z : ℕ) where
       rest [] b h d p = (b, tt)
       rest (y ∷ t) b h d p =
           (b, backward-same g g′ y t z (λ q m. h q (List·Memᴰ·tail m) (λ e. d .0 (subst (λ (n : ℕ). n ∈ (t ++ z ∷ [])) e m))) (p .1))
-  splice-backward g g′ x (y ∷ r) d h b a p =
-      (h y (List·Memᴰ·head refl) (λ e. d .0 (subst (λ (n : ℕ). n ∈ (r ++ (t ++ z ∷ []))) (sym e) (Memᴰ·append-right r (first-in t z)))) ∙ p .0,
-      splice-backward g g′ y r (d .1) (λ q m. h q (List·Memᴰ·tail m)) b a (p .1))
+  splice-backward g g′ x (y ∷ r) d h b a p = (
+    h y (List·Memᴰ·head refl) (λ e. d .0 (subst (λ (n : ℕ). n ∈ (r ++ (t ++ z ∷ []))) (sym e) (Memᴰ·append-right r (first-in t z)))) ∙ p .0,
+    splice-backward g g′ y r (d .1) (λ q m. h q (List·Memᴰ·tail m)) b a (p .1),
+  )
 
   pub cut-forward
       : (f f′ : ℕ → ℕ) (x : ℕ) (r : List ℕ) → Different (x ∷ r ++ t)
@@ -84,9 +86,10 @@ module _ (c : ℕ) (t : List ℕ) (z : ℕ) where
       rest [] b h d p = (b, tt)
       rest (y ∷ t) b h d p =
           (b, forward-same f f′ y t z (λ q m. h q (List·Memᴰ·tail m) (λ e. d .0 (subst (λ (n : ℕ). n ∈ (y ∷ t)) e m))) (p .1))
-  cut-forward f f′ x (y ∷ r) d h b p =
-      (h x (List·Memᴰ·head refl) (λ e. d .0 (subst (λ (n : ℕ). n ∈ (y ∷ r ++ t)) (sym e) (Memᴰ·append-left t (last-in y r)))) ∙ p .0,
-      cut-forward f f′ y r (d .1) (λ q m. h q (List·Memᴰ·tail m)) b (p .1))
+  cut-forward f f′ x (y ∷ r) d h b p = (
+    h x (List·Memᴰ·head refl) (λ e. d .0 (subst (λ (n : ℕ). n ∈ (y ∷ r ++ t)) (sym e) (Memᴰ·append-left t (last-in y r)))) ∙ p .0,
+    cut-forward f f′ y r (d .1) (λ q m. h q (List·Memᴰ·tail m)) b (p .1),
+  )
 
   pub cut-backward
       : (g g′ : ℕ → ℕ) (x : ℕ) (r : List ℕ) → Different (r ++ (t ++ z ∷ []))
@@ -100,9 +103,10 @@ module _ (c : ℕ) (t : List ℕ) (z : ℕ) where
       rest [] a h d p = (a, tt)
       rest (y ∷ t) a h d p =
           (a, backward-same g g′ y t z (λ q m. h q (List·Memᴰ·tail m) (λ e. d .0 (subst (λ (n : ℕ). n ∈ (t ++ z ∷ [])) e m))) (p .1))
-  cut-backward g g′ x (y ∷ r) d h a p =
-      (h y (List·Memᴰ·head refl) (λ e. d .0 (subst (λ (n : ℕ). n ∈ (r ++ (t ++ z ∷ []))) (sym e) (Memᴰ·append-right r (first-in t z)))) ∙ p .0,
-      cut-backward g g′ y r (d .1) (λ q m. h q (List·Memᴰ·tail m)) a (p .1))
+  cut-backward g g′ x (y ∷ r) d h a p = (
+    h y (List·Memᴰ·head refl) (λ e. d .0 (subst (λ (n : ℕ). n ∈ (r ++ (t ++ z ∷ []))) (sym e) (Memᴰ·append-right r (first-in t z)))) ∙ p .0,
+    cut-backward g g′ y r (d .1) (λ q m. h q (List·Memᴰ·tail m)) a (p .1),
+  )
 
 -- the link of the cell in front of a position is the cell at it
 pub forward-at : (f : ℕ → ℕ) (x : ℕ) (s : List ℕ) (z p : ℕ) → Forward f x s z → p ≤ length s → f (getD (x ∷ s) p 0) ≡ getD (s ++ z ∷ []) p 0

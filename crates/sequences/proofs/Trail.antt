@@ -71,8 +71,8 @@ module _ (link : ℕ → ℕ) (inside : ℕ → Bool) where
       again m =
           let r = leads-from y s z y (h .1) (p .1) m in
           let e : s ≡ r .0 =
-                sym (leads-trail (length s) y s z (h .1) o (p .1) (omega arith))
-                ∙ leads-trail (length s) y (r .0) z (r .1) o (r .2) (omega (arith, r .3)) in
+          sym (leads-trail (length s) y s z (h .1) o (p .1) (omega arith))
+          ∙ leads-trail (length s) y (r .0) z (r .1) o (r .2) (omega (arith, r .3)) in
           omega (arith, r .3, ap length e)
 
   -- each cell of a trail is the link of the one before it
@@ -83,7 +83,7 @@ module _ (link : ℕ → ℕ) (inside : ℕ → Bool) where
     where
       by : (b : Bool) → inside (link x) ≡ b → (i : ℕ)
           → ((j : ℕ) → j < length (trail link inside n (link (link x)))
-            → getD (trail link inside n (link (link x))) j 0 ≡ link (getD (link x ∷ trail link inside n (link (link x))) j 0))
+          → getD (trail link inside n (link (link x))) j 0 ≡ link (getD (link x ∷ trail link inside n (link (link x))) j 0))
           → i < length (trail link inside (suc n) (link x))
           → getD (trail link inside (suc n) (link x)) i 0 ≡ link (getD (x ∷ trail link inside (suc n) (link x)) i 0)
       by true e zero below = rw (trail-on n (link x) e) (λ h. refl)

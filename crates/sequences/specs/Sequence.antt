@@ -9,7 +9,6 @@ abbrev pub _∈_ : ℕ → List ℕ → Type 0
 x ∈ s = List·Memᴰ x s
 
 infix 20 _∈_
-
 -- every member has the property
 abbrev pub All {ℓ} : {A : Type ℓ} → (A → Type 0) → List A → Type 0
 All P [] = Unit {0}

@@ -162,12 +162,12 @@ held-more n at vs len a v ps few h g =
       len = omega (arith, h .len, length-append ps (write a v ∷ []));
       few = omega (arith, h .len, length-append ps (write a v ∷ []));
       same =
-        ap₂ writesOf (ap (λ (m : ℕ). take m (set at len a)) (add-one len) ∙ take-suc-set at len a (omega (arith, h .at)))
+          ap₂ writesOf (ap (λ (m : ℕ). take m (set at len a)) (add-one len) ∙ take-suc-set at len a (omega (arith, h .at)))
           (ap (λ (m : ℕ). take m (set vs len v)) (add-one len) ∙ take-suc-set vs len v (omega (arith, h .values)))
-        ∙ writes-snoc (take len at) (take len vs) a v
+          ∙ writes-snoc (take len at) (take len vs) a v
           (length-take-le len at (omega (arith, h .at)) ∙ sym (length-take-le len vs (omega (arith, h .values))))
-        ∙ ap (λ (t : List Write). t ++ write a v ∷ []) (h .same);
-      inside = all-append (λ (p : Write). p .at < n) ps (write a v ∷ []) (h .inside) (g, tt)
+          ∙ ap (λ (t : List Write). t ++ write a v ∷ []) (h .same);
+      inside = all-append (λ (p : Write). p .at < n) ps (write a v ∷ []) (h .inside) (g, tt);
     }
 
 -- what is written behind the last store changes none
@@ -209,9 +209,9 @@ rows-planned n at vs e h =
     record {
       rows = e;
       inside =
-        λ i k.
-        subst (λ (p : Write). p .at < n) (writes-at at vs i e k)
-        (all-nth (λ (p : Write). p .at < n) (writesOf at vs) i (write 0 0) h (omega (arith, length-writes at vs e)))
+          λ i k.
+          subst (λ (p : Write). p .at < n) (writes-at at vs i e k)
+          (all-nth (λ (p : Write). p .at < n) (writesOf at vs) i (write 0 0) h (omega (arith, length-writes at vs e)));
     }
 
 pub held-planned : (n : ℕ) (r : Rows) (ps : List Write) → Held n r ps → Planned n (take (r .len) (r .at)) (take (r .len) (r .values))

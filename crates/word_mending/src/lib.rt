@@ -11,7 +11,14 @@ ghost use Rattle.recovery.specs.Plan.{recoverOf};
 ghost use Rattle.mending.specs.Mending.{listed, Listed, planOf};
 
 // Makes the stores that were found, up to the allowance.
-fn make(words: &mut [u16], f: Finding, l: Layout, at: &[u16], values: &[u16], allowance: u16) -> Answer
+fn make(
+    words: &mut [u16],
+    f: Finding,
+    l: Layout,
+    at: &[u16],
+    values: &[u16],
+    allowance: u16,
+) -> Answer
     requires { ⌜ InRange l × (length (now words) ≡ sizeOf l) × Listed l (now at) (now values) (f .stores) (listed (f .stores) (now at) (now values)) ⌝ }
     ensures answer { λ r. ⌜ r ≡ answerOf (planOf f (now (at .entry)) (now (values .entry))) allowance ⌝ }
     ensures words { λ _. ⌜ now (words .exit) ≡ wordsAfter (planOf f (now (at .entry)) (now (values .entry))) allowance (now (words .entry)) ⌝ }
@@ -52,5 +59,12 @@ pub fn recover_in(words: &mut [u16], l: Layout, allowance: u16) -> Answer
     let mut idents = survey::column();
     let mut forwards = survey::column();
     let mut backs = survey::column();
-    recover_with(words, l, &mut idents[..n], &mut forwards[..n], &mut backs[..n], allowance)
+    recover_with(
+        words,
+        l,
+        &mut idents[..n],
+        &mut forwards[..n],
+        &mut backs[..n],
+        allowance,
+    )
 }

@@ -30,8 +30,11 @@ returns-3 : tie.Need-returns-3
 unfolding byteFormat formatPlan
 returns-3 c =
     let b = c .before .before .before .before .before .before .args .store .now in
-    rw (eq-eqb (length b % 2) 0 (c .before .before .before .before .if1 .left), answered-yes (c .before .before .before .in-range .ensures) (c .before .before .if2 .left),
-      ne-eqb (length (wordsIn b)) _ (λ e. c .if3 .taken (sym (length-words b) ∙ e ∙ sym (c .before .size .ensures)))) (refl, refl)
+    rw (
+      eq-eqb (length b % 2) 0 (c .before .before .before .before .if1 .left),
+      answered-yes (c .before .before .before .in-range .ensures) (c .before .before .if2 .left),
+      ne-eqb (length (wordsIn b)) _ (λ e. c .if3 .taken (sym (length-words b) ∙ e ∙ sym (c .before .size .ensures))),
+    ) (refl, refl)
 
 fill-requires : tie.Need-fill-requires
 fill-requires c κs =

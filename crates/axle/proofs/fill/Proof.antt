@@ -36,13 +36,13 @@ written-more : (bytes₀ : List ℕ) (l : Layout) (bytes next : List ℕ) (i v :
     → v ≡ getD (formatted l) i 0 → length next ≡ length bytes → next ≡ run (byteWrites (write i v ∷ [])) bytes
     → Written bytes₀ l next (i + 1)
 written-more bytes₀ l bytes next i v w h e n p = (
-      w .0,
-      omega arith,
-      n ∙ w .2,
-      p
+  w .0,
+  omega arith,
+  n ∙ w .2,
+  p
       ∙ ap₂ (λ (v : ℕ) (b : List ℕ). run (byteWrites (write i v ∷ [])) b) e (w .3)
       ∙ filled-next (formatted l) bytes₀ i (omega (arith, length-formatted l)),
-    )
+)
 
 abbrev Inv-loop : tie.InvT-loop
 Inv-loop bytes₀ l i₀ bytes i = Written bytes₀ l bytes i × (i ≤ headerAt (l .lists))
@@ -83,9 +83,11 @@ loop-again : tie.Need-loop-again Inv-loop μ-loop Inv-loop2 μ-loop2
 loop-again c =
     let a = c .before .before .before .before .before .before .before .before .before .args in
     let t = c .before .before .before .before .before .before .before .loop in
-    let p = c .before .before .put in
-    (written-more (a .bytes .now) (a .l) (t .bytes) _ (t .i) _ (t .inv .0) (omega (arith, headers-fit (a .l)))
-    (c .before .before .before .initial .ensures) (p .kept .0) (p .ensures), omega arith)
+    let p = c .before .before .put in (
+      written-more (a .bytes .now) (a .l) (t .bytes) _ (t .i) _ (t .inv .0) (omega (arith, headers-fit (a .l)))
+          (c .before .before .before .initial .ensures) (p .kept .0) (p .ensures),
+      omega arith,
+    )
 
 loop2-holds : tie.Need-loop2-holds Inv-loop μ-loop Inv-loop2 μ-loop2
 loop2-holds c = (λ b w. w, omega arith)
@@ -111,9 +113,11 @@ loop2-again c =
     let a = c .before .before .before .before .before .before .before .before .before .before .before .args in
     let t = c .before .before .before .before .before .before .loop2 in
     let p = c .before .before .put2 in
-    let h : t .i < sizeOf (a .l) = omega arith in
-    (λ b w. written-more b (a .l) (t .bytes) _ (t .i) _ (t .inv .0 b w) h
-    (sym (formatted-node (a .l) (t .i) (t .inv .1))) (p .kept .0) (p .ensures), omega arith)
+    let h : t .i < sizeOf (a .l) = omega arith in (
+      λ b w. written-more b (a .l) (t .bytes) _ (t .i) _ (t .inv .0 b w) h
+          (sym (formatted-node (a .l) (t .i) (t .inv .1))) (p .kept .0) (p .ensures),
+      omega arith,
+    )
 
 same-length : tie.Need-same-length Inv-loop μ-loop Inv-loop2 μ-loop2
 same-length c =

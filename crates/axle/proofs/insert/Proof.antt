@@ -77,7 +77,7 @@ returns c =
     let a = c .before .before .before .before .before .before .before .before .args in
     byte-refused (a .allowance) (a .bytes .now)
     (insert-refused (wordsIn (a .bytes .now)) (a .list) (a .position) (a .start) (recordWords (a .rec .now))
-      (ap (λ (n : ℕ). lookOf (wordsIn (a .bytes .now)) (Gap (a .list) (a .position) (a .start) n)) (sym (c .before .before .before .before .before .record-size .ensures)) ∙ sym (c .before .before .before .look .ensures) ∙ c .before .r .given .1))
+    (ap (λ (n : ℕ). lookOf (wordsIn (a .bytes .now)) (Gap (a .list) (a .position) (a .start) n)) (sym (c .before .before .before .before .before .record-size .ensures)) ∙ sym (c .before .before .before .look .ensures) ∙ c .before .r .given .1))
 
 same-length-2 : tie.Need-same-length-2
 same-length-2 c = search needs
@@ -89,7 +89,7 @@ returns-2 c =
     let r = c .before .before .run-rows in
     byte-run (a .allowance) (a .bytes .now)
     (insert-at (wordsIn (a .bytes .now)) (a .list) (a .position) (a .start) (recordWords (a .rec .now)) (found (c .before .before .before .before .before .before .before))
-      ∙ ap (λ (x : List ℕ). stores (insertWrites (l .0) (a .list) (l .1 .0) x)) (sym (c .before .before .before .before .before .before .record-of .ensures .1)))
+    ∙ ap (λ (x : List ℕ). stores (insertWrites (l .0) (a .list) (l .1 .0) x)) (sym (c .before .before .before .before .before .before .record-of .ensures .1)))
     (c .before .before .before .insert-rows .ensures) (r .ensures .0) (r .ensures .1)
 
 pub insert-spec : {M : Type 1} → statement M

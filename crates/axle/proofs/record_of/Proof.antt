@@ -11,7 +11,7 @@ use Rattle.axle.proofs.record_of.Statement.{statement}
 use Rattle.axle.proofs.record_of.Tie as tie
 
 abbrev Inv-loop : tie.InvT-loop
-Inv-loop rec n words₀ i₀ words i = 
+Inv-loop rec n words₀ i₀ words i =
     (i ≤ n) × (n ≡ length (recordWords rec)) × (n ≤ 13) × (length words ≡ 13) × (take i words ≡ take i (recordWords rec))
 
 abbrev μ-loop : tie.MeasureT-loop
@@ -45,16 +45,17 @@ loop-again c =
       t .inv .2,
       length-set (t .words) (t .i) _ ∙ t .inv .3,
       ap (λ (x : ℕ). take (t .i + 1) (set (t .words) (t .i) x)) e
-      ∙ copied-more (t .words) (recordWords r) (t .i) (omega arith) (omega arith) (t .inv .4),
+          ∙ copied-more (t .words) (recordWords r) (t .i) (omega arith) (omega arith) (t .inv .4),
     )
 
 returns : tie.Need-returns Inv-loop μ-loop
 returns c =
     let a = c .before .before .before .args in
     let t = c .before .loop in
-    let e : t .i ≡ a .n = omega arith in
-    (sym (t .inv .3),
-    subst (λ (m : ℕ). take m (t .words) ≡ take m (recordWords (a .rec .now))) e (t .inv .4) ∙ take-all (a .n) (recordWords (a .rec .now)) (omega arith))
+    let e : t .i ≡ a .n = omega arith in (
+      sym (t .inv .3),
+      subst (λ (m : ℕ). take m (t .words) ≡ take m (recordWords (a .rec .now))) e (t .inv .4) ∙ take-all (a .n) (recordWords (a .rec .now)) (omega arith),
+    )
 
 pub record-of-spec : {M : Type 1} → statement M
 record-of-spec =

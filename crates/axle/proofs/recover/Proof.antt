@@ -46,9 +46,10 @@ returns-2 c =
     let r = c .before .before .recover-in in
     let l = c .before .before .before .before .before in
     let a = l .before .before .before .before .before .args in
-    let e = recover-open (wordsIn (a .bytes .now)) (is-open l) in
-    (r .ensures .0 ∙ ap (λ (p : Plan). answerOf p (a .allowance)) (sym e),
-    r .ensures .1 ∙ ap (λ (p : Plan). bytesAfter p (a .allowance) (a .bytes .now)) (sym e))
+    let e = recover-open (wordsIn (a .bytes .now)) (is-open l) in (
+      r .ensures .0 ∙ ap (λ (p : Plan). answerOf p (a .allowance)) (sym e),
+      r .ensures .1 ∙ ap (λ (p : Plan). bytesAfter p (a .allowance) (a .bytes .now)) (sym e),
+    )
 
 pub recover-spec : {M : Type 1} → statement M
 recover-spec =

@@ -40,13 +40,14 @@ loop-again : tie.Need-loop-again Inv-loop μ-loop
 loop-again c =
     let l = c .before .before .before .before .args .l in
     let w = c .before .before .before .before .args .words .now in
-    let i = c .before .before .loop .i in
-    (c .before .before .loop .inv .0,
-    c .before .before .loop .inv .1,
-    omega arith,
-    ap₂ (λ (x : List ℕ) (y : ℕ). set x i y) (c .before .before .loop .inv .3) (c .initial .ensures)
-    ∙ over-next (formatted l) w i (omega (arith, length-formatted l)) (omega arith),
-    length-set (c .before .before .loop .words) i (c .initial .result) ∙ c .before .before .loop .inv .4)
+    let i = c .before .before .loop .i in (
+      c .before .before .loop .inv .0,
+      c .before .before .loop .inv .1,
+      omega arith,
+      ap₂ (λ (x : List ℕ) (y : ℕ). set x i y) (c .before .before .loop .inv .3) (c .initial .ensures)
+          ∙ over-next (formatted l) w i (omega (arith, length-formatted l)) (omega arith),
+      length-set (c .before .before .loop .words) i (c .initial .result) ∙ c .before .before .loop .inv .4,
+    )
 
 same-length : tie.Need-same-length Inv-loop μ-loop
 same-length c = c .before .loop .inv .4

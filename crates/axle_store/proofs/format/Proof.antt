@@ -21,9 +21,10 @@ returns-2 c =
     (λ e. c .if2 .taken (e ∙ sym (c .before .size .ensures)))
 
 fill-requires : tie.Need-fill-requires
-fill-requires c κs =
-    (in-range _ (answered-yes (c .before .before .before .before .in-range .ensures) (c .before .before .before .if1 .left)),
-    c .before .if2 .left ∙ c .before .before .size .ensures)
+fill-requires c κs = (
+  in-range _ (answered-yes (c .before .before .before .before .in-range .ensures) (c .before .before .before .if1 .left)),
+  c .before .if2 .left ∙ c .before .before .size .ensures,
+)
 
 same-length : tie.Need-same-length
 same-length c = search needs
@@ -31,10 +32,10 @@ same-length c = search needs
 returns-3 : tie.Need-returns-3
 returns-3 c =
     let r =
-          format-done _ _
-          (answered-yes (c .before .before .before .before .before .before .before .in-range .ensures)
-          (c .before .before .before .before .before .before .if1 .left))
-          (c .before .before .before .before .if2 .left ∙ c .before .before .before .before .before .size .ensures) in
+    format-done _ _
+    (answered-yes (c .before .before .before .before .before .before .before .in-range .ensures)
+    (c .before .before .before .before .before .before .if1 .left))
+    (c .before .before .before .before .if2 .left ∙ c .before .before .before .before .before .size .ensures) in
     (r .0, c .before .before .fill .ensures ∙ r .1)
 
 pub format-spec : {M : Type 1} → statement M

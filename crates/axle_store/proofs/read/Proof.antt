@@ -35,13 +35,13 @@ enum-known-l c = search needs
 -- what the look found, and that it lies in the store
 at : (c : tie.After-known-told)
     → lookOf (c .before .before .before .before .before .args .words .now)
-      (Member (c .before .before .before .before .before .args .list) (c .before .before .before .before .before .args .position))
-      ≡ K.At (c .before .l .given .0 .0) (c .before .l .given .0 .1 .0)
+    (Member (c .before .before .before .before .before .args .list) (c .before .before .before .before .before .args .position))
+    ≡ K.At (c .before .l .given .0 .0) (c .before .l .given .0 .1 .0)
 at c = sym (c .before .before .before .look .ensures) ∙ c .before .l .given .1
 
 inside : (c : tie.After-known-told)
     → recordAt (c .before .l .given .0 .0) (c .before .l .given .0 .1 .0 .cell) + c .before .l .given .0 .0 .width
-      ≤ length (c .before .before .before .before .before .args .words .now)
+    ≤ length (c .before .before .before .before .before .args .words .now)
 inside c =
     let a = c .before .before .before .before .before .args in
     let p = member-placed (a .words .now) (a .list) (a .position) (c .before .l .given .0 .0) (c .before .l .given .0 .1 .0) (at c) in
@@ -84,10 +84,12 @@ returns-2 c =
     let l = c .before .before .before .before .l .given .0 .0 in
     let r = read-at _ _ _ (at (c .before .before .before)) in
     let e : c .before .before .node .result + 3 ≡ recordAt l (c .before .before .before .before .l .given .0 .1 .0 .cell) =
-          ap (λ (n : ℕ). n + 3) (c .before .before .node .ensures) in
-    (ap (λ (n : ℕ). take n (drop (c .before .before .node .result + 3) (w .now))) (add-sub-cancel-left (c .before .before .node .result + 3) (l .width))
-    ∙ ap (λ (n : ℕ). take (l .width) (drop n (w .now))) e
-    ∙ r .0, (refl, ap (λ (n : ℕ). n * 2 + w .ptr .1) (e ∙ r .1)))
+    ap (λ (n : ℕ). n + 3) (c .before .before .node .ensures) in (
+      ap (λ (n : ℕ). take n (drop (c .before .before .node .result + 3) (w .now))) (add-sub-cancel-left (c .before .before .node .result + 3) (l .width))
+          ∙ ap (λ (n : ℕ). take (l .width) (drop n (w .now))) e
+          ∙ r .0,
+      (refl, ap (λ (n : ℕ). n * 2 + w .ptr .1) (e ∙ r .1)),
+    )
 
 pub read-spec : {M : Type 1} → statement M
 read-spec =

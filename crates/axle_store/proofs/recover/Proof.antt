@@ -45,9 +45,10 @@ returns-2 c =
     let r = c .before .before .recover-in in
     let l = c .before .before .before .before .before in
     let a = l .before .before .before .before .before .args in
-    let e = recover-open (a .words .now) (is-open l) in
-    (r .ensures .0 ∙ ap (λ (p : Plan). answerOf p (a .allowance)) (sym e),
-    r .ensures .1 ∙ ap (λ (p : Plan). wordsAfter p (a .allowance) (a .words .now)) (sym e))
+    let e = recover-open (a .words .now) (is-open l) in (
+      r .ensures .0 ∙ ap (λ (p : Plan). answerOf p (a .allowance)) (sym e),
+      r .ensures .1 ∙ ap (λ (p : Plan). wordsAfter p (a .allowance) (a .words .now)) (sym e),
+    )
 
 pub recover-spec : {M : Type 1} → statement M
 recover-spec =

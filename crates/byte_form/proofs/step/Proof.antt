@@ -35,7 +35,7 @@ returns c =
     let a = c .before .before .before .before .before .before .before .before .before .args in
     c .before .before .put .ensures
     ∙ ap (λ (p : Write). run (byteWrites (p ∷ [])) (a .bytes .now))
-      (sym (writes-at (a .at .now) (a .values .now) (a .i) (c .before .before .before .before .before .before .before .before .before .pre .0 .rows) (c .before .before .before .before .before .before .before .before .before .pre .1)))
+    (sym (writes-at (a .at .now) (a .values .now) (a .i) (c .before .before .before .before .before .before .before .before .before .pre .0 .rows) (c .before .before .before .before .before .before .before .before .before .pre .1)))
 
 pub step-spec : {M : Type 1} → statement M
 step-spec =

@@ -122,9 +122,11 @@ loop2-less c = omega arith
 loop2-again : tie.Need-loop2-again Inv-loop μ-loop Inv-loop2 μ-loop2
 loop2-again c =
     let s = c .before .before .before .before .before .before .before .before .before .before .before .before .before .before .before .before .before .before .before .before .before .args in
-    let t = c .before .before .before .before .before .before .before .before .before .before .before .before .before .loop2 in
-    (read-more (wordsIn (s .bytes .now)) (s .l) (t .idents) (t .forwards) (t .backs) _ _ _ (t .i) _ (t .inv .0) (omega arith)
-    (c .before .before .before .before .before .before .before .before .before .before .node .ensures ∙ sym (cell-node (s .l) (t .i) (t .inv .1))) (c .before .before .before .before .before .before .load-cell2 .ensures), omega arith)
+    let t = c .before .before .before .before .before .before .before .before .before .before .before .before .before .loop2 in (
+      read-more (wordsIn (s .bytes .now)) (s .l) (t .idents) (t .forwards) (t .backs) _ _ _ (t .i) _ (t .inv .0) (omega arith)
+          (c .before .before .before .before .before .before .before .before .before .before .node .ensures ∙ sym (cell-node (s .l) (t .i) (t .inv .1))) (c .before .before .before .before .before .before .load-cell2 .ensures),
+      omega arith,
+    )
 
 same-length : tie.Need-same-length Inv-loop μ-loop Inv-loop2 μ-loop2
 same-length c = omega arith

@@ -43,10 +43,11 @@ loop-again : tie.Need-loop-again Inv-loop μ-loop
 loop-again c =
     let r = c .before .before .recover in
     let l = c .before .before .before .before .before .before .loop in
-    let a = c .before .before .before .before .before .before .before .before .before .args in
-    (r .kept .0 ∙ l .inv .0,
-    omega arith,
-    r .ensures .1 ∙ each-more (a .allowances .now) (l .i) (a .words .now) (l .words) (omega arith) (l .inv .2))
+    let a = c .before .before .before .before .before .before .before .before .before .args in (
+      r .kept .0 ∙ l .inv .0,
+      omega arith,
+      r .ensures .1 ∙ each-more (a .allowances .now) (l .i) (a .words .now) (l .words) (omega arith) (l .inv .2),
+    )
 
 recover-requires-2 : tie.Need-recover-requires-2 Inv-loop μ-loop
 recover-requires-2 c κs = search needs

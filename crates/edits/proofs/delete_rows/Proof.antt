@@ -74,12 +74,12 @@ returns c =
     let s = c .before .before .before .before .before in
     all-written
     (written
-      (written
-        (written
-          (written (delete-fill (s .pre)) 0 1 _ _ refl refl (omega arith) (omega arith) refl)
-          1 2 _ _ refl refl (omega arith) (omega arith) refl)
-        2 3 _ _ refl refl (omega arith) (omega arith) (c .before .less-one .ensures))
-      3 4 _ _ refl refl (omega arith) (c .cell3 .ensures) refl)
+    (written
+    (written
+    (written (delete-fill (s .pre)) 0 1 _ _ refl refl (omega arith) (omega arith) refl)
+    1 2 _ _ refl refl (omega arith) (omega arith) refl)
+    2 3 _ _ refl refl (omega arith) (omega arith) (c .before .less-one .ensures))
+    3 4 _ _ refl refl (omega arith) (c .cell3 .ensures) refl)
     (omega arith)
 
 pub delete-rows-spec : {M : Type 1} → statement M

@@ -172,16 +172,16 @@ returns c =
     let n = s .args .rows .len in
     all-written
     (written
-      (written
-        (written
-          (written
-            (written
-              (written (links-fill (s .pre .0) (s .args .rows) (s .pre .1) (s .pre .2)) n (n + 1) _ _ refl refl (omega arith) (omega arith) refl)
-              (n + 1) (n + 2) _ _ refl (omega arith) (omega arith) (omega arith) refl)
-            (n + 2) (n + 3) _ _ refl (omega arith) (omega arith) (omega arith) (c .before .before .before .before .ident .ensures))
-          (n + 3) (n + 4) _ _ refl (omega arith) (omega arith) (omega arith) refl)
-        (n + 4) (n + 5) _ _ refl (omega arith) (omega arith) (omega arith) refl)
-      (n + 5) (n + 6) _ _ refl (omega arith) (omega arith) (omega arith) refl)
+    (written
+    (written
+    (written
+    (written
+    (written (links-fill (s .pre .0) (s .args .rows) (s .pre .1) (s .pre .2)) n (n + 1) _ _ refl refl (omega arith) (omega arith) refl)
+    (n + 1) (n + 2) _ _ refl (omega arith) (omega arith) (omega arith) refl)
+    (n + 2) (n + 3) _ _ refl (omega arith) (omega arith) (omega arith) (c .before .before .before .before .ident .ensures))
+    (n + 3) (n + 4) _ _ refl (omega arith) (omega arith) (omega arith) refl)
+    (n + 4) (n + 5) _ _ refl (omega arith) (omega arith) (omega arith) refl)
+    (n + 5) (n + 6) _ _ refl (omega arith) (omega arith) (omega arith) refl)
     (omega arith)
 
 pub link-rows-spec : {M : Type 1} → statement M

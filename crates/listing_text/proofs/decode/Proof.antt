@@ -37,12 +37,13 @@ loop-less c = omega arith
 loop-again : tie.Need-loop-again Inv-loop μ-loop
 loop-again c =
     let h = c .before .before .loop in
-    let s = c .before .before .before .before .before .args in
-    (h .inv .0,
-    omega arith,
-    length-set (h .words) (h .i) (c .word .result) ∙ h .inv .2,
-    ap₂ (λ (x : List ℕ) (v : ℕ). set x (h .i) v) (h .inv .3) (c .word .ensures)
-    ∙ over-next (wordsIn (s .bytes .now)) (s .words .now) (h .i) (omega (arith, length-words (s .bytes .now))) (omega arith))
+    let s = c .before .before .before .before .before .args in (
+      h .inv .0,
+      omega arith,
+      length-set (h .words) (h .i) (c .word .result) ∙ h .inv .2,
+      ap₂ (λ (x : List ℕ) (v : ℕ). set x (h .i) v) (h .inv .3) (c .word .ensures)
+          ∙ over-next (wordsIn (s .bytes .now)) (s .words .now) (h .i) (omega (arith, length-words (s .bytes .now))) (omega arith),
+    )
 
 same-length : tie.Need-same-length Inv-loop μ-loop
 same-length c = c .before .loop .inv .2

@@ -146,13 +146,14 @@ loop-again c =
     let t = at f in
     let s = start t in
     let h = t .loop .inv .0 in
-    let x = e .mend-of .ensures in
-    (found-more (s .args .l) (s .pre .inRange) (view s) (count s) h (omega arith)
-      (f .fit .ensures) (n .number .ensures) (g .before .if2 .left) (g .fault .ensures) (m .members .ensures)
-      (a .carried .ensures) (b .is-backward .ensures)
-      (held-maybe (sizeOf (s .args .l)) _ _ (t .loop .len) _ _ (e .mend-of .result .number) (writesIn (rows t)) _ (omega (arith, room t)) (h .held)
-        (x .few) (x .same) (x .inside)),
-    omega arith)
+    let x = e .mend-of .ensures in (
+      found-more (s .args .l) (s .pre .inRange) (view s) (count s) h (omega arith)
+          (f .fit .ensures) (n .number .ensures) (g .before .if2 .left) (g .fault .ensures) (m .members .ensures)
+          (a .carried .ensures) (b .is-backward .ensures)
+          (held-maybe (sizeOf (s .args .l)) _ _ (t .loop .len) _ _ (e .mend-of .result .number) (writesIn (rows t)) _ (omega (arith, room t)) (h .held)
+          (x .few) (x .same) (x .inside)),
+      omega arith,
+    )
 
 returns-2 : tie.Need-returns-2 Inv-loop μ-loop
 returns-2 c =

@@ -13,7 +13,7 @@ use Rattle.mending.proofs.list_clears.Statement.{statement}
 use Rattle.mending.proofs.list_clears.Tie as tie
 
 abbrev Inv-loop : tie.InvT-loop
-Inv-loop idents l at₀ values₀ n n₀ i₀ end at values n' i = 
+Inv-loop idents l at₀ values₀ n n₀ i₀ end at values n' i =
     (i ≤ end) × (end ≡ cellCount l) × InRange l × (length idents ≡ cellCount l)
     × Clearing l idents at values n' i (listed n at₀ values₀ ++ clearsIn l idents (firstNode l) (l .nodes))
 
@@ -82,21 +82,21 @@ loop-again c =
     let h : t .i < cellCount (s .l) = omega arith in
     let all = listed (s .n) (s .at .now) (s .values .now) ++ clearsIn (s .l) (s .idents .now) (firstNode (s .l)) (s .l .nodes) in
     ⊎-elim
-        (λ w. rw (w .2, w .3, w .4) (
-          omega arith,
-          t .inv .1,
-          t .inv .2,
-          t .inv .3,
-          clearing-one (s .l) (s .idents .now) (t .at) (t .values) (t .n) (t .i) all (t .inv .4) (w .1 .result) (t .inv .2) h (w .0 .taken) (w .1 .ensures),
-        ))
-        (λ w. rw (w .1, w .2, w .3) (
-          omega arith,
-          t .inv .1,
-          t .inv .2,
-          t .inv .3,
-          clearing-skip (s .l) (s .idents .now) (t .at) (t .values) (t .n) (t .i) all (t .inv .4) h (w .0 .left),
-        ))
-        (c .if1 .came)
+    (λ w. rw (w .2, w .3, w .4) (
+      omega arith,
+      t .inv .1,
+      t .inv .2,
+      t .inv .3,
+      clearing-one (s .l) (s .idents .now) (t .at) (t .values) (t .n) (t .i) all (t .inv .4) (w .1 .result) (t .inv .2) h (w .0 .taken) (w .1 .ensures),
+    ))
+    (λ w. rw (w .1, w .2, w .3) (
+      omega arith,
+      t .inv .1,
+      t .inv .2,
+      t .inv .3,
+      clearing-skip (s .l) (s .idents .now) (t .at) (t .values) (t .n) (t .i) all (t .inv .4) h (w .0 .left),
+    ))
+    (c .if1 .came)
 
 same-length : tie.Need-same-length Inv-loop μ-loop
 same-length c = c .before .loop .inv .4 .front .addresses ∙ sym (c .before .before .before .before .before .before .before .pre .3 .addresses)

@@ -9,7 +9,7 @@ use Rattle.mending.proofs.list_mends.Statement.{statement}
 use Rattle.mending.proofs.list_mends.Tie as tie
 
 abbrev Inv-loop : tie.InvT-loop
-Inv-loop at₀ values₀ n from with i₀ at values i = 
+Inv-loop at₀ values₀ n from with i₀ at values i =
     (i ≤ n) × (n ≤ 19) × (length from ≡ 19) × (length with ≡ 19) × (n ≤ length at₀) × (n ≤ length values₀)
     × (length at ≡ length at₀) × (length values ≡ length values₀) × (take i at ≡ take i from) × (take i values ≡ take i with)
 
@@ -81,7 +81,7 @@ returns c =
       contents = t .inv .7 ∙ p .3;
       few = p .1;
       same =
-        ap₂ writesOf (subst (λ (m : ℕ). take m (t .at) ≡ take m (r .at)) e (t .inv .8))
+          ap₂ writesOf (subst (λ (m : ℕ). take m (t .at) ≡ take m (r .at)) e (t .inv .8))
           (subst (λ (m : ℕ). take m (t .values) ≡ take m (r .values)) e (t .inv .9));
       inside = p .0 .inside;
     }

@@ -31,12 +31,13 @@ returns : tie.Need-returns
 returns c =
     let s = c .before .before .before .before .before .before .before .before .before in
     let m = c .before .before .all-mends in
-    let a = s .args in
-    (λ w t.
-      rw (ne-eqb (m .result .refusal) 0 (λ z. omega (arith, z)))
-      (recover-refused (a .l) w (a .idents .now) (a .forwards .now) (a .backs .now) (t .loaded) (λ k. getD (a .counts) k 0) (t .counted)
-        (m .result) (m .ensures) (λ z. omega (arith, z))),
-    listed-none (a .l) (a .forwards .now) (a .backs .now) (s .pre .forwards) (s .pre .backs))
+    let a = s .args in (
+      λ w t.
+          rw (ne-eqb (m .result .refusal) 0 (λ z. omega (arith, z)))
+          (recover-refused (a .l) w (a .idents .now) (a .forwards .now) (a .backs .now) (t .loaded) (λ k. getD (a .counts) k 0) (t .counted)
+          (m .result) (m .ensures) (λ z. omega (arith, z))),
+      listed-none (a .l) (a .forwards .now) (a .backs .now) (s .pre .forwards) (s .pre .backs),
+    )
 
 -- no list is refused: the start, and what is found of the lists
 abbrev start : tie.Else1 → tie.Start
@@ -51,11 +52,12 @@ rows-held : (c : tie.Else1) → let s = start c in let r = found c .all-mends .r
 rows-held c =
     let s = start c in
     let m = found c .all-mends in
-    let h = m .ensures .rows (c .if1 .left) in
-    (subst (λ (ps : List Write). Held (sizeOf (s .args .l)) (m .result .rows) ps) (sym (h .same)) h,
-    omega (arith, m .ensures .few (c .if1 .left)),
-    s .pre .forwards,
-    s .pre .backs)
+    let h = m .ensures .rows (c .if1 .left) in (
+      subst (λ (ps : List Write). Held (sizeOf (s .args .l)) (m .result .rows) ps) (sym (h .same)) h,
+      omega (arith, m .ensures .few (c .if1 .left)),
+      s .pre .forwards,
+      s .pre .backs,
+    )
 
 none-left-requires : tie.Need-none-left-requires
 none-left-requires c κs = search needs
@@ -77,12 +79,13 @@ returns-2 c =
     let e = c .before .before .before .before .before .before .before .before .before .before .before in
     let a = start e .args in
     let m = found e .all-mends in
-    let x = c .before .before .before .before .list-mends in
-    (λ w t.
-      recover-mends (a .l) w (a .idents .now) (a .forwards .now) (a .backs .now) (t .loaded) (λ k. getD (a .counts) k 0) (t .counted)
-        (m .result) (m .ensures) (e .if1 .left) (sym (c .before .before .before .before .before .before .before .before .none-left .ensures) ∙ c .before .before .before .before .before .before .before .if2 .taken)
-      ∙ ap stores (sym (x .ensures .same)),
-    listed-self (a .l) _ _ (m .result .rows .len) _ (x .ensures))
+    let x = c .before .before .before .before .list-mends in (
+      λ w t.
+          recover-mends (a .l) w (a .idents .now) (a .forwards .now) (a .backs .now) (t .loaded) (λ k. getD (a .counts) k 0) (t .counted)
+          (m .result) (m .ensures) (e .if1 .left) (sym (c .before .before .before .before .before .before .before .before .none-left .ensures) ∙ c .before .before .before .before .before .before .before .if2 .taken)
+          ∙ ap stores (sym (x .ensures .same)),
+      listed-self (a .l) _ _ (m .result .rows .len) _ (x .ensures),
+    )
 
 erase-all-requires : tie.Need-erase-all-requires
 erase-all-requires c κs = search needs
@@ -94,13 +97,14 @@ list-clears-requires : tie.Need-list-clears-requires
 list-clears-requires c κs =
     let e = c .before .before .before .before .before .before .before .before .before .before .before .before .before .before .before .before .before .before .before .before .before in
     let s = start e in
-    let m = found e .all-mends in
-    (s .pre .inRange,
-    ap length (c .before .before .before .before .before .before .before .before .before .before .before .before .erase-all .ensures)
-    ∙ length-from (s .args .l) _ (λ k. getD (m .result .back) k false) 0 (s .args .l .lists) (s .args .idents .now)
-    ∙ s .pre .idents,
-    m .ensures .few (e .if1 .left),
-    listed-self (s .args .l) _ _ (m .result .rows .len) _ (c .before .before .before .before .before .before .before .list-mends2 .ensures))
+    let m = found e .all-mends in (
+      s .pre .inRange,
+      ap length (c .before .before .before .before .before .before .before .before .before .before .before .before .erase-all .ensures)
+          ∙ length-from (s .args .l) _ (λ k. getD (m .result .back) k false) 0 (s .args .l .lists) (s .args .idents .now)
+          ∙ s .pre .idents,
+      m .ensures .few (e .if1 .left),
+      listed-self (s .args .l) _ _ (m .result .rows .len) _ (c .before .before .before .before .before .before .before .list-mends2 .ensures),
+    )
 
 same-length-7 : tie.Need-same-length-7
 same-length-7 c = search needs
@@ -118,13 +122,14 @@ returns-3 c =
     let m = found e .all-mends in
     let x = c .before .before .before .before .list-clears in
     let same =
-          ap₂ (λ (ps qs : List Write). ps ++ qs) (c .before .before .before .before .before .before .before .before .before .before .before .before .list-mends2 .ensures .same)
-          (ap (λ (i : List ℕ). clearsIn (a .l) i (firstNode (a .l)) (a .l .nodes)) (c .before .before .before .before .before .before .before .before .before .before .before .before .before .before .before .before .before .erase-all .ensures)) in
-    (λ w t.
-      recover-stores (a .l) w (a .idents .now) (a .forwards .now) (a .backs .now) (t .loaded) (λ k. getD (a .counts) k 0) (t .counted)
-        (m .result) (m .ensures) (e .if1 .left)
-      ∙ ap stores (sym (x .ensures .same ∙ same)),
-    listed-self (a .l) _ _ (x .result) _ (x .ensures))
+    ap₂ (λ (ps qs : List Write). ps ++ qs) (c .before .before .before .before .before .before .before .before .before .before .before .before .list-mends2 .ensures .same)
+    (ap (λ (i : List ℕ). clearsIn (a .l) i (firstNode (a .l)) (a .l .nodes)) (c .before .before .before .before .before .before .before .before .before .before .before .before .before .before .before .before .before .erase-all .ensures)) in (
+      λ w t.
+          recover-stores (a .l) w (a .idents .now) (a .forwards .now) (a .backs .now) (t .loaded) (λ k. getD (a .counts) k 0) (t .counted)
+          (m .result) (m .ensures) (e .if1 .left)
+          ∙ ap stores (sym (x .ensures .same ∙ same)),
+      listed-self (a .l) _ _ (x .result) _ (x .ensures),
+    )
 
 pub plan-spec : {M : Type 1} → statement M
 plan-spec =

@@ -33,9 +33,10 @@ returns : tie.Need-returns
 returns c =
     let a = c .before .before .before .before .before .before .before .before .before .before .before .before .before .before .before .before .before .before .before .before .before .before .before .before .before .before .before .before .before .before .before .before .before .args in
     let e = c .before .before .before .before .before .before .before .before .before .before .before .before .plan .ensures .0 (a .words .now) (record { loaded = c .before .before .before .before .before .before .before .before .before .before .before .before .before .before .before .before .before .before .before .before .before .before .before .before .load .ensures; counted = c .before .before .before .before .before .before .before .before .before .before .before .before .before .before .before .before .all-counts .ensures .1 }) in
-    let r = c .before .before .make .ensures in
-    (r .0 ∙ ap (λ (p : Plan). answerOf p (a .allowance)) (sym e),
-    r .1 ∙ ap (λ (p : Plan). wordsAfter p (a .allowance) (a .words .now)) (sym e))
+    let r = c .before .before .make .ensures in (
+      r .0 ∙ ap (λ (p : Plan). answerOf p (a .allowance)) (sym e),
+      r .1 ∙ ap (λ (p : Plan). wordsAfter p (a .allowance) (a .words .now)) (sym e),
+    )
 
 pub recover-with-spec : {M : Type 1} → statement M
 recover-with-spec =
