@@ -15,7 +15,7 @@ use Rattle.lists.specs.Decide.{View}
 use Rattle.fitting.specs.declared.Faults.{Faults}
 use Rattle.fitting.specs.declared.Faults.the-variants as F
 use Rattle.fitting.specs.declared.Fitted.the-variants as G
-use Rattle.fitting.specs.Fitting.{decides, choose}
+use Rattle.fitting.specs.Fitting.{areMany, decides, choose}
 use Rattle.fitting.specs.Fitting.{Each, plus, fault, turnFaults, faultsOf, walked, walkFaults}
 
 -- no faults more
@@ -110,6 +110,20 @@ module _ {l : Layout} {v : View} {a b k : ℕ} {f : Faults} {x y left : ℕ} (w 
         same = rw (s, r, q, plus-assoc, plus-assoc) (rw (rest-on e p, no-fault _ _ _ _ (w .link)) at (w .same));
         count = w .count ∙ rw (rest-on e p) (omega arith);
       }
+
+  -- once there are many faults, they are many at the end
+  pub walking-many : (n : ℕ) → areMany f ≡ true → f ≡ walkFaults l v a b k n
+  unfolding faultsOf walkFaults
+  walking-many n e = by f e (w .same)
+    where
+      by : (g : Faults) → areMany g ≡ true
+          → plus g (turnFaults v a b k x (rest l v left y)) ≡ plus (fault (v .ident k) k 0 (identOf k)) (turnFaults v a b k k (walked l v k))
+          → g ≡ walkFaults l v a b k n
+      by F.None e s = absurd (false≢true e)
+      by (F.One c g u) e s = absurd (false≢true e)
+      by F.Many e s =
+          ap (λ (g : Faults). plus g (fault n k 3 (length (walked l v k)))) s
+          ∙ plus-assoc (fault (v .ident k) k 0 (identOf k)) (turnFaults v a b k k (walked l v k)) (fault n k 3 (length (walked l v k)))
 
   -- where no node follows, or no step is left, nothing is left
   pub rest-out : isNode l y ≡ false → rest l v left y ≡ []

@@ -26,6 +26,11 @@ plus F.Many g = F.Many
 abbrev pub fault : ℕ → ℕ → ℕ → ℕ → Faults
 fault x c f v = cond (eqb x v) F.None (F.One c f v)
 
+abbrev pub areMany : Faults → Bool
+areMany F.None = false
+areMany (F.One c f v) = false
+areMany F.Many = true
+
 -- the rest of the turn round list k, from cell x through s; the link onward is word a of a cell, the link back word b
 unfoldable pub turnFaults : View → ℕ → ℕ → ℕ → ℕ → List ℕ → Faults
 turnFaults v a b k x [] = plus (fault (v .forward x) x a k) (fault (v .back k) k b x)

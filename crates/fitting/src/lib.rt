@@ -6,7 +6,7 @@ ghost use Prim.Native.Nat.{_<_};
 ghost use mathlib.Core.Bool.{false};
 ghost use lib.ListN.{length, getD};
 ghost use Rattle.survey.specs.Survey.{columns, Columns};
-ghost use Rattle.fitting.specs.Fitting.{plus, fault, walkFaults, decides, lengthBy, carries, choose, fitIn, numberOf, faultIn, isBackward, Each};
+ghost use Rattle.fitting.specs.Fitting.{plus, fault, areMany, walkFaults, decides, lengthBy, carries, choose, fitIn, numberOf, faultIn, isBackward, Each};
 
 // The wrong words of a sequence: word f of cell c is to hold v.
 pub enum Faults {
@@ -35,6 +35,17 @@ impl Faults {
             Faults::None => Faults::One(c, f, v),
             Faults::One(_, _, _) => Faults::Many,
             Faults::Many => Faults::Many,
+        }
+    }
+
+    // Are they many? Whatever is compared then, they stay so.
+    fn are_many(self) -> bool
+        ensures { λ r. ⌜ r ≡ areMany self ⌝ }
+    {
+        match self {
+            Faults::None => false,
+            Faults::One(_, _, _) => false,
+            Faults::Many => true,
         }
     }
 
@@ -137,6 +148,9 @@ fn walk(
         }
         faults = faults.and(idents[y as usize], y, 0, id);
         faults = faults.and(back[y as usize], y, b, x);
+        if faults.are_many() {
+            return faults;
+        }
         x = y;
         y = onward[y as usize];
         left -= 1;

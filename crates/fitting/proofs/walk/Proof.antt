@@ -1,14 +1,15 @@
 -- `fitting::walk` meets its contract. The loop's invariant: the walk has summed up the faults up to x, and comes to y.
-use Prim.Native.Nat.{_<_}
+use Prim.Native.Nat.{_-_, _<_}
 use mathlib.Core.Bool.{true}
 use mathlib.Core.Logic.{⊎-elim}
-use mathlib.Core.Path.{_≡_}
+use mathlib.Core.Path.{_≡_, sym, _∙_}
 use native.Mathlib.Omega.{arith}
+use lib.ListN.{getD}
 use borrow.Author.Needs.{needs}
 use Rattle.layout.specs.Words.{isNode, cellCount}
 use Rattle.layout.proofs.Laws.{is-node, answered-no, answered-yes}
 use Rattle.survey.specs.Survey.{columns}
-use Rattle.fitting.proofs.Walks.{Walking, walking-first, walking-next, rest-out, rest-none, walking-done}
+use Rattle.fitting.proofs.Walks.{Walking, walking-first, walking-next, walking-many, rest-out, rest-none, walking-done}
 use Rattle.fitting.proofs.walk.Statement.{statement}
 use Rattle.fitting.proofs.walk.Tie as tie
 
@@ -82,14 +83,33 @@ shared-slice-read-and-3 c = omega (arith, inside (c .before .before .before))
 and-requires-3 : tie.Need-and-requires-3 Inv-loop μ-loop
 and-requires-3 c κs = search needs
 
+-- where the walk stands behind that cell
+next : (c : tie.After-and3 Inv-loop μ-loop) →
+    let t = c .before .before .before .before .before .before .before in
+    let a = start t .args in
+    Walking (a .l) (columns (a .idents .now) (a .onward .now) (a .back .now)) (a .a) (a .b) (a .k) (c .and3 .result) (t .loop .y)
+    (getD (a .onward .now) (t .loop .y) 0) (t .loop .left - 1)
+next c =
+    let e = c .before .before .before .before in
+    let t = e .before .before .before in
+    walking-next (t .loop .inv) (node e) (omega arith) (t .before .before .before .before .ident .ensures) (c .before .before .and2 .ensures) (c .and3 .ensures)
+
+are-many-requires : tie.Need-are-many-requires Inv-loop μ-loop
+are-many-requires c κs = search needs
+
+returns : tie.Need-returns Inv-loop μ-loop
+returns c =
+    let m = c .before in
+    walking-many (next (m .before)) (start (m .before .before .before .before .before .before .before .before) .args .n) (sym (m .are-many .ensures) ∙ c .if2 .taken)
+
 cast-y : tie.Need-cast-y Inv-loop μ-loop
-cast-y c = omega (arith, inside (c .before .before .before .before))
+cast-y c = omega (arith, inside (c .before .before .before .before .before .before))
 
 mul-y-2 : tie.Need-mul-y-2 Inv-loop μ-loop
-mul-y-2 c = omega (arith, inside (c .before .before .before .before))
+mul-y-2 c = omega (arith, inside (c .before .before .before .before .before .before))
 
 shared-slice-read-y-2 : tie.Need-shared-slice-read-y-2 Inv-loop μ-loop
-shared-slice-read-y-2 c = omega (arith, inside (c .before .before .before .before .before))
+shared-slice-read-y-2 c = omega (arith, inside (c .before .before .before .before .before .before .before))
 
 sub-left : tie.Need-sub-left Inv-loop μ-loop
 sub-left c = omega arith
@@ -98,11 +118,7 @@ loop-less : tie.Need-loop-less Inv-loop μ-loop
 loop-less c = omega arith
 
 loop-again : tie.Need-loop-again Inv-loop μ-loop
-loop-again c =
-    let e = c .before .before .before .before .before in
-    let t = e .before .before .before in
-    walking-next (t .loop .inv) (node e) (omega arith) (t .before .before .before .before .ident .ensures)
-    (c .before .before .before .and2 .ensures) (c .before .and3 .ensures)
+loop-again c = next (c .before .before .before)
 
 and-requires-4 : tie.Need-and-requires-4 Inv-loop μ-loop
 and-requires-4 c κs = search needs
@@ -122,8 +138,8 @@ sub-and c = omega arith
 and-requires-6 : tie.Need-and-requires-6 Inv-loop μ-loop
 and-requires-6 c κs = search needs
 
-returns : tie.Need-returns Inv-loop μ-loop
-returns c =
+returns-2 : tie.Need-returns-2 Inv-loop μ-loop
+returns-2 c =
     let e = c .before .before in
     let d = e .before .before in
     let t = d .before .before in
@@ -155,6 +171,8 @@ walk-spec =
     mul-and-3
     shared-slice-read-and-3
     and-requires-3
+    are-many-requires
+    returns
     cast-y
     mul-y-2
     shared-slice-read-y-2
@@ -167,4 +185,4 @@ walk-spec =
     and-requires-5
     sub-and
     and-requires-6
-    returns)
+    returns-2)
