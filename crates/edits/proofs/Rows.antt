@@ -20,16 +20,13 @@ use Rattle.edits.specs.Edits.{insertLinks, deleteWrites, Placed}
 -- the rows hold the stores ps and the first i of the stores qs, and have room for the rest of them
 pub record Filled (n : ℕ) (ps qs : List Write) (i : ℕ) (r : Rows) : Type 0 where
   pub few : length ps + length qs ≤ 19
-  pub small : n ≤ 65536
   pub inside : All (λ (p : Write). p .at < n) qs
   pub held : Held n r (ps ++ take i qs)
 
 module _ {n : ℕ} {ps qs : List Write} {i : ℕ} {r : Rows} (f : Filled n ps qs i r) where
-  -- there is room for the next of qs, and its address fits a `u16`
-  pub next-fits : i < length qs → (r .len < 19) × (getD qs i (write 0 0) .at < 65536)
-  next-fits h =
-      let p = all-nth (λ (p : Write). p .at < n) qs i (write 0 0) (f .inside) h in
-      (omega (arith, f .held .len, length-append ps (take i qs), length-take-le i qs (omega arith)), omega arith)
+  -- there is room for the next of qs
+  pub has-room : i < length qs → r .len < 19
+  has-room h = omega (arith, f .few, f .held .len, length-append ps (take i qs), length-take-le i qs (omega arith))
 
   -- it is written behind the last
   pub written
@@ -39,7 +36,6 @@ module _ {n : ℕ} {ps qs : List Write} {i : ℕ} {r : Rows} (f : Filled n ps qs
       let p = all-nth (λ (p : Write). p .at < n) qs i (write 0 0) (f .inside) h in
       record {
         few = f .few;
-        small = f .small;
         inside = f .inside;
         held =
             rw (em′, em)
@@ -47,7 +43,7 @@ module _ {n : ℕ} {ps qs : List Write} {i : ℕ} {r : Rows} (f : Filled n ps qs
             (append-assoc ps (take i qs) (write a v ∷ [])
             ∙ ap₂ (λ (x y : ℕ). ps ++ (take i qs ++ write x y ∷ [])) ea ev
             ∙ ap (λ (t : List Write). ps ++ t) (sym (take-suc qs i (write 0 0) h) ∙ ap (λ (m : ℕ). take m qs) (sym (add-one i))))
-            (held-more n (r .at) (r .values) (r .len) a v (ps ++ take i qs) (next-fits h .0) (f .held) (omega arith)));
+            (held-more n (r .at) (r .values) (r .len) a v (ps ++ take i qs) (has-room h) (f .held) (omega arith)));
       }
 
   -- at the end all of them are
@@ -69,9 +65,9 @@ row-at a (suc i) (v ∷ vs) h = let t = row-at (a + 1) i vs (omega arith) in (om
 
 -- before the first store of a record
 pub record-fill
-    : (n a : ℕ) (vs : List ℕ) → a + length vs ≤ n → n ≤ 65536 → length vs ≤ 13
+    : (n a : ℕ) (vs : List ℕ) → a + length vs ≤ n → length vs ≤ 13
     → Filled n [] (inRow a vs) 0 noRows
-record-fill n a vs h g m = record { few = omega (arith, length-row a vs); small = g; inside = row-inside n a vs h; held = held-none n }
+record-fill n a vs h m = record { few = omega (arith, length-row a vs); inside = row-inside n a vs h; held = held-none n }
 
 module _ {l : Layout} {k : ℕ} {t : Site} (p : Placed l k t) where
   -- the words of the site stand within the store
@@ -101,7 +97,6 @@ module _ {l : Layout} {k : ℕ} {t : Site} (p : Placed l k t) where
   links-fill r h g =
       record {
         few = omega (arith, h .len);
-        small = size-small l (p .inRange);
         inside = omega (arith, site-fits);
         held = subst (Held (sizeOf l) r) (sym (append-nil (writesIn r))) h;
       }
@@ -110,4 +105,4 @@ module _ {l : Layout} {k : ℕ} {t : Site} (p : Placed l k t) where
   pub delete-fill : Filled (sizeOf l) [] (deleteWrites l k t) 0 noRows
   unfolding deleteWrites
   delete-fill =
-      record { few = omega arith; small = size-small l (p .inRange); inside = omega (arith, site-fits); held = held-none (sizeOf l) }
+      record { few = omega arith; inside = omega (arith, site-fits); held = held-none (sizeOf l) }

@@ -26,6 +26,7 @@ plus F.Many g = F.Many
 abbrev pub fault : ℕ → ℕ → ℕ → ℕ → Faults
 fault x c f v = cond (eqb x v) F.None (F.One c f v)
 
+-- more than one
 abbrev pub areMany : Faults → Bool
 areMany F.None = false
 areMany (F.One c f v) = false

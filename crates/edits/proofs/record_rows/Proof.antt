@@ -8,14 +8,14 @@ use Rattle.layout.specs.Words.{sizeOf}
 use Rattle.stores.specs.declared.Rows.{Rows}
 use Rattle.stores.specs.Stores.{Held, inRow}
 use Rattle.stores.proofs.Laws.{length-row}
-use Rattle.edits.proofs.Rows.{Filled, next-fits, written, all-written, record-fits, record-fill, row-at}
+use Rattle.edits.proofs.Rows.{Filled, has-room, written, all-written, record-fits, record-fill, row-at}
 use Rattle.edits.proofs.record_rows.Statement.{statement}
 use Rattle.edits.proofs.record_rows.Tie as tie
 
 abbrev Inv-loop : tie.InvT-loop
 Inv-loop k words a at₀ values₀ i₀ at values i =
     (i ≤ length words)
-    × ((n : ℕ) → a + length words ≤ n → n ≤ 65536 → Filled n [] (inRow a words) i (record { at = at; values = values; len = i }))
+    × ((n : ℕ) → a + length words ≤ n → Filled n [] (inRow a words) i (record { at = at; values = values; len = i }))
 
 abbrev μ-loop : tie.MeasureT-loop
 μ-loop k words a at₀ values₀ i₀ at values i = length words - i
@@ -33,7 +33,7 @@ rows c = record { at = c .loop .at; values = c .loop .values; len = c .loop .i }
 holds : (c : tie.At-loop Inv-loop μ-loop) →
     let n = c .before in
     Filled (sizeOf (n .before .before .args .l)) [] (inRow (n .node .result + 3) (n .before .before .args .words .now)) (c .loop .i) (rows c)
-holds c = let f = fits (c .before) in c .loop .inv .1 _ (f .0) (f .1)
+holds c = c .loop .inv .1 _ (fits (c .before) .0)
 
 -- the arrays have 19 entries, and there is room for one more store
 room : (c : tie.In-loop Inv-loop μ-loop) →
@@ -41,8 +41,8 @@ room : (c : tie.In-loop Inv-loop μ-loop) →
 room c =
     let n = c .before .before in
     let h = holds (c .before) in
-    let r = next-fits h (omega (arith, length-row (n .node .result + 3) (n .before .before .args .words .now))) in
-    (omega (arith, r .0), h .held .at, h .held .values)
+    let r = has-room h (omega (arith, length-row (n .node .result + 3) (n .before .before .args .words .now))) in
+    (omega (arith, r), h .held .at, h .held .values)
 
 node-requires : tie.Need-node-requires Inv-loop μ-loop
 node-requires c κs = c .before .pre .0 .cell .low
@@ -53,7 +53,7 @@ add-a c = omega (arith, fits c)
 loop-holds : tie.Need-loop-holds Inv-loop μ-loop
 loop-holds c =
     let s = c .before .before in
-    (omega arith, λ n h g. record-fill n _ (s .args .words .now) h g (omega (arith, s .pre .0 .inRange .width)))
+    (omega arith, λ n h. record-fill n _ (s .args .words .now) h (omega (arith, s .pre .0 .inRange .width)))
 
 add-at : tie.Need-add-at Inv-loop μ-loop
 add-at c = omega (arith, fits (c .before .before))
@@ -92,7 +92,7 @@ loop-again c =
     let words = l .before .before .before .args .words .now in
     let t = row-at a (l .loop .i) words (omega arith) in (
       omega arith,
-      λ n h g. written (l .loop .inv .1 n h g) (l .loop .i) _ _ _ refl refl (omega (arith, length-row a words)) (t .0) (t .1),
+      λ n h. written (l .loop .inv .1 n h) (l .loop .i) _ _ _ refl refl (omega (arith, length-row a words)) (t .0) (t .1),
     )
 
 returns : tie.Need-returns Inv-loop μ-loop
