@@ -11,10 +11,10 @@ use Rattle.layout.specs.Words.{recordAt, identAt, layoutOf}
 use Rattle.lists.specs.Lists.{Sound, SameCells}
 
 -- plain sequences
-abbrev pub insertAt : ℕ → ℕ → List ℕ → List ℕ
+abbrev pub insertAt {ℓ} : {A : Type ℓ} → ℕ → A → List A → List A
 insertAt p c s = take p s ++ c ∷ drop p s
 
-abbrev pub deleteAt : ℕ → List ℕ → List ℕ
+abbrev pub deleteAt {ℓ} : {A : Type ℓ} → ℕ → List A → List A
 deleteAt p s = take p s ++ drop (p + 1) s
 
 -- sequences of which that of list k is another

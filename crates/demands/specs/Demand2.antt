@@ -1,0 +1,83 @@
+-- Demand 2. "A store is called sound exactly when its words form the lists of CS-85-18, section 2. Insert and delete, when done, leave what
+-- plain sequences would; each record reads back as given. Nothing interprets a record."
+--
+-- The plain sequences are lists of records: `recordsIn w s k` has those of list k of the sound store w, in order. All is said of the
+-- calls: of what they answer, plan and leave.
+use Prim.Native.Nat.{ℕ, _+_, _<_, _≤_}
+use mathlib.Core.Path.{_≡_}
+use mathlib.Core.List.{List, [], _∷_, map}
+use mathlib.Core.Logic.{_↔_}
+use lib.Dec.{ltb}
+use lib.ListN.{length, getD}
+use Rattle.stores.specs.declared.Answer.the-variants as A
+use Rattle.stores.specs.Stores.{Write, Plan, refuse, stores, answerOf, wordsAfter}
+use Rattle.layout.specs.declared.Layout.{Layout}
+use Rattle.layout.specs.Words.{Node, ask, identAt, layoutOf}
+use Rattle.lists.specs.Lists.{Sound, SameCells}
+use Rattle.lists.specs.Decide.{viewOf}
+use Rattle.requests.specs.Requests.{around}
+use Rattle.edits.specs.Edited.{insertAt, deleteAt, replaced, FirstFree, recordIn}
+use Rattle.axle_store.specs.declared.Formatted.the-variants as F
+use Rattle.axle_store.specs.declared.Checked.the-variants as C
+use Rattle.axle_store.specs.declared.Counted.the-variants as L
+use Rattle.axle_store.specs.Calls.{formatAnswer, formatWords, checkAnswer, lengthAnswer, readNumber, readWords, insertPlan, deletePlan}
+use Rattle.demands.specs.Records.{Uninterpreted}
+
+-- the records of list k, in order
+abbrev pub recordsIn : (w : List ℕ) → Sound w → ℕ → List (List ℕ)
+recordsIn w s k = map (λ c. recordIn (layoutOf w) w c) (s .lists .sequence k)
+
+-- "Insert and delete, when done, leave what plain sequences would": of a sound store w the words w′, in which list k has the cells `cells`
+-- and the records `records`
+pub record Leaves (w : List ℕ) (s : Sound w) (k : ℕ) (cells : List ℕ) (records : List (List ℕ)) (w′ : List ℕ) : Type 0 where
+  pub sound : Sound w′
+  pub layout : layoutOf w′ ≡ layoutOf w
+  pub sequences : sound .lists .sequence ≡ replaced (s .lists .sequence) k cells
+  -- every other list is as it was, word for word
+  pub others : (j : ℕ) → j < layoutOf w .lists → (j ≡ k → ⊥) → SameCells (layoutOf w) w w′ (j ∷ s .lists .sequence j)
+  -- "each record reads back as given": read at every position gives what the plain sequence has there, and nothing behind its end
+  pub reads : (p : ℕ) → readWords w′ k p ≡ getD records p []
+  pub readsOthers : (j p : ℕ) → j < layoutOf w .lists → (j ≡ k → ⊥) → readWords w′ j p ≡ getD (recordsIn w s j) p []
+
+-- a node whose identifier is 0
+pub record FreeNode (w : List ℕ) (i : ℕ) : Type 0 where
+  pub node : Node (layoutOf w) i
+  pub free : getD w (identAt (layoutOf w) i) 0 ≡ 0
+
+-- an insert into a sound store
+pub record Inserts (w : List ℕ) (s : Sound w) (k p c : ℕ) (words : List ℕ) (plan : Plan) : Type 0 where
+  -- it is not refused where questions 5 and 7 to 10 are answered yes,
+  pub accepted : k < layoutOf w .lists → p ≤ length (s .lists .sequence k) → Node (layoutOf w) c → length words ≡ layoutOf w .width
+      → (i : ℕ) → FreeNode w i → (ps : List Write) × (plan ≡ stores ps)
+  -- and 10 is answered only if no node is free
+  pub full : plan ≡ refuse 10 → (i : ℕ) → FreeNode w i → ⊥
+  -- done, it has made P + 6 stores, and the record stands at the position, in "the first free cell met counting up from the starting cell"
+  pub done : (m n : ℕ) → answerOf plan m ≡ A.Done n
+      → (n ≡ layoutOf w .width + 6)
+      × ((i : ℕ) × FirstFree (viewOf (layoutOf w) w .ident) (around (layoutOf w) c (layoutOf w .nodes)) i
+      × Leaves w s k (insertAt p i (s .lists .sequence k)) (insertAt p words (recordsIn w s k)) (wordsAfter plan m w))
+
+-- a delete from a sound store
+pub record Deletes (w : List ℕ) (s : Sound w) (k p : ℕ) (plan : Plan) : Type 0 where
+  pub accepted : k < layoutOf w .lists → p < length (s .lists .sequence k) → (ps : List Write) × (plan ≡ stores ps)
+  -- done, it has made 4 stores, the record is gone, and its cell counts as free
+  pub done : (m n : ℕ) → answerOf plan m ≡ A.Done n
+      → (n ≡ 4)
+      × Leaves w s k (deleteAt p (s .lists .sequence k)) (deleteAt p (recordsIn w s k)) (wordsAfter plan m w)
+      × FreeNode (wordsAfter plan m w) (getD (s .lists .sequence k) p 0)
+
+pub record Demand2 : Type 0 where
+  -- check answers sound exactly of the sound stores
+  pub checks : (w : List ℕ) → (checkAnswer w ≡ C.Sound) ↔ Sound w
+  -- a formatted store is sound, and its lists are empty
+  pub formats : (l : Layout) (w : List ℕ) → formatAnswer l w ≡ F.Done
+      → (s : Sound (formatWords l w)) × (layoutOf (formatWords l w) ≡ l) × ((k : ℕ) → s .lists .sequence k ≡ [])
+  -- of a sound store length and read answer what the plain sequence has
+  pub lengths : (w : List ℕ) (s : Sound w) (k : ℕ)
+      → lengthAnswer w k ≡ ask (ltb k (layoutOf w .lists)) (L.Refused 5) (L.Length (length (s .lists .sequence k)))
+  pub reads : (w : List ℕ) (s : Sound w) (k p : ℕ) → k < layoutOf w .lists
+      → (readNumber w k p ≡ ask (ltb p (length (s .lists .sequence k))) 7 0) × (readWords w k p ≡ getD (recordsIn w s k) p [])
+  pub inserts : (w : List ℕ) (s : Sound w) (k p c : ℕ) (words : List ℕ) → Inserts w s k p c words (insertPlan w k p c words)
+  pub deletes : (w : List ℕ) (s : Sound w) (k p : ℕ) → Deletes w s k p (deletePlan w k p)
+  -- "Nothing interprets a record."
+  pub uninterpreted : Uninterpreted

@@ -1,0 +1,3 @@
+pub mod Records
+pub mod Demand1
+pub mod Demand2
