@@ -7,7 +7,7 @@ use native.Mathlib.Nat.{add-zero}
 use lib.ListN.{getD}
 use Rattle.sequences.specs.Sequence.{steps}
 use Rattle.layout.specs.declared.Layout.{Layout}
-use Rattle.layout.specs.Words.{headWords, headerWords, nodeAt, cellAt, InRange, marked, identOf, formatted}
+use Rattle.layout.specs.Words.{headWords, headerWords, nodeAt, cellAt, InRange, marked, layoutOf, identOf, formatted}
 use Rattle.layout.proofs.Laws.{cell-header, cell-node, length-formatted, formatted-header, formatted-node}
 use Rattle.lists.specs.Lists.{IsList, SoundLists, Sound}
 use Rattle.lists.proofs.Agree.{holds-agrees}
@@ -56,3 +56,8 @@ formatted-sound l r =
       exact = length-formatted l;
       lists = formatted-lists l;
     }
+
+-- of this layout, and each list is empty
+pub formatted-empty : (l : Layout) → InRange l → (s : Sound (formatted l)) × (layoutOf (formatted l) ≡ l) × ((k : ℕ) → s .lists .sequence k ≡ [])
+unfolding formatted formatted-lists formatted-sound
+formatted-empty l r = (formatted-sound l r, refl, λ k. refl)
