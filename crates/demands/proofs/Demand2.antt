@@ -139,7 +139,7 @@ delete-stores : (l : Layout) (k : ℕ) (t : Site) → length (deleteWrites l k t
 unfolding deleteWrites
 delete-stores l k t = refl
 
--- a site that is refused is none
+-- what is refused has no site, and is not done
 refused-at : {n : ℕ} {t : Site} → Refused n ≡ At t → ⊥
 refused-at e = let z : _≡_ {A = ℕ} 0 1 = cc in absurd (omega arith)
 
@@ -153,7 +153,7 @@ module _ (w : List ℕ) (s : Sound w) (k p : ℕ) where
   abbrev cells : List ℕ
   cells = s .lists .sequence k
 
-  -- insert
+  -- insert: where all questions are answered yes there is a site; a site gives the stores, and its absence the refusal
   module _ (c : ℕ) (words : List ℕ) where
     abbrev gap : Request
     gap = Gap k p c (length words)
@@ -200,7 +200,7 @@ module _ (w : List ℕ) (s : Sound w) (k p : ℕ) where
                   (d .0 ∙ insert-stores its k t words (f .size), (t .cell, f .first, rw (d .1) (leaves w s k (f .list) (i .edited) same)));
             })
 
-  -- delete
+  -- delete, in the same way
   delete-site : k < its .lists → p < length cells → (t : Site) × (siteOf its w (Member k p) ≡ At t)
   unfolding siteIn memberAt
   delete-site hk hp = (
@@ -239,6 +239,7 @@ module _ (w : List ℕ) (s : Sound w) (k p : ℕ) where
                 (d .0 ∙ delete-stores its k t, rw (d .1) (leaves w s k (f .list) (i .edited) same), rw (d .1) free);
           })
 
+-- all of it, once nothing interprets a record
 pub demand2 : Uninterpreted → Demand2
 demand2 u =
     record {
