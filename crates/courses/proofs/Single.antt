@@ -1,11 +1,9 @@
 -- One recovery: whatever store is not refused, a whole run leaves sound with at most L + N stores, and a sound store needs none.
-use Prim.Native.Nat.{ℕ, zero, suc, _+_, _<_, _≤_}
+use Prim.Native.Nat.{ℕ, _+_, _<_, _≤_}
 use mathlib.Core.Path.{_≡_, refl, ap, _∙_, sym, subst}
 use mathlib.Core.List.{List, []}
 use mathlib.Core.Bool.{Bool, true, false}
-use mathlib.Core.Logic.{_⊎_, ⊎-elim}
 use native.Mathlib.Omega.{arith}
-use native.Mathlib.Nat.{eq-or-lt-of-le}
 use lib.Dec.{eqb}
 use lib.ListN.{length, getD}
 use borrow.Author.Tests.{eqb-true}
@@ -18,23 +16,9 @@ use Rattle.layout.specs.Words.{InRange, layoutOf, sizeOf, opened, afterOpen, as
 use Rattle.layout.proofs.Laws.{opened-open, open-opened}
 use Rattle.lists.specs.Lists.{Sound, SoundLists}
 use Rattle.lists.proofs.Same.{same-marked, same-layout}
-use Rattle.recovery.specs.Fits.{Fit, none, only, several, fitOf}
-use Rattle.recovery.specs.Plan.{recoverStores, onlyOf, fittingOf, fitNumber, refusalFrom, recoverOf, recoverPlan, Accepted}
-use Rattle.recovery.proofs.Whole.{fit-accepted, accepted-plan, whole-sound, sound-accepted, sound-settled, few-stores}
+use Rattle.recovery.specs.Plan.{recoverStores, fittingOf, refusalFrom, recoverOf, recoverPlan, Accepted}
+use Rattle.recovery.proofs.Whole.{number-accepted, accepted-plan, whole-sound, sound-accepted, sound-settled, few-stores}
 use Rattle.courses.proofs.Final.{final-head}
-
--- no list refused: each has its only sequence
-all-only : (l : Layout) (w : List ℕ) (k n : ℕ) → refusalFrom l w k n ≡ 0 → (j : ℕ) → k ≤ j → j < k + n → fitOf l w j ≡ only (fittingOf l w j)
-unfolding refusalFrom
-all-only l w k zero e j p q = absurd (omega arith)
-all-only l w k (suc n) e j p q =
-    let r = by (fitOf l w k) e in
-    ⊎-elim (λ z. subst (λ (i : ℕ). fitOf l w i ≡ only (fittingOf l w i)) z (r .0)) (λ z. all-only l w (suc k) n (r .1) j z (omega arith)) (eq-or-lt-of-le p)
-  where
-    by : (f : Fit) → fitNumber f (refusalFrom l w (suc k) n) ≡ 0 → (f ≡ only (onlyOf f)) × (refusalFrom l w (suc k) n ≡ 0)
-    by none e = absurd (omega arith)
-    by (only s) e = (refl, e)
-    by several e = absurd (omega arith)
 
 -- what a plan that is not a refusal tells
 planned : (w : List ℕ) (ps : List Write) → recoverPlan w ≡ stores ps
@@ -45,8 +29,7 @@ planned w ps = by (opened w) refl
     asked : (l : Layout) (b : Bool) → eqb (refusalFrom l w 0 (l .lists)) 0 ≡ b
         → ask b (refuse (refusalFrom l w 0 (l .lists))) (stores (recoverStores l w (fittingOf l w))) ≡ stores ps
         → Accepted l w (fittingOf l w) × (ps ≡ recoverStores l w (fittingOf l w))
-    asked l true z e =
-        (fit-accepted l w (fittingOf l w) (λ k h. all-only l w 0 (l .lists) (eqb-true _ _ z) k (omega arith) (omega arith)), cc)
+    asked l true z e = (number-accepted l w (eqb-true _ _ z), cc)
     asked l false z e = let y : _≡_ {A = ℕ} 0 1 = cc in absurd (omega arith)
 
     by : (o : Opened) → opened w ≡ o → afterOpen o refuse (λ l. recoverOf l w) ≡ stores ps

@@ -7,7 +7,7 @@ use native.Mathlib.Numerals.{add-one}
 use lib.ListN.{length, getD, set, take, length-append}
 use lib.Seq.{take-suc, take-all, length-take-le}
 use Rattle.sequences.specs.Sequence.{All}
-use Rattle.sequences.proofs.Members.{all-nth}
+use Rattle.sequences.proofs.Members.{all-append, all-nth}
 use Rattle.layout.specs.declared.Layout.{Layout}
 use Rattle.layout.specs.Words.{cellAt, countAt, recordAt, sizeOf}
 use Rattle.layout.proofs.Laws.{size-small, cell-fits, header-fits, node-fits}
@@ -15,7 +15,7 @@ use Rattle.stores.specs.declared.Rows.{Rows}
 use Rattle.stores.specs.Stores.{Write, write, inRow, writesIn, noRows, Held}
 use Rattle.stores.proofs.Laws.{length-row, held-none, held-more}
 use Rattle.requests.specs.declared.Site.{Site}
-use Rattle.edits.specs.Edits.{insertLinks, deleteWrites, Placed}
+use Rattle.edits.specs.Edits.{insertLinks, insertWrites, deleteWrites, Placed}
 
 -- the rows hold the stores ps and the first i of the stores qs, and have room for the rest of them
 pub record Filled (n : ℕ) (ps qs : List Write) (i : ℕ) (r : Rows) : Type 0 where
@@ -91,13 +91,28 @@ module _ {l : Layout} {k : ℕ} {t : Site} (p : Placed l k t) where
   pub record-fits : (recordAt l (t .cell) + l .width ≤ sizeOf l) × (sizeOf l ≤ 65536)
   record-fits = (omega (arith, node-fits l (t .cell) (p .cell)), size-small l (p .inRange))
 
+  -- every store goes to a word of the store
+  links-inside : All (λ (q : Write). q .at < sizeOf l) (insertLinks l k t)
+  unfolding insertLinks
+  links-inside = omega (arith, site-fits)
+
+  pub insert-inside : (words : List ℕ) → length words ≡ l .width → All (λ (q : Write). q .at < sizeOf l) (insertWrites l k t words)
+  unfolding insertWrites
+  insert-inside words e =
+      all-append (λ (q : Write). q .at < sizeOf l) (inRow (recordAt l (t .cell)) words) (insertLinks l k t)
+      (row-inside (sizeOf l) (recordAt l (t .cell)) words (omega (arith, record-fits))) links-inside
+
+  pub delete-inside : All (λ (q : Write). q .at < sizeOf l) (deleteWrites l k t)
+  unfolding deleteWrites
+  delete-inside = omega (arith, site-fits)
+
   -- before the first store of an insert's links
   pub links-fill : (r : Rows) → Held (sizeOf l) r (writesIn r) → r .len ≤ 13 → Filled (sizeOf l) (writesIn r) (insertLinks l k t) 0 r
   unfolding insertLinks
   links-fill r h g =
       record {
         few = omega (arith, h .len);
-        inside = omega (arith, site-fits);
+        inside = links-inside;
         held = subst (Held (sizeOf l) r) (sym (append-nil (writesIn r))) h;
       }
 
@@ -105,4 +120,4 @@ module _ {l : Layout} {k : ℕ} {t : Site} (p : Placed l k t) where
   pub delete-fill : Filled (sizeOf l) [] (deleteWrites l k t) 0 noRows
   unfolding deleteWrites
   delete-fill =
-      record { few = omega arith; inside = omega (arith, site-fits); held = held-none (sizeOf l) }
+      record { few = omega arith; inside = delete-inside; held = held-none (sizeOf l) }

@@ -7,12 +7,12 @@ use mathlib.Core.Logic.{_⊎_, inl, inr, ⊎-elim}
 use native.Mathlib.Omega.{arith}
 use native.Mathlib.Nat.{eq-or-lt-of-le}
 use lib.Dec.{eqb}
-use lib.ListN.{length, getD, length-append}
+use lib.ListN.{length, getD, length-append, length-set}
 use lib.Seq.{drop-length}
 use borrow.Author.Tests.{eq-eqb, eqb-true}
-use Rattle.sequences.specs.Sequence.{_∈_}
+use Rattle.sequences.specs.Sequence.{_∈_, All}
 use Rattle.sequences.proofs.Members.{member?}
-use Rattle.stores.specs.Stores.{Write, write, run, applied, stores}
+use Rattle.stores.specs.Stores.{Write, write, store, run, applied, stores}
 use Rattle.stores.proofs.Laws.{applied-all}
 use Rattle.layout.specs.declared.Layout.{Layout}
 use Rattle.layout.specs.declared.Opened.the-variants as O
@@ -22,7 +22,7 @@ use Rattle.recovery.specs.Fits.{wrong, Fits, Fit, none, only, several, f
 use Rattle.recovery.specs.Plan.{joined, isIn, clears, storesFrom, recoverStores, onlyOf, fittingOf, fitNumber, refusalFrom, recoverOf, recoverPlan, Accepted}
 use Rattle.recovery.proofs.Candidates.{agrees-wrong, wrong-agrees, Decided, decided}
 use Rattle.recovery.proofs.Step.{right-unique}
-use Rattle.recovery.proofs.Suffix.{in-isIn, isIn-true, clear-skip, clear-here, one-joined, joined-one, stores-right, suffix}
+use Rattle.recovery.proofs.Suffix.{in-isIn, isIn-true, clear-skip, clear-here, one-joined, joined-one, stores-right, next, suffix}
 
 -- an accepted list's decision
 pub accepted-fit : (l : Layout) (w : List ℕ) (s : ℕ → List ℕ) → Accepted l w s → (k : ℕ) → k < l .lists → fitOf l w k ≡ only (s k)
@@ -47,6 +47,22 @@ unfolding refusalFrom
 accepted-number l w s a k zero h = refl
 accepted-number l w s a k (suc n) h =
     ap (λ (f : Fit). fitNumber f (refusalFrom l w (suc k) n)) (accepted-fit l w s a k (omega arith)) ∙ accepted-number l w s a (suc k) n (omega arith)
+
+-- and the other way round: each list has its only sequence
+all-only : (l : Layout) (w : List ℕ) (k n : ℕ) → refusalFrom l w k n ≡ 0 → (j : ℕ) → k ≤ j → j < k + n → fitOf l w j ≡ only (fittingOf l w j)
+unfolding refusalFrom
+all-only l w k zero e j p q = absurd (omega arith)
+all-only l w k (suc n) e j p q =
+    let r = by (fitOf l w k) e in
+    ⊎-elim (λ z. subst (λ (i : ℕ). fitOf l w i ≡ only (fittingOf l w i)) z (r .0)) (λ z. all-only l w (suc k) n (r .1) j z (omega arith)) (eq-or-lt-of-le p)
+  where
+    by : (f : Fit) → fitNumber f (refusalFrom l w (suc k) n) ≡ 0 → (f ≡ only (onlyOf f)) × (refusalFrom l w (suc k) n ≡ 0)
+    by none e = absurd (omega arith)
+    by (only s) e = (refl, e)
+    by several e = absurd (omega arith)
+
+pub number-accepted : (l : Layout) (w : List ℕ) → refusalFrom l w 0 (l .lists) ≡ 0 → Accepted l w (fittingOf l w)
+number-accepted l w e = fit-accepted l w (fittingOf l w) (λ k h. all-only l w 0 (l .lists) e k (omega arith) (omega arith))
 
 -- sequences that agree below L give one plan
 joined-same : (s t : ℕ → List ℕ) (n : ℕ) → ((k : ℕ) → k < n → s k ≡ t k) → joined s n ≡ joined t n
@@ -184,3 +200,12 @@ few-stores l w s a = from 0 (l .lists) (omega arith)
     from k zero h = omega (arith, clears-few l w (joined s (l .lists)) (firstNode l) (l .nodes))
     from k (suc n) h =
         omega (arith, length-append (wrong w (asked l k (s k))) (storesFrom l w s (suc k) n), a .fits k (omega arith) .few, from (suc k) n (omega arith))
+
+-- every store of the plan goes to a word of the store
+pub stores-inside : (l : Layout) (s : ℕ → List ℕ) (ps : List Write) (w : List ℕ) → length w ≡ sizeOf l → Accepted l w s → recoverStores l w s ≡ ps
+    → All (λ (p : Write). p .at < length w) ps
+stores-inside l s [] w e a q = tt
+stores-inside l s (p ∷ ps) w e a q =
+    let n = next l w e s a p ps q in
+    let f = length-set w (p .at) (p .value) in
+    (n .inside, subst (λ (m : ℕ). All (λ (r : Write). r .at < m) ps) f (stores-inside l s ps (store w p) (f ∙ e) (n .accepted) (n .left)))
