@@ -17,7 +17,7 @@ use Rattle.layout.specs.Words.{Node, layoutOf}
 use Rattle.layout.proofs.Laws.{open-opened}
 use Rattle.layout.proofs.Apart.{cell-behind}
 use Rattle.lists.specs.Lists.{Sound, IsList, SameCells}
-use Rattle.lists.proofs.Same.{same-sound}
+use Rattle.lists.proofs.Same.{same-opened, same-sound}
 use Rattle.edits.specs.Edited.{replaced}
 use Rattle.edits.proofs.Edited.{replaced-own, replaced-other}
 use Rattle.recovery.specs.Plan.{recoverStores, recoverPlan, Accepted, Kind}
@@ -27,7 +27,7 @@ use Rattle.courses.proofs.Cut.{Cut}
 use Rattle.courses.proofs.EditCut.{edit-cut}
 use Rattle.courses.proofs.Found.{altered-out, length-altered, kept, kept-outside, found-accepted}
 use Rattle.courses.proofs.Final.{final-head, final-outside, final-lists, final-zero, final-words}
-use Rattle.courses.proofs.Recoveries.{Standing, standing-plan, same-opened, one-recovery, Through, through}
+use Rattle.courses.proofs.Recoveries.{Standing, standing-plan, one-recovery, Through, through}
 
 -- the last of several recoveries
 pub through-last : (ms : List ℕ) (m : ℕ) (y : List ℕ) → wordsThrough (ms ++ m ∷ []) y ≡ wordsAfter (recoverPlan (wordsThrough ms y)) m (wordsThrough ms y)
@@ -74,8 +74,11 @@ module _ (w : List ℕ) (s : Sound w) (e : Edit) (m : ℕ) (alts : ℕ → Alter
 
   standing : Standing l t y
   standing =
-      let o = same-opened w y l (open-opened w (s .marked) (s .inRange) (s .exact)) head size in
-      record { opens = o .0; size = o .1; accepted = accepted }
+      record {
+        opens = same-opened w y head size ∙ open-opened w (s .marked) (s .inRange) (s .exact);
+        size = size ∙ s .exact;
+        accepted = accepted;
+      }
 
   abbrev ps : List Write
   ps = recoverStores l y t

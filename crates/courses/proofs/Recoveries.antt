@@ -16,9 +16,8 @@ use Rattle.stores.specs.Stores.{Write, run, applied, Plan, stores, answerOf, wo
 use Rattle.stores.proofs.Laws.{run-append, run-out, length-run}
 use Rattle.layout.specs.declared.Layout.{Layout}
 use Rattle.layout.specs.declared.Opened.the-variants as O
-use Rattle.layout.specs.Words.{InRange, sizeOf, layoutOf, opened}
-use Rattle.layout.proofs.Laws.{opened-open, open-opened}
-use Rattle.lists.proofs.Same.{same-marked, same-layout}
+use Rattle.layout.specs.Words.{sizeOf, opened}
+use Rattle.lists.proofs.Same.{same-opened}
 use Rattle.recovery.specs.Plan.{recoverStores, recoverPlan, Accepted}
 use Rattle.recovery.proofs.Suffix.{suffix}
 use Rattle.recovery.proofs.Whole.{accepted-plan}
@@ -44,25 +43,16 @@ pub record Standing (l : Layout) (t : ℕ → List ℕ) (y : List ℕ) : Type 0 
 pub standing-plan : (l : Layout) (t : ℕ → List ℕ) (y : List ℕ) → Standing l t y → recoverPlan y ≡ stores (recoverStores l y t)
 standing-plan l t y s = accepted-plan l y t (s .opens) (s .accepted)
 
--- words with the same first eight and the same length are opened alike
-pub same-opened : (w y : List ℕ) (l : Layout) → opened w ≡ O.Open l → ((a : ℕ) → a < 8 → getD y a 0 ≡ getD w a 0) → length y ≡ length w
-    → (opened y ≡ O.Open l) × (length y ≡ sizeOf l)
-same-opened w y l o h e =
-    let f = opened-open w l o in
-    let g : layoutOf y ≡ l = same-layout w y h ∙ sym (f .0) in
-    (open-opened y (same-marked w y h ∙ f .1) (subst InRange (sym g) (f .2)) (e ∙ f .3 ∙ ap sizeOf (sym g)) ∙ ap O.Open g, e ∙ f .3)
-
 -- one recovery: the words stand again, and the plan that is left is the rest
 pub one-recovery : (l : Layout) (t : ℕ → List ℕ) (y : List ℕ) → Standing l t y → (m : ℕ)
     → Standing l t (applied (recoverStores l y t) m y) × (recoverStores l (applied (recoverStores l y t) m y) t ≡ drop m (recoverStores l y t))
 one-recovery l t y s m =
     let ps = recoverStores l y t in
     let r = suffix l t m y (s .size) (s .accepted) in
-    let o =
-    same-opened y (applied ps m y) l (s .opens)
-    (λ a h. run-out (take m ps) y a (all-take (λ (p : Write). a ≡ p .at → ⊥) ps m (head-spares l y (s .size) t (s .accepted) a h)))
-    (length-run (take m ps) y) in
-    (record { opens = o .0; size = o .1; accepted = r .0 }, r .1)
+    let head : (a : ℕ) → a < 8 → getD (applied ps m y) a 0 ≡ getD y a 0 =
+    λ a h. run-out (take m ps) y a (all-take (λ (p : Write). a ≡ p .at → ⊥) ps m (head-spares l y (s .size) t (s .accepted) a h)) in
+    let size = length-run (take m ps) y in
+    (record { opens = same-opened y (applied ps m y) head size ∙ s .opens; size = size ∙ s .size; accepted = r .0 }, r .1)
 
 -- any number of them, which leave the words x, with their answers and the stores they made
 pub record Through (l : Layout) (t : ℕ → List ℕ) (y x : List ℕ) (answers : List Answer) (made : List Write) : Type 0 where

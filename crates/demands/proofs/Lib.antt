@@ -1,3 +1,4 @@
 pub mod Demand1
+pub mod Uninterpreted
 pub mod Plain
 pub mod Demand2

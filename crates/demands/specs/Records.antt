@@ -37,14 +37,15 @@ pub record SameCalls (w w′ : List ℕ) : Type 0 where
   pub deletes : (k p : ℕ) → deletePlan w′ k p ≡ deletePlan w k p
   pub recovers : recoverPlan w′ ≡ recoverPlan w
 
--- two inserts that differ in the values of the record stores alone: both refused with one number, or both store their record at one
--- place and go on alike
-pub data SameStores (words words′ : List ℕ) (plan plan′ : Plan) : Type 0 where
-  refused : (n : ℕ) → plan ≡ refuse n → plan′ ≡ refuse n → SameStores words words′ plan plan′
-  stored : (a : ℕ) (rest : List Write) → plan ≡ stores (inRow a words ++ rest) → plan′ ≡ stores (inRow a words′ ++ rest)
-      → SameStores words words′ plan plan′
+-- two inserts that differ in the values of the record stores alone: both refused with one number, or both store their words as the
+-- record of one node and go on alike
+pub data SameStores (l : Layout) (words words′ : List ℕ) (plan plan′ : Plan) : Type 0 where
+  refused : (n : ℕ) → plan ≡ refuse n → plan′ ≡ refuse n → SameStores l words words′ plan plan′
+  stored : (cell : ℕ) (rest : List Write) → Node l cell → length words ≡ l .width
+      → plan ≡ stores (inRow (recordAt l cell) words ++ rest) → plan′ ≡ stores (inRow (recordAt l cell) words′ ++ rest)
+      → SameStores l words words′ plan plan′
 
 pub record Uninterpreted : Type 0 where
   pub calls : (w w′ : List ℕ) → SameButRecords w w′ → SameCalls w w′
   pub given : (w : List ℕ) (k p c : ℕ) (words words′ : List ℕ) → length words′ ≡ length words
-      → SameStores words words′ (insertPlan w k p c words) (insertPlan w k p c words′)
+      → SameStores (layoutOf w) words words′ (insertPlan w k p c words) (insertPlan w k p c words′)

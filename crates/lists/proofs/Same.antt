@@ -9,7 +9,7 @@ use Rattle.sequences.specs.Sequence.{_∈_, All, Different}
 use Rattle.sequences.proofs.Members.{all-in, in-all, different-append, in-front}
 use Rattle.sequences.proofs.Splice.{forward-same, backward-same}
 use Rattle.layout.specs.declared.Layout.{Layout}
-use Rattle.layout.specs.Words.{cellCount, Node, InRange, marked, layoutOf, sizeOf, cellAt, identAt, countAt, identOf}
+use Rattle.layout.specs.Words.{cellCount, Node, InRange, marked, layoutOf, sizeOf, openedBy, opened, cellAt, identAt, countAt, identOf}
 use Rattle.layout.proofs.Laws.{cell-header}
 use Rattle.layout.proofs.Apart.{links-words, words-header}
 use Rattle.lists.specs.Lists.{IsList, SoundLists, Sound, SameCells}
@@ -106,6 +106,11 @@ same-marked w w′ h =
 pub same-layout : (w w′ : List ℕ) → ((a : ℕ) → a < 8 → getD w′ a 0 ≡ getD w a 0) → layoutOf w′ ≡ layoutOf w
 same-layout w w′ h =
     λ i. record { lists = h 4 (omega arith) i; nodes = h 5 (omega arith) i; width = h 6 (omega arith) i }
+
+-- and, if they are as many, are opened alike
+pub same-opened : (w w′ : List ℕ) → ((a : ℕ) → a < 8 → getD w′ a 0 ≡ getD w a 0) → length w′ ≡ length w → opened w′ ≡ opened w
+unfolding openedBy
+same-opened w w′ h e = rw (same-marked w w′ h, same-layout w w′ h, e)
 
 -- sound words, other words with the same first eight and the same length, and sound lists there: these are sound too
 pub same-sound

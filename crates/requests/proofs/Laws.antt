@@ -1,6 +1,6 @@
 -- Laws of the search for a free node, of the sites of a list, and of the questions of a request.
 use Prim.Native.Nat.{ℕ, suc, _+_, _-_, _≤_, _<_}
-use mathlib.Core.Path.{_≡_, refl, sym, ap, _∙_}
+use mathlib.Core.Path.{_≡_, ap, _∙_}
 use mathlib.Core.List.{List, [], _∷_, _++_}
 use mathlib.Core.Bool.{true, false}
 use native.Mathlib.Omega.{arith}
@@ -13,10 +13,10 @@ use Rattle.layout.specs.declared.Layout.{Layout}
 use Rattle.layout.specs.declared.Opened.the-variants as O
 use Rattle.layout.specs.Words.{firstNode, cellCount, Node, isNode, InRange, Laid, opened}
 use Rattle.layout.proofs.Laws.{opened-open}
-use Rattle.lists.specs.Decide.{View, viewOf, countIn, sequenceIn, soundIn, soundOf}
+use Rattle.lists.specs.Decide.{View, viewOf, countIn, sequenceIn, soundIn}
 use Rattle.lists.proofs.Agree.{holds-true}
 use Rattle.survey.specs.Survey.{columns, Columns, Loaded}
-use Rattle.survey.proofs.Laws.{before-next, before-cell, sound-hold, sound-count, loaded-view, sound-loaded}
+use Rattle.survey.proofs.Laws.{before-next, before-cell, sound-hold, sound-count, sound-same, loaded-view}
 use Rattle.requests.specs.declared.Free.the-variants.{Cell, Full}
 use Rattle.requests.specs.declared.Site.{Site}
 use Rattle.requests.specs.declared.Request.{Request}
@@ -160,22 +160,19 @@ module _ (l : Layout) (v : View) (count : ℕ → ℕ) where
     unfolding siteIn
     site-gap {k} z = rw (z, lt-ltb k (l .lists) (rw z at h), e)
 
-  -- of the counts only soundness asks
-  site-same : (other : ℕ → ℕ) (q : Request) → soundIn l v count ≡ soundIn l v other → siteIn l v count q ≡ siteIn l v other q
+  -- of the counts only soundness asks, and only of the lists'
+  pub site-same : (other : ℕ → ℕ) (q : Request) → ((k : ℕ) → k < l .lists → count k ≡ other k) → siteIn l v count q ≡ siteIn l v other q
   unfolding siteIn
-  site-same other Check e = rw e
-  site-same other (Whole k) e = rw e
-  site-same other (Member k p) e = rw e
-  site-same other (Gap k p c m) e = rw e
+  site-same other Check h = rw (sound-same l v count other h)
+  site-same other (Whole k) h = rw (sound-same l v count other h)
+  site-same other (Member k p) h = rw (sound-same l v count other h)
+  site-same other (Gap k p c m) h = rw (sound-same l v count other h)
 
 -- the site by the columns and the counts is that of the words
 pub site-loaded : (l : Layout) (w i f b : List ℕ) (count : ℕ → ℕ) (q : Request) → Loaded l w i f b
     → ((k : ℕ) → k < l .lists → count k ≡ countIn w k) → siteIn l (columns i f b) count q ≡ siteOf l w q
 site-loaded l w i f b count q h c =
-    let e = loaded-view l w i f b h in
-    let s : soundIn l (columns i f b) count ≡ soundOf l w = sound-loaded l w i f b count h c refl in
-    ap (λ (v : View). siteIn l v count q) e
-    ∙ site-same l (viewOf l w) count (countIn w) q (sym (ap (λ (v : View). soundIn l v count) e) ∙ s)
+    ap (λ (v : View). siteIn l v count q) (loaded-view l w i f b h) ∙ site-same l (viewOf l w) count (countIn w) q c
 
 -- an opened store is laid out
 pub opened-laid : (w : List ℕ) (l : Layout) → opened w ≡ O.Open l → Laid l w

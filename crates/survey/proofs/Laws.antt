@@ -283,12 +283,16 @@ holds-count v k n s e =
     let a = both (eqb (v .ident k) (identOf k)) (turn v k k s && eqb n (length s)) e in
     eqb-true _ _ (both (turn v k k s) (eqb n (length s)) (a .1) .1)
 
--- counts that agree give one answer
+-- counts that agree in the lists give one answer
 all-hold-same : (l : Layout) (v : View) (c d : ℕ → ℕ) (n : ℕ) → ((k : ℕ) → k < n → c k ≡ d k)
     → allHold l v c n ≡ allHold l v d n
 unfolding allHold
 all-hold-same l v c d zero h = refl
 all-hold-same l v c d (suc n) h = rw (h n (omega arith), all-hold-same l v c d n (λ k q. h k (omega arith)))
+
+pub sound-same : (l : Layout) (v : View) (c d : ℕ → ℕ) → ((k : ℕ) → k < l .lists → c k ≡ d k) → soundIn l v c ≡ soundIn l v d
+unfolding soundIn
+sound-same l v c d h = rw (all-hold-same l v c d (l .lists) h)
 
 -- the number of members of no list, and of one list more
 pub members-none : (l : Layout) (v : View) → 0 ≡ length (members l v 0)
@@ -339,9 +343,8 @@ module _ (l : Layout) (v : View) (count : ℕ → ℕ) where
 -- soundness as decided from the columns and the counts is that of the words
 pub sound-loaded : (l : Layout) (w i f b : List ℕ) (count : ℕ → ℕ) {r : Bool} → Loaded l w i f b
     → ((k : ℕ) → k < l .lists → count k ≡ countIn w k) → r ≡ soundIn l (columns i f b) count → r ≡ soundOf l w
-unfolding soundIn
 sound-loaded l w i f b count h c e =
-    e ∙ rw (loaded-view l w i f b h, all-hold-same l (viewOf l w) count (countIn w) (l .lists) c)
+    e ∙ ap (λ (v : View). soundIn l v count) (loaded-view l w i f b h) ∙ sound-same l (viewOf l w) count (countIn w) c
 
 -- the cell in front of a position of list k: its link is the cell at the position, and it is a cell of the store
 module _ (l : Layout) (v : View) (k : ℕ) where
