@@ -40,8 +40,8 @@ use Rattle.axle_store.specs.Answers.{formattedNumber}
 use Rattle.axle_store.specs.Calls.{formatAnswer, formatWords, lengthAnswer, readNumber, readWords, insertPlan, deletePlan}
 use Rattle.axle_store.proofs.Cases.{format-range, format-exact, format-done, insert-refused, insert-at, delete-refused, delete-at}
 use Rattle.axle_store.proofs.Calls.{check-decides, sound-opened, sound-decided, sound-length}
-use Rattle.demands.specs.Records.{Uninterpreted}
 use Rattle.demands.specs.Demand2.{recordsIn, Leaves, FreeNode, Inserts, Deletes, Demand2}
+use Rattle.demands.proofs.Uninterpreted.{uninterpreted}
 use Rattle.demands.proofs.Plain.{map-insert, map-delete, map-at, map-behind, map-same}
 
 -- format, done: not refused with 3 or 4
@@ -239,9 +239,8 @@ module _ (w : List ℕ) (s : Sound w) (k p : ℕ) where
                 (d .0 ∙ delete-stores its k t, rw (d .1) (leaves w s k (f .list) (i .edited) same), rw (d .1) free);
           })
 
--- all of it, once nothing interprets a record
-pub demand2 : Uninterpreted → Demand2
-demand2 u =
+pub demand2 : Demand2
+demand2 =
     record {
       checks = check-decides;
       formats = formats;
@@ -249,5 +248,5 @@ demand2 u =
       reads = reads;
       inserts = inserts;
       deletes = deletes;
-      uninterpreted = u;
+      uninterpreted = uninterpreted;
     }
