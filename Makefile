@@ -4,8 +4,8 @@
 # make uninstall  takes them away
 # make clean      removes what was built here
 #
-# example and install take the archive and the listing program that are there, and build them only if they are missing.
-# Others take their place by LIB=.. and LISTING=..
+# The archive and the listing program are made again if a source of any crate is newer. What was proved and has not changed is not
+# proved again. LIB=.. and LISTING=.. name others, which are taken as they are.
 
 LIB ?= target/staticlib/libaxle.a
 LISTING ?= target/bin/listing
@@ -17,15 +17,25 @@ prefix = $(abspath $(PREFIX))
 to = $(DESTDIR)$(prefix)
 store = target/example/bench.store
 
-all:
-	rt staticlib axle
-	rt check listing
+sources := crates.txt $(shell find crates -name must-fail -prune -o -print)
 
-target/staticlib/libaxle.a:
-	rt staticlib axle
+# Runs a command of rt and shows a line for each crate that it proves. target/build.log keeps all that the checker prints; its end is shown if a
+# crate is not proved.
+define quietly
+@mkdir -p target
+@{ $(1); echo $$? >target/build.status; } 2>&1 | tee target/build.log | sed -u -n '/unchanged/d; /^rt: /p'
+@status=$$(cat target/build.status); [ "$$status" = 0 ] || { tail -n 30 target/build.log | cut -c 1-300; exit "$$status"; }
+endef
 
-target/bin/listing:
-	rt check listing
+all: $(LIB) $(LISTING)
+
+target/staticlib/libaxle.a: $(sources)
+	$(call quietly,rt check $$(sed -n 's/^axle: //p' crates.txt))
+	$(call quietly,began=$$(date +%s); rt staticlib axle && echo "rt: axle proved ($$(($$(date +%s) - began)) s)")
+
+target/bin/listing: $(sources)
+	$(call quietly,rt check listing)
+	@touch $@
 
 target/example/sheet: examples/sheet.c include/axle.h $(LIB)
 	mkdir -p $(@D)

@@ -51,8 +51,9 @@
  * One of them is central: number P + 5 of the P + 6 of an insert, number 2 of the 4 of a delete. A cut leaves the first of
  * the stores made and the others not. Then:
  *
- *   - axle_check, axle_length, axle_insert and axle_delete answer AXLE_UNSOUND. (The store is still sound if nothing was
- *     stored yet but the record and links of a free node, the first P + 2 stores of an insert.)
+ *   - axle_check answers 0 if the store is sound as it was left, and AXLE_UNSOUND if not; axle_length, axle_insert and
+ *     axle_delete never work on a store that is not sound (AXLE_NO_LIST, where it applies, comes first). Do not conclude
+ *     from a sound store that nothing was cut, nor from the number of stores made whether it is sound: call axle_recover.
  *   - axle_recover leaves the list without the call if the cut came before the central store, and with it if after: with
  *     all its records, in their order. Every other list is as it was.
  *   - This holds also if, besides, at most one word has been altered in each other list: one of its header's four words, or
