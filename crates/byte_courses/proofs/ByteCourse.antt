@@ -1,19 +1,25 @@
 -- Demand 3 for the calls from C. Read as words, the bytes go through the course of the calls on words.
-use Prim.Native.Nat.{ℕ, _+_, _%_, _<_, _≤_}
+use Prim.Native.Nat.{ℕ, _%_, _≤_}
 use mathlib.Core.Path.{_≡_, refl, ap, ap₂, _∙_, sym, subst}
-use mathlib.Core.List.{List, [], _∷_, _++_}
+use mathlib.Core.List.{List, [], _∷_, _++_, map}
 use lib.ListN.{length}
 use borrow.Author.Tests.{eq-eqb}
-use Rattle.stores.specs.Stores.{Plan, answerOf, wordsAfter}
-use Rattle.byte_form.specs.Bytes.{wordsIn, bytesAfter}
-use Rattle.byte_form.proofs.Laws.{words-after, length-after}
+use Rattle.sequences.specs.Sequence.{All}
+use Rattle.stores.specs.declared.Answer.{Answer}
+use Rattle.stores.specs.declared.Answer.the-variants as A
+use Rattle.stores.specs.Stores.{Write, Plan, run, answerOf, wordsAfter, madeBy}
+use Rattle.stores.proofs.Laws.{run-append}
+use Rattle.byte_form.specs.Bytes.{wordsIn, byteWrites, bytesAfter}
+use Rattle.byte_form.proofs.Laws.{words-after, length-after, byte-append, bytes-made}
 use Rattle.layout.specs.Words.{layoutOf}
 use Rattle.lists.specs.Lists.{Sound}
 use Rattle.recovery.specs.Plan.{recoverPlan}
-use Rattle.courses.specs.Course.{Edit, insert, delete, named, editPlan, needed, dueWords, Alteration, Allowed, alteredBelow, found, wordsThrough, answersThrough, storesThrough, Course}
-use Rattle.courses.proofs.Course.{course}
+use Rattle.courses.specs.Course.{Edit, insert, delete, named, editPlan, allStores, needed, dueWords, Alteration, AllowedBut, alteredBelow, found, wordsThrough, answersThrough, storesThrough, NotRefused}
+use Rattle.courses.specs.Demand3.{Course}
+use Rattle.courses.proofs.Course.{demand3}
 use Rattle.axle.specs.Interface.{codeOf, byteInsert, byteDelete, byteRecover}
-use Rattle.byte_courses.specs.ByteCourse.{byteEdit, inWords, Found, bytesThrough, codesThrough, codes}
+use Rattle.byte_courses.specs.ByteCourse.{byteEdit, inWords, Found, bytesThrough, codesThrough}
+use Rattle.byte_courses.specs.ByteDemand3.{NotRefusal, ByteCourse, ByteDemand3}
 
 -- on an even number of bytes the plans are those of the words
 edit-plan : (b : List ℕ) (e : Edit) → length b % 2 ≡ 0 → byteEdit b e ≡ editPlan (wordsIn b) (inWords e)
@@ -26,37 +32,55 @@ unfolding byteRecover
 recover-plan y h = rw (eq-eqb (length y % 2) 0 h)
 
 -- one call
-pub edit-words : (b : List ℕ) (e : Edit) (m : ℕ) → length b % 2 ≡ 0 → wordsIn (bytesAfter (byteEdit b e) m b) ≡ wordsAfter (editPlan (wordsIn b) (inWords e)) m (wordsIn b)
+edit-words : (b : List ℕ) (e : Edit) (m : ℕ) → length b % 2 ≡ 0 → wordsIn (bytesAfter (byteEdit b e) m b) ≡ wordsAfter (editPlan (wordsIn b) (inWords e)) m (wordsIn b)
 edit-words b e m h = words-after (byteEdit b e) m b h ∙ ap (λ (p : Plan). wordsAfter p m (wordsIn b)) (edit-plan b e h)
 
-pub recover-words : (y : List ℕ) (m : ℕ) → length y % 2 ≡ 0 → wordsIn (bytesAfter (byteRecover y) m y) ≡ wordsAfter (recoverPlan (wordsIn y)) m (wordsIn y)
+recover-words : (y : List ℕ) (m : ℕ) → length y % 2 ≡ 0 → wordsIn (bytesAfter (byteRecover y) m y) ≡ wordsAfter (recoverPlan (wordsIn y)) m (wordsIn y)
 recover-words y m h = words-after (byteRecover y) m y h ∙ ap (λ (p : Plan). wordsAfter p m (wordsIn y)) (recover-plan y h)
 
 even-after : (y : List ℕ) (m : ℕ) → length y % 2 ≡ 0 → length (bytesAfter (byteRecover y) m y) % 2 ≡ 0
 even-after y m h = ap (λ (n : ℕ). n % 2) (length-after (byteRecover y) m y) ∙ h
 
 -- several
-pub even-through : (ms y : List ℕ) → length y % 2 ≡ 0 → length (bytesThrough ms y) % 2 ≡ 0
+even-through : (ms y : List ℕ) → length y % 2 ≡ 0 → length (bytesThrough ms y) % 2 ≡ 0
 unfolding bytesThrough
 even-through [] y h = h
 even-through (m ∷ ms) y h = even-through ms (bytesAfter (byteRecover y) m y) (even-after y m h)
 
-pub words-through : (ms y : List ℕ) → length y % 2 ≡ 0 → wordsIn (bytesThrough ms y) ≡ wordsThrough ms (wordsIn y)
+words-through : (ms y : List ℕ) → length y % 2 ≡ 0 → wordsIn (bytesThrough ms y) ≡ wordsThrough ms (wordsIn y)
 unfolding bytesThrough wordsThrough
 words-through [] y h = refl
 words-through (m ∷ ms) y h =
     words-through ms (bytesAfter (byteRecover y) m y) (even-after y m h) ∙ ap (λ (w : List ℕ). wordsThrough ms w) (recover-words y m h)
 
-pub codes-through : (ms y : List ℕ) → length y % 2 ≡ 0 → codesThrough ms y ≡ codes (answersThrough ms (wordsIn y))
-unfolding codesThrough codes answersThrough
+codes-through : (ms y : List ℕ) → length y % 2 ≡ 0 → codesThrough ms y ≡ map codeOf (answersThrough ms (wordsIn y))
+unfolding codesThrough answersThrough
 codes-through [] y h = refl
 codes-through (m ∷ ms) y h =
     ap₂ (λ (n : ℕ) (ns : List ℕ). n ∷ ns) (ap (λ (p : Plan). codeOf (answerOf p m)) (recover-plan y h))
-    (codes-through ms (bytesAfter (byteRecover y) m y) (even-after y m h) ∙ ap (λ (w : List ℕ). codes (answersThrough ms w)) (recover-words y m h))
+    (codes-through ms (bytesAfter (byteRecover y) m y) (even-after y m h)
+    ∙ ap (λ (w : List ℕ). map codeOf (answersThrough ms w)) (recover-words y m h))
 
--- demand 3: the course of the words, the numbers of its answers, and the last one done
+-- their stores are those of the calls on words
+bytes-run : (ms y : List ℕ) → length y % 2 ≡ 0 → bytesThrough ms y ≡ run (byteWrites (storesThrough ms (wordsIn y))) y
+unfolding bytesThrough storesThrough run byteWrites
+bytes-run [] y h = refl
+bytes-run (m ∷ ms) y h =
+    let p = recoverPlan (wordsIn y) in
+    let y₁ = bytesAfter (byteRecover y) m y in
+    let qs = storesThrough ms (wordsAfter p m (wordsIn y)) in
+    bytes-run ms y₁ (even-after y m h)
+    ∙ ap₂ (λ (w v : List ℕ). run (byteWrites (storesThrough ms w)) v) (recover-words y m h)
+    (bytes-made (byteRecover y) m y ∙ ap (λ (q : Plan). run (byteWrites (madeBy q m)) y) (recover-plan y h))
+    ∙ sym (run-append (byteWrites (madeBy p m)) (byteWrites qs) y) ∙ ap (λ (v : List Write). run v y) (sym (byte-append (madeBy p m) qs))
+
+-- the numbers of answers that are not refused
+not-refusals : (answers : List Answer) → All NotRefused answers → All NotRefusal (map codeOf answers)
+not-refusals [] h = tt
+not-refusals (a ∷ answers) h = ((a, h .0, refl), not-refusals answers (h .1))
+
 module _ (b : List ℕ) (h : length b % 2 ≡ 0) (s : Sound (wordsIn b)) (e : Edit) (m : ℕ) (alts : ℕ → Alteration)
-    (allowed : (j : ℕ) → j < layoutOf (wordsIn b) .lists → (j ≡ named (inWords e) → ⊥) → Allowed j (s .lists .sequence j) (alts j))
+    (allowed : AllowedBut (named (inWords e)) (layoutOf (wordsIn b) .lists) (s .lists .sequence) alts)
     (y : List ℕ) (f : Found b e m alts y) (ms : List ℕ) (last : ℕ) (enough : needed (byteRecover (bytesThrough ms y)) ≤ last) where
   abbrev runs : List ℕ
   runs = ms ++ last ∷ []
@@ -69,26 +93,32 @@ module _ (b : List ℕ) (h : length b % 2 ≡ 0) (s : Sound (wordsIn b)) (e : Ed
   last-plan : byteRecover (bytesThrough ms y) ≡ recoverPlan (wordsThrough ms (wordsIn y))
   last-plan = recover-plan (bytesThrough ms y) (even-through ms y (f .even)) ∙ ap recoverPlan (words-through ms y (f .even))
 
-  pub byte-course
-      : Course (wordsIn b) s (named (inWords e)) (dueWords (wordsIn b) (inWords e) m) (wordsIn y) (wordsIn (bytesThrough runs y))
-      (answersThrough runs (wordsIn y)) (storesThrough runs (wordsIn y))
-      × (codesThrough runs y ≡ codes (answersThrough runs (wordsIn y)))
-      × (codeOf (answerOf (byteRecover (bytesThrough ms y)) last) ≡ 65536 + needed (byteRecover (bytesThrough ms y)))
+  -- the course of the words
+  abbrev Ends : List ℕ → Answer → Type 0
+  Ends z r = Course (wordsIn b) s (named (inWords e)) (dueWords (wordsIn b) (inWords e) m) (wordsIn y) ms last z r
+
+  course : Ends (wordsThrough runs (wordsIn y)) (answerOf (recoverPlan (wordsThrough ms (wordsIn y))) last)
+  course = demand3 (wordsIn y) ms last (wordsIn b) s (inWords e) m alts allowed found-words (subst (λ (p : Plan). needed p ≤ last) last-plan enough)
+
+  done : answerOf (recoverPlan (wordsThrough ms (wordsIn y))) last ≡ A.Done (needed (byteRecover (bytesThrough ms y)))
+  done = course .done ∙ ap (λ (p : Plan). A.Done (needed p)) (sym last-plan)
+
+  byte-course
+      : ByteCourse b s (named (inWords e)) (dueWords (wordsIn b) (inWords e) m) y ms last (bytesThrough runs y)
+      (codeOf (answerOf (byteRecover (bytesThrough ms y)) last))
   byte-course =
-      let c =
-      subst
-      (λ (x : List ℕ).
-      needed (recoverPlan (wordsThrough ms x)) ≤ last
-      → Course (wordsIn b) s (named (inWords e)) (dueWords (wordsIn b) (inWords e) m) x (wordsThrough runs x) (answersThrough runs x) (storesThrough runs x)
-      × (codeOf (answerOf (recoverPlan (wordsThrough ms x)) last) ≡ 65536 + needed (recoverPlan (wordsThrough ms x))))
-      (sym found-words)
-      (λ n. let r = course (wordsIn b) s (inWords e) m alts allowed ms last n in (r .0, ap codeOf (r .1)))
-      (subst (λ (p : Plan). needed p ≤ last) last-plan enough) in (
-        subst
-            (λ (z : List ℕ).
-            Course (wordsIn b) s (named (inWords e)) (dueWords (wordsIn b) (inWords e) m) (wordsIn y) z (answersThrough runs (wordsIn y))
-            (storesThrough runs (wordsIn y)))
-            (sym (words-through runs y (f .even))) (c .0),
-        codes-through runs y (f .even),
-        subst (λ (p : Plan). codeOf (answerOf p last) ≡ 65536 + needed p) (sym last-plan) (c .1),
-      )
+      record {
+        accepted =
+            subst (All NotRefusal) (sym (codes-through ms y (f .even))) (not-refusals (answersThrough ms (wordsIn y)) (course .accepted));
+        done = ap codeOf (ap (λ (p : Plan). answerOf p last) last-plan ∙ done);
+        words =
+            subst (Ends (wordsIn (bytesThrough runs y))) done
+            (subst (λ (z : List ℕ). Ends z (answerOf (recoverPlan (wordsThrough ms (wordsIn y))) last)) (sym (words-through runs y (f .even))) course);
+        numbers = codes-through ms y (f .even);
+        same =
+            bytes-run runs y (f .even)
+            ∙ ap (λ (ps : List Write). run (byteWrites ps) y) (course .made ∙ ap allStores (sym (recover-plan y (f .even))));
+      }
+
+pub byte-demand3 : ByteDemand3
+byte-demand3 = byte-course

@@ -1,9 +1,8 @@
--- A course of calls from C: the store and the record are bytes.
+-- The words in which demand 3 (ByteDemand3.antt) speaks of a course of calls from C: the store and the record are bytes.
 use Prim.Native.Nat.{ℕ, _%_}
 use mathlib.Core.Path.{_≡_}
 use mathlib.Core.List.{List, [], _∷_}
 use lib.ListN.{length}
-use Rattle.stores.specs.declared.Answer.{Answer}
 use Rattle.stores.specs.Stores.{Plan, answerOf}
 use Rattle.byte_form.specs.Bytes.{wordsIn, bytesAfter}
 use Rattle.layout.specs.Words.{layoutOf}
@@ -34,7 +33,3 @@ bytesThrough (m ∷ ms) y = bytesThrough ms (bytesAfter (byteRecover y) m y)
 unfoldable pub codesThrough : List ℕ → List ℕ → List ℕ
 codesThrough [] y = []
 codesThrough (m ∷ ms) y = codeOf (answerOf (byteRecover y) m) ∷ codesThrough ms (bytesAfter (byteRecover y) m y)
-
-unfoldable pub codes : List Answer → List ℕ
-codes [] = []
-codes (a ∷ rest) = codeOf a ∷ codes rest

@@ -1,1 +1,2 @@
 pub mod ByteCourse
+pub mod ByteDemand3

@@ -13,8 +13,8 @@ use Rattle.lists.specs.Lists.{IsList, SoundLists, SameCells}
 use Rattle.lists.proofs.Unique.{member-ident}
 use Rattle.lists.proofs.Same.{lists-apart}
 use Rattle.recovery.proofs.Candidates.{right-forward, right-backward}
-use Rattle.courses.specs.Course.{Alteration, untouched, Touches}
-use Rattle.courses.proofs.Other.{altered-fits, forwards-right, backs-right}
+use Rattle.courses.specs.Course.{Alteration, untouched}
+use Rattle.courses.proofs.Other.{Touches, altered-fits, forwards-right, backs-right}
 use Rattle.courses.proofs.Own.{Own}
 
 -- the words y that a call naming list k left of the sound words w: its sequence is t, and its words are to be those of x

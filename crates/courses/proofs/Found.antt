@@ -25,8 +25,8 @@ use Rattle.edits.proofs.Edited.{replaced-own, replaced-other}
 use Rattle.recovery.specs.Fits.{Fits}
 use Rattle.recovery.specs.Plan.{Accepted}
 use Rattle.recovery.proofs.Candidates.{right-forward, right-backward}
-use Rattle.courses.specs.Course.{Alteration, untouched, altered, alter, Allowed, alteredBelow, Touches}
-use Rattle.courses.proofs.Other.{altered-fits, forwards-right, backs-right, altered-unique}
+use Rattle.courses.specs.Course.{Alteration, untouched, altered, alter, Allowed, AllowedBut, alteredBelow}
+use Rattle.courses.proofs.Other.{Touches, altered-fits, forwards-right, backs-right, altered-unique}
 use Rattle.courses.proofs.Own.{Own, own-unique, own-same}
 
 -- a word that no alteration goes to
@@ -62,12 +62,12 @@ length-altered l k alts (suc j) w = by (eqb j k) (length-altered l k alts j w)
     by false r = length-alter l (alts j) (alteredBelow l k alts j w) ∙ r
 
 module _ (l : Layout) (w : List ℕ) (s : SoundLists l w) (k : ℕ) (alts : ℕ → Alteration)
-    (allowed : (j : ℕ) → j < l .lists → (j ≡ k → ⊥) → Allowed j (s .sequence j) (alts j)) where
+    (allowed : AllowedBut k (l .lists) (s .sequence) alts) where
   -- an altered word is a word of a cell of its list
   pub altered-cell : (j : ℕ) → j < l .lists → (j ≡ k → ⊥) → (c f v : ℕ) → alts j ≡ altered c f v → (c ∈ (j ∷ s .sequence j)) × (f < cellWords l c)
   altered-cell j h n c f v e = by (subst (Allowed j (s .sequence j)) e (allowed j h n))
     where
-      by : ((c ≡ j) × (f < 4)) ⊎ ((c ∈ s .sequence j) × (f < 3)) → (c ∈ (j ∷ s .sequence j)) × (f < cellWords l c)
+      by : Allowed j (s .sequence j) (altered c f v) → (c ∈ (j ∷ s .sequence j)) × (f < cellWords l c)
       by (inl q) =
           (List·Memᴰ·head (q .0), subst (λ (d : ℕ). f < cellWords l d) (sym (q .0)) (subst (λ (x : ℕ). f < x) (sym (words-header l j h)) (q .1)))
       by (inr q) = (List·Memᴰ·tail (q .0), links-words l c f (q .1))

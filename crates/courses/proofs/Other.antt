@@ -26,8 +26,13 @@ use Rattle.recovery.proofs.Candidates.{sequence-dec, wrong-right, wrong-wrong, 
 use Rattle.recovery.proofs.Step.{ring-cells}
 use Rattle.recovery.proofs.Slots.{step-source, step-target}
 use Rattle.recovery.proofs.Disjoint.{no-paths}
-use Rattle.courses.specs.Course.{Alteration, untouched, altered, Touches}
+use Rattle.courses.specs.Course.{Alteration, untouched, altered}
 use Rattle.courses.proofs.Rival.{step-at, no-rival}
+
+-- an alteration goes to word f of cell c
+abbrev pub Touches : Alteration → ℕ → ℕ → Type 0
+Touches untouched c f = ⊥
+Touches (altered d g v) c f = (c ≡ d) × (f ≡ g)
 
 in-map {ℓ} : {A : Type ℓ} (key : A → ℕ) (ys : List A) {y : A} → List·Memᴰ y ys → key y ∈ map key ys
 in-map key (z ∷ ys) (List·Memᴰ·head e) = List·Memᴰ·head (ap key e)

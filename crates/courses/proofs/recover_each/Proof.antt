@@ -8,7 +8,7 @@ use lib.ListN.{length, take}
 use Rattle.stores.specs.Stores.{answerOf}
 use Rattle.recovery.specs.Plan.{recoverPlan}
 use Rattle.courses.specs.Course.{wordsThrough}
-use Rattle.courses.proofs.Each.{each-none, each-more, each-all, each-last, each-course}
+use Rattle.courses.proofs.Each.{each-none, each-more, each-all, each-last, each-demanded}
 use Rattle.courses.proofs.recover_each.Statement.{statement}
 use Rattle.courses.proofs.recover_each.Tie as tie
 
@@ -65,7 +65,7 @@ returns c =
     let q : l .words ≡ wordsThrough ms y = each-all ms (l .i) y (l .words) (omega arith) (l .inv .2) in
     let answer = r .ensures .0 ∙ ap (λ (v : List ℕ). answerOf (recoverPlan v) (a .last)) q in
     let ends = r .ensures .1 ∙ each-last ms (a .last) y (l .words) q in
-    (answer, (ends, λ w s e m alts. each-course ms (a .last) w s e m alts y (r .last .0) (r .result) ends answer))
+    (answer, (ends, each-demanded ms (a .last) y (r .last .0) (r .result) ends answer))
 
 pub recover-each-spec : {M : Type 1} → statement M
 recover-each-spec =
