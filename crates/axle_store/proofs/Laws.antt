@@ -8,7 +8,8 @@ use lib.ListN.{length, getD, set, take, drop}
 use Rattle.stores.specs.declared.Answer.{Answer}
 use Rattle.stores.specs.declared.Answer.the-variants as A
 use Rattle.stores.specs.declared.Rows.{Rows}
-use Rattle.stores.specs.Stores.{Write, Plan, refuse, stores, applied, answerOf, wordsAfter, writesIn, Held}
+use Rattle.stores.specs.Stores.{Write, Plan, refuse, stores, applied, answerOf, wordsAfter, answerNumber, answerStores, planNumber, madeBy, writesIn, Held}
+use Rattle.stores.proofs.Laws.{answer-told}
 use lib.Seq.{take-suc, drop-cons, set-at, append-snoc, length-take-le, take-length, drop-length}
 
 -- the first i words are those of f, the others those of w
@@ -36,12 +37,22 @@ over-all f w i e k =
 pub held-self : {n m : ℕ} {r : Rows} {ps : List Write} → Held n r ps → n ≡ m → Held m r (writesIn r)
 held-self {r = r} h e = subst (λ (m : ℕ). Held m r (writesIn r)) e (subst (Held _ r) (sym (h .same)) h)
 
-pub plan-refused : {p : Plan} {n : ℕ} (m : ℕ) (w : List ℕ) → p ≡ refuse n → (A.Refused n ≡ answerOf p m) × (w ≡ wordsAfter p m w)
-plan-refused m w e = rw e (refl, refl)
+-- what a call that stores promises of its answer x and the words w′ that it leaves, by its plan p
+abbrev pub Promised : Plan → ℕ → List ℕ → Answer → List ℕ → Type 0
+Promised p m w x w′ =
+    (x ≡ answerOf p m) × ((w′ ≡ wordsAfter p m w) × ((answerNumber x ≡ planNumber p) × (answerStores x ≡ length (madeBy p m))))
+
+pub promised : (p : Plan) {x : Answer} {w′ : List ℕ} (m : ℕ) (w : List ℕ) → x ≡ answerOf p m → w′ ≡ wordsAfter p m w → Promised p m w x w′
+promised p m w e f =
+    let t = answer-told p m in
+    (e, (f, (ap answerNumber e ∙ t .0, ap answerStores e ∙ t .1)))
+
+pub plan-refused : {p : Plan} {n : ℕ} (m : ℕ) (w : List ℕ) → p ≡ refuse n → Promised p m w (A.Refused n) w
+plan-refused {p} m w e = promised p m w (ap (λ (p : Plan). answerOf p m) (sym e)) (ap (λ (p : Plan). wordsAfter p m w) (sym e))
 
 pub plan-run
     : {p : Plan} {n : ℕ} {r : Rows} {ps : List Write} {x : Answer} {w′ : List ℕ} (m : ℕ) (w : List ℕ) → p ≡ stores ps → Held n r ps
-    → x ≡ answerOf (stores (writesIn r)) m → w′ ≡ applied (writesIn r) m w → (x ≡ answerOf p m) × (w′ ≡ wordsAfter p m w)
-plan-run m w e h a b =
+    → x ≡ answerOf (stores (writesIn r)) m → w′ ≡ applied (writesIn r) m w → Promised p m w x w′
+plan-run {p} m w e h a b =
     let q = ap stores (h .same) ∙ sym e in
-    (a ∙ ap (λ (p : Plan). answerOf p m) q, b ∙ ap (λ (p : Plan). wordsAfter p m w) q)
+    promised p m w (a ∙ ap (λ (p : Plan). answerOf p m) q) (b ∙ ap (λ (p : Plan). wordsAfter p m w) q)

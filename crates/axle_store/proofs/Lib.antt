@@ -1,4 +1,5 @@
 pub mod Laws
 pub mod Cases
+pub mod Numbers
 pub mod Sites
 pub mod Calls

@@ -1,4 +1,4 @@
--- What each call answers, and what it leaves in the lent words: its questions in order, the first no decides.
+-- What each call answers, with which number, and what it leaves in the lent words: its questions in order, the first no decides.
 use Prim.Native.Nat.{ℕ}
 use mathlib.Core.List.{List, []}
 use lib.Dec.{eqb}
@@ -6,6 +6,7 @@ use lib.ListN.{length, take, drop}
 use Rattle.stores.specs.Stores.{Plan, refuse, stores}
 use Rattle.layout.specs.declared.Layout.{Layout}
 use Rattle.layout.specs.Words.{ask, inRange, sizeOf, recordAt}
+use Rattle.requests.specs.declared.Looked.{Looked}
 use Rattle.requests.specs.declared.Request.the-variants.{Check, Whole, Member, Gap}
 use Rattle.requests.specs.Requests.{lookOf, withLook}
 use Rattle.edits.specs.Edits.{insertWrites, deleteWrites}
@@ -24,22 +25,42 @@ formatAnswer l w =
     (ask (eqb (length w) (sizeOf l)) (F.Refused 4)
     F.Done)
 
+unfoldable pub formatNumber : Layout → List ℕ → ℕ
+formatNumber l w =
+    ask (inRange l) 3
+    (ask (eqb (length w) (sizeOf l)) 4
+    0)
+
 -- the words that format leaves
 abbrev pub formatWords : Layout → List ℕ → List ℕ
 formatWords l w = formattedWords l w (formatAnswer l w)
+
+-- the number of the first no, 0 for none
+abbrev pub lookNumber : Looked → ℕ
+lookNumber x = withLook x (λ n. n) (λ l t. 0)
 
 -- check: 1 to 4, 6
 unfoldable pub checkAnswer : List ℕ → Checked
 checkAnswer w = withLook (lookOf w Check) C.Refused (λ l t. C.Sound)
 
+unfoldable pub checkNumber : List ℕ → ℕ
+checkNumber w = lookNumber (lookOf w Check)
+
 -- length of list k: 1 to 4, 5, 6
 unfoldable pub lengthAnswer : List ℕ → ℕ → Counted
 lengthAnswer w k = withLook (lookOf w (Whole k)) L.Refused (λ l t. L.Length (t .count))
 
+unfoldable pub lengthNumber : List ℕ → ℕ → ℕ
+lengthNumber w k = lookNumber (lookOf w (Whole k))
+
+-- the length, 0 if refused
+unfoldable pub lengthValue : List ℕ → ℕ → ℕ
+lengthValue w k = withLook (lookOf w (Whole k)) (λ n. 0) (λ l t. t .count)
+
 -- read of list k at position p: 1 to 4, 5, 6, 7. "Read's questions can also be put by a call that returns the number alone, 0
 -- for none."
 unfoldable pub readNumber : List ℕ → ℕ → ℕ → ℕ
-readNumber w k p = withLook (lookOf w (Member k p)) (λ n. n) (λ l t. 0)
+readNumber w k p = lookNumber (lookOf w (Member k p))
 
 -- "Read returns a part of the lent words, starting at the record and P words long", refused an empty one at their start
 unfoldable pub readWords : List ℕ → ℕ → ℕ → List ℕ

@@ -8,11 +8,11 @@ use stores::Answer;
 ghost use mathlib.Core.Path.{_≡_};
 ghost use Prim.Native.Nat.{_+_, _*_};
 ghost use lib.ListN.{length};
-ghost use Rattle.stores.specs.Stores.{answerOf, wordsAfter};
+ghost use Rattle.stores.specs.Stores.{answerOf, wordsAfter, answerNumber, answerStores, planNumber, madeBy};
 ghost use Rattle.layout.specs.Words.{InRange, sizeOf, formatted};
 ghost use Rattle.recovery.specs.Plan.{recoverPlan};
 ghost use Rattle.axle_store.specs.Answers.{checkedNumber, formattedNumber, countedNumber, countedLength};
-ghost use Rattle.axle_store.specs.Calls.{formatAnswer, formatWords, checkAnswer, lengthAnswer, readNumber, readWords, readStart, insertPlan, deletePlan};
+ghost use Rattle.axle_store.specs.Calls.{formatAnswer, formatNumber, formatWords, checkAnswer, checkNumber, lengthAnswer, lengthNumber, lengthValue, readNumber, readWords, readStart, insertPlan, deletePlan};
 
 // The answer of format.
 pub enum Formatted {
@@ -89,7 +89,8 @@ fn fill(words: &mut [u16], l: Layout)
 // Writes a store of empty lists.
 pub fn format(words: &mut [u16], lists: u16, nodes: u16, width: u16) -> Formatted
     ensures answer { λ r. ⌜ r ≡ formatAnswer (record { lists = lists; nodes = nodes; width = width }) (now (words .entry)) ⌝ }
-    ensures words { λ r. ⌜ now (words .exit) ≡ formatWords (record { lists = lists; nodes = nodes; width = width }) (now (words .entry)) ⌝ }
+    ensures words { λ _. ⌜ now (words .exit) ≡ formatWords (record { lists = lists; nodes = nodes; width = width }) (now (words .entry)) ⌝ }
+    ensures number { λ r. ⌜ formattedNumber r ≡ formatNumber (record { lists = lists; nodes = nodes; width = width }) (now (words .entry)) ⌝ }
 {
     let l = Layout {
         lists,
@@ -108,7 +109,8 @@ pub fn format(words: &mut [u16], lists: u16, nodes: u16, width: u16) -> Formatte
 
 // Is the store sound?
 pub fn check(words: &[u16]) -> Checked
-    ensures { λ r. ⌜ r ≡ checkAnswer (now (words .entry)) ⌝ }
+    ensures answer { λ r. ⌜ r ≡ checkAnswer (now (words .entry)) ⌝ }
+    ensures number { λ r. ⌜ checkedNumber r ≡ checkNumber (now (words .entry)) ⌝ }
 {
     match requests::look(words, Request::Check) {
         Looked::Refused(n) => Checked::Refused(n),
@@ -118,7 +120,9 @@ pub fn check(words: &[u16]) -> Checked
 
 // How many records has the list?
 pub fn length(words: &[u16], list: u16) -> Counted
-    ensures { λ r. ⌜ r ≡ lengthAnswer (now (words .entry)) list ⌝ }
+    ensures answer { λ r. ⌜ r ≡ lengthAnswer (now (words .entry)) list ⌝ }
+    ensures number { λ r. ⌜ countedNumber r ≡ lengthNumber (now (words .entry)) list ⌝ }
+    ensures value { λ r. ⌜ countedLength r ≡ lengthValue (now (words .entry)) list ⌝ }
 {
     match requests::look(words, Request::Whole(list)) {
         Looked::Refused(n) => Counted::Refused(n),
@@ -162,6 +166,8 @@ pub fn insert(
 ) -> Answer
     ensures answer { λ r. ⌜ r ≡ answerOf (insertPlan (now (words .entry)) list position start (now (rec .entry))) allowance ⌝ }
     ensures words { λ _. ⌜ now (words .exit) ≡ wordsAfter (insertPlan (now (words .entry)) list position start (now (rec .entry))) allowance (now (words .entry)) ⌝ }
+    ensures number { λ r. ⌜ answerNumber r ≡ planNumber (insertPlan (now (words .entry)) list position start (now (rec .entry))) ⌝ }
+    ensures stores { λ r. ⌜ answerStores r ≡ length (madeBy (insertPlan (now (words .entry)) list position start (now (rec .entry))) allowance) ⌝ }
 {
     match requests::look(words, Request::Gap(list, position, start, rec.len())) {
         Looked::Refused(n) => Answer::Refused(n),
@@ -173,6 +179,8 @@ pub fn insert(
 pub fn delete(words: &mut [u16], list: u16, position: u16, allowance: u16) -> Answer
     ensures answer { λ r. ⌜ r ≡ answerOf (deletePlan (now (words .entry)) list position) allowance ⌝ }
     ensures words { λ _. ⌜ now (words .exit) ≡ wordsAfter (deletePlan (now (words .entry)) list position) allowance (now (words .entry)) ⌝ }
+    ensures number { λ r. ⌜ answerNumber r ≡ planNumber (deletePlan (now (words .entry)) list position) ⌝ }
+    ensures stores { λ r. ⌜ answerStores r ≡ length (madeBy (deletePlan (now (words .entry)) list position) allowance) ⌝ }
 {
     match requests::look(words, Request::Member(list, position)) {
         Looked::Refused(n) => Answer::Refused(n),
@@ -184,6 +192,8 @@ pub fn delete(words: &mut [u16], list: u16, position: u16, allowance: u16) -> An
 pub fn recover(words: &mut [u16], allowance: u16) -> Answer
     ensures answer { λ r. ⌜ r ≡ answerOf (recoverPlan (now (words .entry))) allowance ⌝ }
     ensures words { λ _. ⌜ now (words .exit) ≡ wordsAfter (recoverPlan (now (words .entry))) allowance (now (words .entry)) ⌝ }
+    ensures number { λ r. ⌜ answerNumber r ≡ planNumber (recoverPlan (now (words .entry))) ⌝ }
+    ensures stores { λ r. ⌜ answerStores r ≡ length (madeBy (recoverPlan (now (words .entry))) allowance) ⌝ }
 {
     match layout::open(words) {
         Opened::Refused(n) => Answer::Refused(n),

@@ -281,10 +281,10 @@ fn copy(words: &mut [u16], others: &[u16]) {
 
 // The stores that a whole recovery of the words makes, 0 if it is refused.
 fn needed(words: &mut [u16]) -> u16 {
-    match axle_store::recover(words, 65535) {
-        Answer::Done(n) => n,
-        _ => 0,
-    }
+    let Answer::Done(n) = axle_store::recover(words, 65535) else {
+        return 0;
+    };
+    n
 }
 
 // The end of a course: recoveries cut after a and after b stores, and a whole one.

@@ -50,13 +50,17 @@ pub header-fits : (l : Layout) (k : ℕ) → k < firstNode l → headerAt k + he
 unfolding sizeOf
 header-fits l k h = omega arith
 
--- a word's number fits a `u16`
-pub size-small : (l : Layout) → InRange l → sizeOf l ≤ 65536
+-- "at most 32,040"
+pub size-most : (l : Layout) → InRange l → sizeOf l ≤ 32040
 unfolding sizeOf
-size-small l r =
+size-most l r =
     let a : nodeWords l ≤ 16 = omega arith in
     let b : l .nodes ≤ 2000 = r .nodes in
     omega (arith, mul-le-mul a b)
+
+-- so a word's number fits a `u16`
+pub size-small : (l : Layout) → InRange l → sizeOf l ≤ 65536
+size-small l r = omega (arith, size-most l r)
 
 -- the first three words of a cell stand within the store
 pub cell-fits : (l : Layout) (i : ℕ) → InRange l → i < cellCount l → cellAt l i + 3 ≤ sizeOf l

@@ -1,10 +1,15 @@
--- What a listing says: it follows check, and a sound store's lists are the sequences that the document speaks of.
-use Prim.Native.Nat.{ℕ, zero, suc, _+_, _≤_, _<_}
-use mathlib.Core.Path.{_≡_, refl, ap, ap₂, _∙_}
+-- What a listing says: it follows check, a sound store's lists are the sequences that the document speaks of, and no sound store is too
+-- long for it.
+use Prim.Native.Nat.{ℕ, zero, suc, _+_, _%_, _≤_, _<_}
+use mathlib.Core.Path.{_≡_, refl, ap, ap₂, _∙_, sym}
 use mathlib.Core.List.{List, [], _∷_, _++_}
 use native.Mathlib.Omega.{arith}
+use lib.ListN.{length, getD}
+use Rattle.byte_form.specs.Bytes.{wordsIn}
+use Rattle.byte_form.proofs.Laws.{length-words}
 use Rattle.layout.specs.declared.Layout.{Layout}
 use Rattle.layout.specs.Words.{layoutOf, nodeAt, cellAt, sizeOf, marked, isNode, inRange, openedBy}
+use Rattle.layout.proofs.Laws.{size-most}
 use Rattle.sequences.specs.Sequence.{trail}
 use Rattle.lists.specs.Lists.{Sound}
 use Rattle.lists.specs.Decide.{viewOf, countIn, sequenceOf, turn, holds, allHold, members, used, soundIn}
@@ -17,8 +22,8 @@ use Rattle.axle_store.specs.declared.Checked.the-variants as C
 use Rattle.axle_store.specs.Calls.{checkAnswer}
 use Rattle.axle_store.proofs.Calls.{sound-opened, sound-decided}
 use Rattle.writing.specs.Text.{codes, digits, decimal, spaced}
-use Rattle.listing_text.specs.Listing.{recordLine, recordLines, listLine, listLines, listsFrom, refusedLine, soundLines, listingOf}
-use Rattle.listing_text.proofs.Listed.{listed-sound, listing-open}
+use Rattle.listing_text.specs.Listing.{recordLine, recordLines, listLine, listLines, listsFrom, refusedLine, soundLines, listingOf, mostBytes, byteListing}
+use Rattle.listing_text.proofs.Listed.{listed-sound, listing-open, bytes-even}
 
 -- a refusal of check
 pub listing-refused : (w : List ℕ) (n : ℕ) → checkAnswer w ≡ C.Refused n → listingOf w ≡ refusedLine n
@@ -47,6 +52,33 @@ listing-sound w s =
     ∙ ap (λ (x : List ℕ). x ++ codes "sound\n")
     (lists-same l w (sequenceOf l w) (s .lists .sequence) 0 (l .lists) (omega arith)
     (λ k h. list-sequence l w k h (s .lists .sequence k) (s .lists .lists k h)))
+
+-- in byte form a sound store is not longer than the limit of the listing,
+pub sound-bytes : (b : List ℕ) → length b % 2 ≡ 0 → Sound (wordsIn b) → length b ≤ mostBytes
+sound-bytes b e s =
+    omega (arith, length-words b, s .exact, size-most (layoutOf (wordsIn b)) (s .inRange))
+
+-- so its listing is that of its words
+pub byte-listing-sound : (b : List ℕ) → length b % 2 ≡ 0 → (s : Sound (wordsIn b))
+    → byteListing b ≡ soundLines (layoutOf (wordsIn b)) (wordsIn b) (s .lists .sequence)
+byte-listing-sound b e s = bytes-even b (sound-bytes b e s) e ∙ listing-sound (wordsIn b) s
+
+-- and no refusal: the first letter of such a listing is the l of `list`
+sound-first : (l : Layout) (w : List ℕ) (s : ℕ → List ℕ) → 1 ≤ l .lists → getD (soundLines l w s) 0 0 ≡ 108
+unfolding soundLines listsFrom listLines listLine
+sound-first l w s h = by (l .lists) h
+  where
+    by : (n : ℕ) → 1 ≤ n → getD (listsFrom l w s 0 n ++ codes "sound\n") 0 0 ≡ 108
+    by zero h = absurd (omega arith)
+    by (suc n) h = refl
+
+pub byte-listing-granted : (b : List ℕ) → length b % 2 ≡ 0 → Sound (wordsIn b) → (n : ℕ) → byteListing b ≡ refusedLine n → ⊥
+unfolding refusedLine
+byte-listing-granted b e s n r =
+    let z : _≡_ {A = ℕ} 108 114 =
+    sym (sound-first (layoutOf (wordsIn b)) (wordsIn b) (s .lists .sequence) (s .inRange .someLists))
+    ∙ ap (λ (x : List ℕ). getD x 0 0) (sym (byte-listing-sound b e s) ∙ r) in
+    omega arith
 
 -- "The listing of C3 is, whole: .."
 pub listing-C3

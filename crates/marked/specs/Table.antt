@@ -17,7 +17,7 @@ small = record { lists = 1; nodes = 3; width = 1 }
 pub data Call : Type 0 where
   format : Layout → Call
   check : Call
-  length : ℕ → Call
+  lengthOf : ℕ → Call
   read : ℕ → ℕ → Call
   insert : ℕ → ℕ → ℕ → List ℕ → ℕ → Call
   delete : ℕ → ℕ → ℕ → Call
@@ -47,7 +47,7 @@ planned p m w = record { ended = endOf (answerOf p m); values = []; stores = mad
 abbrev pub outcome : Call → List ℕ → Outcome
 outcome (format l) w = record { ended = number (formattedNumber (formatAnswer l w)); values = []; stores = []; words = formatWords l w }
 outcome check w = record { ended = number (checkedNumber (checkAnswer w)); values = []; stores = []; words = w }
-outcome (length k) w =
+outcome (lengthOf k) w =
     record { ended = number (countedNumber (lengthAnswer w k)); values = countedLength (lengthAnswer w k) ∷ []; stores = []; words = w }
 outcome (read k p) w = record { ended = number (readNumber w k p); values = readWords w k p; stores = []; words = w }
 outcome (insert k p c words m) w = planned (insertPlan w k p c words) m w
@@ -105,7 +105,7 @@ abbrev pub rows1 : List Row
 rows1 =
     record { words = replicate 24 7; call = format small; outcome = record { ended = number 0; values = []; stores = []; words = c1 } }
     ∷ record { words = c1; call = check; outcome = record { ended = number 0; values = []; stores = []; words = c1 } }
-    ∷ record { words = c1; call = length 0; outcome = record { ended = number 0; values = 0 ∷ []; stores = []; words = c1 } }
+    ∷ record { words = c1; call = lengthOf 0; outcome = record { ended = number 0; values = 0 ∷ []; stores = []; words = c1 } }
     ∷ record { words = c1; call = read 0 0; outcome = record { ended = number 7; values = []; stores = []; words = c1 } }
     ∷ []
 
@@ -163,7 +163,7 @@ rows4 =
       outcome = record { ended = done 2; values = []; stores = write 11 1 ∷ write 20 0 ∷ []; words = c4 };
     }
     ∷ record { words = c4; call = check; outcome = record { ended = number 0; values = []; stores = []; words = c4 } }
-    ∷ record { words = c4; call = length 0; outcome = record { ended = number 0; values = 1 ∷ []; stores = []; words = c4 } }
+    ∷ record { words = c4; call = lengthOf 0; outcome = record { ended = number 0; values = 1 ∷ []; stores = []; words = c4 } }
     ∷ record { words = c4; call = read 0 0; outcome = record { ended = number 0; values = 700 ∷ []; stores = []; words = c4 } }
     ∷ []
 
@@ -186,7 +186,7 @@ rows5 =
       call = recover 65535;
       outcome = record { ended = done 1; values = []; stores = write 10 3 ∷ []; words = c3 };
     }
-    ∷ record { words = c3; call = length 0; outcome = record { ended = number 0; values = 2 ∷ []; stores = []; words = c3 } }
+    ∷ record { words = c3; call = lengthOf 0; outcome = record { ended = number 0; values = 2 ∷ []; stores = []; words = c3 } }
     ∷ record { words = c3; call = read 0 0; outcome = record { ended = number 0; values = 700 ∷ []; stores = []; words = c3 } }
     ∷ []
 
@@ -221,7 +221,7 @@ rows7 =
       outcome = record { ended = done 2; values = []; stores = write 11 1 ∷ write 16 0 ∷ []; words = c6 };
     }
     ∷ record { words = c6; call = check; outcome = record { ended = number 0; values = []; stores = []; words = c6 } }
-    ∷ record { words = c6; call = length 0; outcome = record { ended = number 0; values = 1 ∷ []; stores = []; words = c6 } }
+    ∷ record { words = c6; call = lengthOf 0; outcome = record { ended = number 0; values = 1 ∷ []; stores = []; words = c6 } }
     ∷ record { words = c6; call = read 0 0; outcome = record { ended = number 0; values = 512 ∷ []; stores = []; words = c6 } }
     ∷ []
 

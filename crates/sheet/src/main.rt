@@ -1,5 +1,6 @@
 // Prints list 0 of a small store through the reader, place by place.
 use reader::Place;
+use stores::Answer;
 ghost use mathlib.Core.Path.{_≡_};
 ghost use lib.ListN.{length};
 
@@ -23,11 +24,20 @@ fn print_list(words: &[u16], list: u16) {
     }
 }
 
+// Puts three records into list 0, the second one last; the first insert that is not done ends it.
+fn fill(words: &mut [u16]) {
+    let Answer::Done(_) = axle_store::insert(words, 0, 0, 2, &[1, 3120, 3050], 65535) else {
+        return;
+    };
+    let Answer::Done(_) = axle_store::insert(words, 0, 1, 2, &[3, 2760, 2800], 65535) else {
+        return;
+    };
+    axle_store::insert(words, 0, 1, 2, &[2, 2870, 2910], 65535);
+}
+
 fn main() {
     let mut words = store();
     axle_store::format(&mut words, 2, 6, 3);
-    axle_store::insert(&mut words, 0, 0, 2, &[1, 3120, 3050], 65535);
-    axle_store::insert(&mut words, 0, 1, 2, &[3, 2760, 2800], 65535);
-    axle_store::insert(&mut words, 0, 1, 2, &[2, 2870, 2910], 65535);
+    fill(&mut words);
     print_list(&words, 0);
 }

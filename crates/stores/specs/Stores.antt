@@ -50,7 +50,7 @@ abbrev pub wordsAfter : Plan → ℕ → List ℕ → List ℕ
 wordsAfter (refuse n) m w = w
 wordsAfter (stores ps) m w = applied ps m w
 
--- the number of an answer, 0 for none, and its number of stores
+-- the number of an answer, 0 for none, and its number of stores, by its cases
 abbrev pub answerNumber : Answer → ℕ
 answerNumber (A.Done n) = 0
 answerNumber (A.Stopped n) = 0
@@ -61,7 +61,11 @@ answerStores (A.Done n) = n
 answerStores (A.Stopped n) = n
 answerStores (A.Refused n) = 0
 
--- the plan's stores that an allowance lets through
+-- the number of a plan's refusal, 0 for none, and its stores that an allowance lets through
+abbrev pub planNumber : Plan → ℕ
+planNumber (refuse n) = n
+planNumber (stores ps) = 0
+
 abbrev pub madeBy : Plan → ℕ → List Write
 madeBy (refuse n) m = []
 madeBy (stores ps) m = take m ps

@@ -2,6 +2,7 @@
 use borrow.Author.Needs.{needs}
 use mathlib.Core.Path.{sym, _∙_}
 use Rattle.axle_store.proofs.Cases.{check-refused, check-at}
+use Rattle.axle_store.proofs.Numbers.{checked-number}
 use Rattle.axle_store.proofs.check.Statement.{statement}
 use Rattle.axle_store.proofs.check.Tie as tie
 
@@ -15,10 +16,14 @@ enum-told : tie.Need-enum-told
 enum-told c = search needs
 
 returns : tie.Need-returns
-returns c = check-refused _ (sym (c .before .before .before .look .ensures) ∙ c .before .n .given .1)
+returns c =
+    let e = check-refused _ (sym (c .before .before .before .look .ensures) ∙ c .before .n .given .1) in
+    (e, checked-number _ e)
 
 returns-2 : tie.Need-returns-2
-returns-2 c = check-at _ (sym (c .before .before .look .ensures) ∙ c .enum-told .given .1)
+returns-2 c =
+    let e = check-at _ (sym (c .before .before .look .ensures) ∙ c .enum-told .given .1) in
+    (e, checked-number _ e)
 
 pub check-spec : {M : Type 1} → statement M
 check-spec = tie.close (tie.spec look-requires enum-known-n enum-told returns returns-2)

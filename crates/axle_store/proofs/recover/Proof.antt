@@ -4,8 +4,9 @@ use mathlib.Core.Path.{_≡_, ap, sym, _∙_}
 use Rattle.stores.specs.Stores.{Plan, answerOf, wordsAfter}
 use Rattle.layout.specs.declared.Opened.the-variants.{Open}
 use Rattle.layout.specs.Words.{opened}
+use Rattle.recovery.specs.Plan.{recoverPlan}
 use Rattle.requests.proofs.Laws.{opened-laid}
-use Rattle.axle_store.proofs.Laws.{plan-refused}
+use Rattle.axle_store.proofs.Laws.{promised, plan-refused}
 use Rattle.axle_store.proofs.Cases.{recover-shut, recover-open}
 use Rattle.axle_store.proofs.recover.Statement.{statement}
 use Rattle.axle_store.proofs.recover.Tie as tie
@@ -45,10 +46,9 @@ returns-2 c =
     let r = c .before .before .recover-in in
     let l = c .before .before .before .before .before in
     let a = l .before .before .before .before .before .args in
-    let e = recover-open (a .words .now) (is-open l) in (
-      r .ensures .0 ∙ ap (λ (p : Plan). answerOf p (a .allowance)) (sym e),
-      r .ensures .1 ∙ ap (λ (p : Plan). wordsAfter p (a .allowance) (a .words .now)) (sym e),
-    )
+    let e = recover-open (a .words .now) (is-open l) in
+    promised (recoverPlan (a .words .now)) (a .allowance) (a .words .now) (r .ensures .0 ∙ ap (λ (p : Plan). answerOf p (a .allowance)) (sym e))
+    (r .ensures .1 ∙ ap (λ (p : Plan). wordsAfter p (a .allowance) (a .words .now)) (sym e))
 
 pub recover-spec : {M : Type 1} → statement M
 recover-spec =

@@ -46,7 +46,7 @@ loop-again c =
     let a = c .before .before .before .before .before .before .before .before .before .args in (
       r .kept .0 ∙ l .inv .0,
       omega arith,
-      r .ensures .1 ∙ each-more (a .allowances .now) (l .i) (a .words .now) (l .words) (omega arith) (l .inv .2),
+      r .ensures .1 .0 ∙ each-more (a .allowances .now) (l .i) (a .words .now) (l .words) (omega arith) (l .inv .2),
     )
 
 recover-requires-2 : tie.Need-recover-requires-2 Inv-loop μ-loop
@@ -64,7 +64,7 @@ returns c =
     let y = a .words .now in
     let q : l .words ≡ wordsThrough ms y = each-all ms (l .i) y (l .words) (omega arith) (l .inv .2) in
     let answer = r .ensures .0 ∙ ap (λ (v : List ℕ). answerOf (recoverPlan v) (a .last)) q in
-    let ends = r .ensures .1 ∙ each-last ms (a .last) y (l .words) q in
+    let ends = r .ensures .1 .0 ∙ each-last ms (a .last) y (l .words) q in
     (answer, (ends, each-demanded ms (a .last) y (r .last .0) (r .result) ends answer))
 
 pub recover-each-spec : {M : Type 1} → statement M
