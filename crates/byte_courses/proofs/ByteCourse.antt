@@ -16,7 +16,7 @@ use Rattle.lists.specs.Lists.{Sound}
 use Rattle.recovery.specs.Plan.{recoverPlan}
 use Rattle.courses.specs.Course.{Edit, insert, delete, named, editPlan, allStores, needed, dueWords, Alteration, AllowedBut, alteredBelow, found, wordsThrough, answersThrough, storesThrough, NotRefused}
 use Rattle.courses.specs.Demand3.{Course}
-use Rattle.courses.proofs.Course.{demand3}
+use Rattle.courses.proofs.Demand3.{demand3}
 use Rattle.axle.specs.Interface.{codeOf, byteInsert, byteDelete, byteRecover}
 use Rattle.byte_courses.specs.ByteCourse.{byteEdit, inWords, Found, bytesThrough, codesThrough}
 use Rattle.byte_courses.specs.ByteDemand3.{NotRefusal, ByteCourse, ByteDemand3}

@@ -6,7 +6,7 @@ use native.Mathlib.Omega.{arith}
 use native.Mathlib.Nat.{div-add-mod'}
 use native.Mathlib.Numerals.{add-one}
 use lib.ListN.{length, getD, set, take, drop, length-set, take-append-drop}
-use lib.Seq.{take-suc, take-all, take-take}
+use lib.Seq.{take-suc, take-all, take-take, drop-nil}
 use Rattle.stores.specs.Stores.{Write, write, run, Plan, refuse, stores, wordsAfter, madeBy}
 use Rattle.stores.proofs.Laws.{run-append, length-run}
 use Rattle.byte_form.specs.Bytes.{wordsIn, byteWrites, appliedBytes, bytesAfter}
@@ -96,16 +96,18 @@ bytes-more ps i b h =
 pub bytes-all : (ps : List Write) (m : ℕ) (b : List ℕ) → length ps ≤ m → appliedBytes ps m b ≡ run (byteWrites ps) b
 bytes-all ps m b h = ap (λ (qs : List Write). run (byteWrites qs) b) (take-all m ps h)
 
--- a longer run passes through the bytes that every smaller allowance leaves
-pub bytes-through : (ps : List Write) (m n : ℕ) (b : List ℕ) → m ≤ n → appliedBytes ps n b ≡ run (byteWrites (drop m (take n ps))) (appliedBytes ps m b)
-bytes-through ps m n b h =
-    ap (λ (qs : List Write). run (byteWrites qs) b) (sym (take-append-drop m (take n ps)))
-    ∙ ap (λ (qs : List Write). run qs b) (byte-append (take m (take n ps)) (drop m (take n ps)))
-    ∙ run-append (byteWrites (take m (take n ps))) (byteWrites (drop m (take n ps))) b
-    ∙ ap (λ (qs : List Write). run (byteWrites (drop m (take n ps))) (run (byteWrites qs) b)) (take-take m n ps h)
-
 -- the bytes that a call leaves are those after the stores that it made
 pub bytes-made : (p : Plan) (m : ℕ) (b : List ℕ) → bytesAfter p m b ≡ run (byteWrites (madeBy p m)) b
 unfolding run byteWrites
 bytes-made (refuse n) m b = refl
 bytes-made (stores ps) m b = refl
+
+-- a longer run passes through the bytes that every smaller allowance leaves
+pub bytes-through : (p : Plan) (m n : ℕ) (b : List ℕ) → m ≤ n → bytesAfter p n b ≡ run (byteWrites (drop m (madeBy p n))) (bytesAfter p m b)
+unfolding run byteWrites
+bytes-through (refuse k) m n b h = sym (ap (λ (qs : List Write). run (byteWrites qs) b) (drop-nil m))
+bytes-through (stores ps) m n b h =
+    ap (λ (qs : List Write). run (byteWrites qs) b) (sym (take-append-drop m (take n ps)))
+    ∙ ap (λ (qs : List Write). run qs b) (byte-append (take m (take n ps)) (drop m (take n ps)))
+    ∙ run-append (byteWrites (take m (take n ps))) (byteWrites (drop m (take n ps))) b
+    ∙ ap (λ (qs : List Write). run (byteWrites (drop m (take n ps))) (run (byteWrites qs) b)) (take-take m n ps h)

@@ -1,16 +1,14 @@
--- Demand 3: the theorem about a whole course of calls.
-use Prim.Native.Nat.{ℕ, _+_, _<_, _≤_}
+-- The course from any cut of a sound store, whatever the call was.
+use Prim.Native.Nat.{ℕ, _<_, _≤_}
 use mathlib.Core.Path.{_≡_, refl, ap, _∙_, sym, subst}
 use mathlib.Core.List.{List, [], _∷_, _++_, List·Memᴰ·tail}
 use mathlib.Core.Logic.{inl, inr}
 use native.Mathlib.Omega.{arith}
-use lib.ListN.{length, getD, length-append}
-use lib.Seq.{take-all}
+use lib.ListN.{length, getD}
 use Rattle.sequences.specs.Sequence.{_∈_, All}
 use Rattle.sequences.proofs.Members.{all-in}
-use Rattle.stores.specs.declared.Answer.the-variants as A
-use Rattle.stores.specs.Stores.{Write, Plan, stores, run, answerOf, answerStores, wordsAfter, madeBy}
-use Rattle.stores.proofs.Laws.{length-run, answer-done}
+use Rattle.stores.specs.Stores.{Write, Plan, run, answerOf}
+use Rattle.stores.proofs.Laws.{length-run}
 use Rattle.layout.specs.declared.Layout.{Layout}
 use Rattle.layout.specs.Words.{Node, layoutOf}
 use Rattle.layout.proofs.Laws.{open-opened}
@@ -19,40 +17,25 @@ use Rattle.lists.specs.Lists.{Sound, IsList, SameCells}
 use Rattle.lists.proofs.Same.{same-opened, same-sound}
 use Rattle.edits.specs.Edited.{replaced}
 use Rattle.edits.proofs.Edited.{replaced-own, replaced-other}
-use Rattle.recovery.specs.Plan.{recoverStores, recoverPlan, Accepted, Kind, differing}
+use Rattle.recovery.specs.Plan.{recoverStores, recoverPlan, Accepted, Kind}
 use Rattle.recovery.proofs.Count.{plan-kinds, plan-differs}
-use Rattle.courses.specs.Course.{Edit, named, editPlan, allStores, needed, dueWords, Alteration, untouched, altered, Allowed, AllowedBut, found, wordsThrough, answersThrough, storesThrough, total}
-use Rattle.courses.specs.Demand3.{Course, Demand3}
+use Rattle.courses.specs.Course.{allStores, needed, Alteration, untouched, altered, Allowed, AllowedBut, alteredBelow, wordsThrough}
+use Rattle.courses.specs.Demand3.{Course}
 use Rattle.courses.proofs.Other.{Touches}
 use Rattle.courses.proofs.Cut.{Cut}
-use Rattle.courses.proofs.EditCut.{edit-cut}
 use Rattle.courses.proofs.Found.{altered-out, length-altered, kept, kept-outside, found-accepted}
 use Rattle.courses.proofs.Final.{final-head, final-outside, final-lists, final-zero, final-words}
-use Rattle.courses.proofs.Recoveries.{made-number, through-run, through-number, stores-last, Standing, standing-plan, Through, through}
+use Rattle.courses.proofs.Recoveries.{recovered}
+use Rattle.courses.proofs.Standing.{Standing, standing-plan, standing-after}
 
-module _ (w : List ℕ) (s : Sound w) (e : Edit) (m : ℕ) (alts : ℕ → Alteration)
-    (allowed : AllowedBut (named e) (layoutOf w .lists) (s .lists .sequence) alts) where
+module _ (w : List ℕ) (s : Sound w) (k : ℕ) (own x y₀ : List ℕ) (cut : Cut (layoutOf w) w (s .lists) k own x y₀) (alts : ℕ → Alteration)
+    (allowed : AllowedBut k (layoutOf w .lists) (s .lists .sequence) alts) where
   abbrev l : Layout
   l = layoutOf w
 
-  abbrev k : ℕ
-  k = named e
-
-  own : List ℕ
-  own = edit-cut w s e m .0
-
-  abbrev y₀ : List ℕ
-  y₀ = wordsAfter (editPlan w e) m w
-
+  -- the found store
   abbrev y : List ℕ
-  y = found w e m alts
-
-  abbrev x : List ℕ
-  x = dueWords w e m
-
-  cut : Cut l w (s .lists) k own x y₀
-  unfolding own
-  cut = edit-cut w s e m .1
+  y = alteredBelow l k alts (l .lists) y₀
 
   -- the sequences of the found store, and of the final one
   abbrev t : ℕ → List ℕ
@@ -119,72 +102,26 @@ module _ (w : List ℕ) (s : Sound w) (e : Edit) (m : ℕ) (alts : ℕ → Alter
           omega (arith, all-in (Node l) (s .lists .sequence j) (s .lists .lists j h .nodes) d .low, u .0, a .0)
       untouched-record (altered b i v) c f d g (inr a) u = omega (arith, u .1, a .1)
 
-  -- the recoveries
-  module _ (ms : List ℕ) (last : ℕ) (enough : needed (recoverPlan (wordsThrough ms y)) ≤ last) where
-    abbrev runs : List ℕ
-    runs = ms ++ last ∷ []
-
-    abbrev y₁ : List ℕ
-    y₁ = wordsThrough ms y
-
-    before : Through l t y y₁ (answersThrough ms y) (storesThrough ms y)
-    before = through l t ms y standing
-
-    plan₁ : recoverPlan y₁ ≡ stores (recoverStores l y₁ t)
-    plan₁ = standing-plan l t y₁ (before .standing)
-
-    enough₁ : length (recoverStores l y₁ t) ≤ last
-    enough₁ = subst (λ (p : Plan). needed p ≤ last) plan₁ enough
-
-    done : answerOf (recoverPlan y₁) last ≡ A.Done (needed (recoverPlan y₁))
-    done = subst (λ (p : Plan). answerOf p last ≡ A.Done (needed p)) (sym plan₁) (sym (answer-done (recoverStores l y₁ t) last enough₁))
-
-    -- together they make the stores of the found store's plan
-    last-made : madeBy (recoverPlan y₁) last ≡ recoverStores l y₁ t
-    last-made = ap (λ (p : Plan). madeBy p last) plan₁ ∙ take-all last (recoverStores l y₁ t) enough₁
-
-    made : storesThrough runs y ≡ ps
-    made = stores-last ms last y ∙ ap (λ (qs : List Write). storesThrough ms y ++ qs) last-made ∙ before .stores
-
-    final : wordsThrough runs y ≡ Final
-    final = through-run runs y ∙ ap (λ (qs : List Write). run qs y) made
-
-    adds : total (answersThrough ms y) + answerStores (answerOf (recoverPlan y₁) last) ≡ differing y Final
-    adds =
-        omega (
-          arith,
-          through-number ms y,
-          made-number (recoverPlan y₁) last,
-          sym (length-append (storesThrough ms y) (madeBy (recoverPlan y₁) last)) ∙ ap length (sym (stores-last ms last y) ∙ made),
-          plan-differs l t ps y (standing .size) accepted refl,
-        )
-
-    course : Course w s k x y ms last (wordsThrough runs y) (answerOf (recoverPlan y₁) last)
-    course =
-        subst (λ (z : List ℕ). Course w s k x y ms last z (answerOf (recoverPlan y₁) last)) (sym final)
-        (record {
-          accepted = before .accepted;
-          done = done;
-          own = own;
-          list = cut .list;
-          sound = sound .0;
-          sequences = sound .1;
-          named = mine;
-          others = theirs;
-          head = final-head l y (standing .size) t accepted;
-          outside =
-              λ c n o.
-              (final-zero l y (standing .size) t accepted c n o, λ f g z. final-outside l y (standing .size) t accepted c f n o g z);
-          stored = subst (All (Kind l y t)) (sym made) (plan-kinds l y t);
-          adds = adds;
-          made = made ∙ ap allStores (sym (standing-plan l t y standing));
-          same = ap (λ (p : Plan). run (allStores p) y) (sym (standing-plan l t y standing));
-        })
-
-pub demand3 : Demand3
-demand3 y ms last w s e m alts allowed q =
-    subst
-    (λ (v : List ℕ).
-    needed (recoverPlan (wordsThrough ms v)) ≤ last
-    → Course w s (named e) (dueWords w e m) v ms last (wordsThrough (ms ++ last ∷ []) v) (answerOf (recoverPlan (wordsThrough ms v)) last))
-    (sym q) (course w s e m alts allowed ms last)
+  pub cut-course : (ms : List ℕ) (last : ℕ) → needed (recoverPlan (wordsThrough ms y)) ≤ last
+      → Course w s k x y ms last (wordsThrough (ms ++ last ∷ []) y) (answerOf (recoverPlan (wordsThrough ms y)) last)
+  cut-course ms last enough =
+      let r = recovered (Standing l t) (λ v. recoverStores l v t) (standing-plan l t) (standing-after l t) ms last y standing enough in
+      subst (λ (z : List ℕ). Course w s k x y ms last z (answerOf (recoverPlan (wordsThrough ms y)) last)) (sym (r .words))
+      (record {
+        accepted = r .accepted;
+        done = r .done;
+        own = own;
+        list = cut .list;
+        sound = sound .0;
+        sequences = sound .1;
+        named = mine;
+        others = theirs;
+        head = final-head l y (standing .size) t accepted;
+        outside =
+            λ c n o.
+            (final-zero l y (standing .size) t accepted c n o, λ f g z. final-outside l y (standing .size) t accepted c f n o g z);
+        stored = subst (All (Kind l y t)) (sym (r .made)) (plan-kinds l y t);
+        adds = r .adds ∙ sym (plan-differs l t ps y (standing .size) accepted refl);
+        made = r .made ∙ ap allStores (sym (standing-plan l t y standing));
+        same = ap (λ (p : Plan). run (allStores p) y) (sym (standing-plan l t y standing));
+      })

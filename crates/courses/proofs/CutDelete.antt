@@ -3,16 +3,19 @@
 use Prim.Native.Nat.{ℕ, zero, suc, _+_, _-_, _<_, _≤_}
 use mathlib.Core.Path.{_≡_, refl, ap, _∙_, sym, subst}
 use mathlib.Core.List.{List, [], _∷_, _++_, List·Memᴰ·head, List·Memᴰ·tail}
+use mathlib.Core.Bool.{Bool, true, false, cond}
 use mathlib.Core.Logic.{_⊎_, inl, inr, ⊎-elim}
 use native.Mathlib.Decide.{ℕ-discrete}
 use native.Mathlib.Omega.{arith}
+use lib.Dec.{ltb}
 use lib.ListN.{length, getD, set, take}
 use lib.Seq.{getD-set-other}
+use borrow.Author.Tests.{ltb-true, ltb-false}
 use Rattle.sequences.specs.Sequence.{_∈_, All}
 use Rattle.sequences.proofs.Members.{all-take}
 use Rattle.sequences.proofs.Splice.{backward-same}
 use Rattle.stores.specs.Stores.{Write, write, run, applied, Spares}
-use Rattle.stores.proofs.Laws.{length-run, run-out, run-either, applied-all}
+use Rattle.stores.proofs.Laws.{length-run, run-out, run-either, applied-none, applied-all}
 use Rattle.layout.specs.declared.Layout.{Layout}
 use Rattle.layout.specs.Words.{Node, sizeOf, cellAt, cellWords, identAt, forwardAt, backAt, countAt, identOf}
 use Rattle.layout.proofs.Apart.{words-apart, links-words, words-header}
@@ -27,7 +30,7 @@ use Rattle.edits.proofs.Writes.{delete-spares}
 use Rattle.edits.proofs.Delete as D
 use Rattle.edits.proofs.Done.{delete-head}
 use Rattle.recovery.proofs.Candidates.{right-forward}
-use Rattle.courses.specs.Course.{untouched, altered}
+use Rattle.courses.specs.Course.{dueOf, untouched, altered}
 use Rattle.courses.proofs.Other.{altered-fits, forwards-right}
 use Rattle.courses.proofs.Own.{Own}
 use Rattle.courses.proofs.Cut.{Cut, settled, rest-ident, list-apart}
@@ -177,7 +180,7 @@ module _ (l : Layout) (w : List ℕ) (exact : length w ≡ sizeOf l) (s : SoundL
       (λ e _. header-apart l k S hk (own .nodes) (subst (λ (y : ℕ). y ∈ S) e m)) (λ _ e. omega arith) (λ _ e. omega arith)
 
   -- a delete cut before its central store: the old sequence and the old words
-  pub delete-cut-before : (m : ℕ) → m < deleteCentral → Cut l w s k S w (applied full m w)
+  delete-cut-before : (m : ℕ) → m < deleteCentral → Cut l w s k S w (applied full m w)
   delete-cut-before m h =
       record {
         size = length-run (take m full) w;
@@ -191,7 +194,7 @@ module _ (l : Layout) (w : List ℕ) (exact : length w ≡ sizeOf l) (s : SoundL
       }
 
   -- a delete cut at its central store or later: the new sequence and the words of the whole delete
-  pub delete-cut-after : (m : ℕ) → deleteCentral ≤ m → Cut l w s k (deleteAt p S) (run full w) (applied full m w)
+  delete-cut-after : (m : ℕ) → deleteCentral ≤ m → Cut l w s k (deleteAt p S) (run full w) (applied full m w)
   delete-cut-after m h =
       record {
         size = length-run (take m full) w;
@@ -210,3 +213,16 @@ module _ (l : Layout) (w : List ℕ) (exact : length w ≡ sizeOf l) (s : SoundL
       old : (x : ℕ) → x ∈ (k ∷ deleteAt p S) → x ∈ (k ∷ S)
       old x (List·Memᴰ·head e) = List·Memᴰ·head e
       old x (List·Memᴰ·tail q) = List·Memᴰ·tail (D.delete-member l w exact s k hk p hp x q)
+
+  -- wherever it is cut
+  pub delete-cut : (m : ℕ) → (own : List ℕ) × Cut l w s k own (applied full (dueOf deleteCentral 4 m) w) (applied full m w)
+  delete-cut m = by (ltb m deleteCentral) refl
+    where
+      by : (b : Bool) → ltb m deleteCentral ≡ b → (own : List ℕ) × Cut l w s k own (applied full (cond b 0 4) w) (applied full m w)
+      by true e =
+          (S, subst (λ (x : List ℕ). Cut l w s k S x (applied full m w)) (sym (applied-none full w)) (delete-cut-before m (ltb-true m deleteCentral e)))
+      by false e = (
+        deleteAt p S,
+        subst (λ (x : List ℕ). Cut l w s k (deleteAt p S) x (applied full m w)) (sym (applied-all full 4 w (omega (arith, full-length))))
+            (delete-cut-after m (ltb-false m deleteCentral e)),
+      )

@@ -3,16 +3,19 @@
 use Prim.Native.Nat.{ℕ, _+_, _-_, _<_, _≤_}
 use mathlib.Core.Path.{_≡_, refl, ap, _∙_, sym, subst}
 use mathlib.Core.List.{List, [], _∷_, _++_, append-assoc, List·Memᴰ·head, List·Memᴰ·tail}
+use mathlib.Core.Bool.{Bool, true, false, cond}
 use mathlib.Core.Logic.{_⊎_, inl, inr, ⊎-elim}
 use native.Mathlib.Decide.{ℕ-discrete}
 use native.Mathlib.Omega.{arith}
+use lib.Dec.{ltb}
 use lib.ListN.{length, getD, take, drop, length-append, take-append-drop}
 use lib.Seq.{take-append-le, take-append-add, drop-append-add, getD-set-other}
+use borrow.Author.Tests.{ltb-true, ltb-false}
 use Rattle.sequences.specs.Sequence.{_∈_, All}
 use Rattle.sequences.proofs.Members.{all-take, all-drop, all-append, in-front}
 use Rattle.sequences.proofs.Splice.{backward-same}
 use Rattle.stores.specs.Stores.{Write, write, store, run, applied, Spares, inRow}
-use Rattle.stores.proofs.Laws.{run-append, length-run, run-out, run-either, applied-all, row-spares}
+use Rattle.stores.proofs.Laws.{run-append, length-run, run-out, run-either, applied-none, applied-all, row-spares}
 use Rattle.layout.specs.declared.Layout.{Layout}
 use Rattle.layout.specs.Words.{Node, cellCount, sizeOf, cellAt, cellWords, identAt, forwardAt, backAt, recordAt, identOf}
 use Rattle.layout.proofs.Apart.{words-apart, links-words, words-header, words-node}
@@ -27,7 +30,7 @@ use Rattle.edits.proofs.Writes.{First, first-central, first-length, first-spare
 use Rattle.edits.proofs.Insert as I
 use Rattle.edits.proofs.Done.{insert-head}
 use Rattle.recovery.proofs.Candidates.{right-forward}
-use Rattle.courses.specs.Course.{untouched, altered}
+use Rattle.courses.specs.Course.{dueOf, untouched, altered}
 use Rattle.courses.proofs.Other.{altered-fits, forwards-right}
 use Rattle.courses.proofs.Own.{Own}
 use Rattle.courses.proofs.Cut.{Cut, settled, rest-ident, list-apart}
@@ -229,7 +232,7 @@ module _ (l : Layout) (w : List ℕ) (exact : length w ≡ sizeOf l) (s : SoundL
       (all-take (λ (x : Write). identAt l c ≡ x .at → x .value ≡ identOf k) full m (ident-stores c)))
 
   -- before the central store: the old sequence, with the words of the sound store
-  pub insert-cut-before : (m : ℕ) → m < insertCentral l → Cut l w s k S w (applied full m w)
+  insert-cut-before : (m : ℕ) → m < insertCentral l → Cut l w s k S w (applied full m w)
   insert-cut-before m h =
       record {
         size = length-run (take m full) w;
@@ -247,7 +250,7 @@ module _ (l : Layout) (w : List ℕ) (exact : length w ≡ sizeOf l) (s : SoundL
       }
 
   -- from the central store on: the new sequence, with the words of the whole insert
-  pub insert-cut-after : (m : ℕ) → insertCentral l ≤ m → Cut l w s k (insertAt p i S) (run full w) (applied full m w)
+  insert-cut-after : (m : ℕ) → insertCentral l ≤ m → Cut l w s k (insertAt p i S) (run full w) (applied full m w)
   insert-cut-after m h =
       record {
         size = length-run (take m full) w;
@@ -280,3 +283,16 @@ module _ (l : Layout) (w : List ℕ) (exact : length w ≡ sizeOf l) (s : SoundL
             words-apart l c (site .before) f 1 (λ _ e. omega arith) g (links-words l (site .before) 1 (omega arith)),
             (words-apart l c (site .after) f 2 (λ _ e. omega arith) g (links-words l (site .after) 2 (omega arith)), tt),
           ))
+
+  -- wherever it is cut
+  pub insert-cut : (m : ℕ) → (own : List ℕ) × Cut l w s k own (applied full (dueOf (insertCentral l) (l .width + 6) m) w) (applied full m w)
+  insert-cut m = by (ltb m (insertCentral l)) refl
+    where
+      by : (b : Bool) → ltb m (insertCentral l) ≡ b → (own : List ℕ) × Cut l w s k own (applied full (cond b 0 (l .width + 6)) w) (applied full m w)
+      by true e =
+          (S, subst (λ (x : List ℕ). Cut l w s k S x (applied full m w)) (sym (applied-none full w)) (insert-cut-before m (ltb-true m (insertCentral l) e)))
+      by false e = (
+        insertAt p i S,
+        subst (λ (x : List ℕ). Cut l w s k (insertAt p i S) x (applied full m w)) (sym (applied-all full (l .width + 6) w (omega (arith, full-length))))
+            (insert-cut-after m (ltb-false m (insertCentral l) e)),
+      )

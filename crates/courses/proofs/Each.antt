@@ -11,7 +11,7 @@ use Rattle.recovery.specs.Plan.{recoverPlan}
 use Rattle.courses.specs.Course.{wordsThrough}
 use Rattle.courses.specs.Demand3.{Demanded}
 use Rattle.courses.proofs.Recoveries.{words-last}
-use Rattle.courses.proofs.Course.{demand3}
+use Rattle.courses.proofs.Demand3.{demand3}
 
 -- no recovery yet
 pub each-none : (ms y : List ℕ) → y ≡ wordsThrough (take 0 ms) y

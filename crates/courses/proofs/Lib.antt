@@ -4,10 +4,12 @@ pub mod Own
 pub mod Cut
 pub mod CutInsert
 pub mod CutDelete
-pub mod EditCut
+pub mod Calls
 pub mod Found
 pub mod Final
 pub mod Recoveries
+pub mod Standing
 pub mod Course
+pub mod Demand3
 pub mod Single
 pub mod Each

@@ -1,28 +1,20 @@
--- Recoveries one after another, each with its allowance: together they make the stores of the first one's plan.
-use Prim.Native.Nat.{ℕ, _+_, _-_, _<_}
+-- Recoveries one after another, each with its allowance: together they make the stores of the first one's plan. That is shown of any
+-- invariant which lets recovery go on: its plan is a list of stores, and after some of them the invariant holds and the plan is the rest.
+use Prim.Native.Nat.{ℕ, _+_, _≤_}
 use mathlib.Core.Path.{_≡_, refl, ap, _∙_, sym, subst}
 use mathlib.Core.List.{List, [], _∷_, _++_, append-assoc, append-nil}
 use mathlib.Core.Bool.{Bool, true, false, cond}
 use native.Mathlib.Omega.{arith}
 use lib.Dec.{ltb}
-use lib.ListN.{length, getD, take, drop, length-append, take-append-drop}
+use lib.ListN.{length, take, drop, length-append, take-append-drop}
 use lib.Seq.{length-take-le, take-all}
 use borrow.Author.Tests.{ltb-true, ltb-false}
 use Rattle.sequences.specs.Sequence.{All}
-use Rattle.sequences.proofs.Members.{all-take}
-use Rattle.stores.specs.declared.Answer.{Answer}
 use Rattle.stores.specs.declared.Answer.the-variants as A
 use Rattle.stores.specs.Stores.{Write, run, applied, Plan, refuse, stores, answerOf, wordsAfter, madeBy, answerStores}
-use Rattle.stores.proofs.Laws.{run-append, run-out, length-run}
-use Rattle.layout.specs.declared.Layout.{Layout}
-use Rattle.layout.specs.declared.Opened.the-variants as O
-use Rattle.layout.specs.Words.{sizeOf, opened}
-use Rattle.lists.proofs.Same.{same-opened}
-use Rattle.recovery.specs.Plan.{recoverStores, recoverPlan, Accepted}
-use Rattle.recovery.proofs.Suffix.{suffix}
-use Rattle.recovery.proofs.Whole.{accepted-plan}
-use Rattle.courses.proofs.Final.{head-spares}
-use Rattle.courses.specs.Course.{wordsThrough, answersThrough, storesThrough, NotRefused, total}
+use Rattle.stores.proofs.Laws.{run-append, answer-done}
+use Rattle.recovery.specs.Plan.{recoverPlan}
+use Rattle.courses.specs.Course.{needed, wordsThrough, answersThrough, storesThrough, NotRefused, total}
 
 -- the stores of a call, the words it leaves and the number it answers
 made-words : (p : Plan) (m : ℕ) (y : List ℕ) → wordsAfter p m y ≡ run (madeBy p m) y
@@ -30,7 +22,7 @@ unfolding run
 made-words (refuse n) m y = refl
 made-words (stores ps) m y = refl
 
-pub made-number : (p : Plan) (m : ℕ) → answerStores (answerOf p m) ≡ length (madeBy p m)
+made-number : (p : Plan) (m : ℕ) → answerStores (answerOf p m) ≡ length (madeBy p m)
 made-number (refuse n) m = refl
 made-number (stores ps) m = by (ltb m (length ps)) refl
   where
@@ -46,7 +38,7 @@ not-refused ps m = by (ltb m (length ps))
     by false = tt
 
 -- so with several calls
-pub through-run : (ms y : List ℕ) → wordsThrough ms y ≡ run (storesThrough ms y) y
+through-run : (ms y : List ℕ) → wordsThrough ms y ≡ run (storesThrough ms y) y
 unfolding wordsThrough storesThrough run
 through-run [] y = refl
 through-run (m ∷ ms) y =
@@ -54,7 +46,7 @@ through-run (m ∷ ms) y =
     let y₁ = wordsAfter p m y in
     through-run ms y₁ ∙ ap (λ (v : List ℕ). run (storesThrough ms y₁) v) (made-words p m y) ∙ sym (run-append (madeBy p m) (storesThrough ms y₁) y)
 
-pub through-number : (ms y : List ℕ) → total (answersThrough ms y) ≡ length (storesThrough ms y)
+through-number : (ms y : List ℕ) → total (answersThrough ms y) ≡ length (storesThrough ms y)
 unfolding answersThrough storesThrough total
 through-number [] y = refl
 through-number (m ∷ ms) y =
@@ -69,7 +61,7 @@ unfolding wordsThrough
 words-last [] last y = refl
 words-last (m ∷ ms) last y = words-last ms last (wordsAfter (recoverPlan y) m y)
 
-pub stores-last : (ms : List ℕ) (last : ℕ) (y : List ℕ)
+stores-last : (ms : List ℕ) (last : ℕ) (y : List ℕ)
     → storesThrough (ms ++ last ∷ []) y ≡ storesThrough ms y ++ madeBy (recoverPlan (wordsThrough ms y)) last
 unfolding wordsThrough storesThrough
 stores-last [] last y = append-nil (madeBy (recoverPlan y) last)
@@ -79,50 +71,66 @@ stores-last (m ∷ ms) last y =
     ap (λ (qs : List Write). madeBy p m ++ qs) (stores-last ms last y₁)
     ∙ sym (append-assoc (madeBy p m) (storesThrough ms y₁) (madeBy (recoverPlan (wordsThrough ms y₁)) last))
 
--- where a course stands: the words y are accepted with the sequences t, and questions 1 to 4 are answered yes
-pub record Standing (l : Layout) (t : ℕ → List ℕ) (y : List ℕ) : Type 0 where
-  pub opens : opened y ≡ O.Open l
-  pub size : length y ≡ sizeOf l
-  pub accepted : Accepted l y t
+-- recoveries of the words y with these allowances, the last of which is enough: they are not refused, and make the stores ps
+pub record Recovered (y : List ℕ) (ps : List Write) (ms : List ℕ) (last : ℕ) : Type 0 where
+  pub accepted : All NotRefused (answersThrough ms y)
+  pub done : answerOf (recoverPlan (wordsThrough ms y)) last ≡ A.Done (needed (recoverPlan (wordsThrough ms y)))
+  pub made : storesThrough (ms ++ last ∷ []) y ≡ ps
+  pub words : wordsThrough (ms ++ last ∷ []) y ≡ run ps y
+  pub adds : total (answersThrough ms y) + answerStores (answerOf (recoverPlan (wordsThrough ms y)) last) ≡ length ps
 
--- the plan of recovery
-pub standing-plan : (l : Layout) (t : ℕ → List ℕ) (y : List ℕ) → Standing l t y → recoverPlan y ≡ stores (recoverStores l y t)
-standing-plan l t y s = accepted-plan l y t (s .opens) (s .accepted)
+module _ (I : List ℕ → Type 0) (ps : List ℕ → List Write) (plan : (y : List ℕ) → I y → recoverPlan y ≡ stores (ps y))
+    (after : (y : List ℕ) → I y → (m : ℕ) → I (applied (ps y) m y) × (ps (applied (ps y) m y) ≡ drop m (ps y))) where
+  -- any number of them
+  through : (ms y : List ℕ) → I y
+      → I (wordsThrough ms y) × (storesThrough ms y ++ ps (wordsThrough ms y) ≡ ps y) × All NotRefused (answersThrough ms y)
+  unfolding wordsThrough answersThrough storesThrough
+  through [] y i = (i, refl, tt)
+  through (m ∷ ms) y i =
+      subst
+      (λ (p : Plan).
+      I (wordsThrough ms (wordsAfter p m y))
+      × ((madeBy p m ++ storesThrough ms (wordsAfter p m y)) ++ ps (wordsThrough ms (wordsAfter p m y)) ≡ ps y)
+      × (NotRefused (answerOf p m) × All NotRefused (answersThrough ms (wordsAfter p m y))))
+      (sym (plan y i))
+      (let a = after y i m in
+      let y₁ = applied (ps y) m y in
+      let r = through ms y₁ (a .0) in (
+        r .0,
+        append-assoc (take m (ps y)) (storesThrough ms y₁) (ps (wordsThrough ms y₁)) ∙ ap (λ (qs : List Write). take m (ps y) ++ qs) (r .1 ∙ a .1)
+            ∙ take-append-drop m (ps y),
+        (not-refused (ps y) m, r .2),
+      ))
 
--- one recovery: the words stand again, and the plan that is left is the rest
-pub one-recovery : (l : Layout) (t : ℕ → List ℕ) (y : List ℕ) → Standing l t y → (m : ℕ)
-    → Standing l t (applied (recoverStores l y t) m y) × (recoverStores l (applied (recoverStores l y t) m y) t ≡ drop m (recoverStores l y t))
-one-recovery l t y s m =
-    let ps = recoverStores l y t in
-    let r = suffix l t m y (s .size) (s .accepted) in
-    let head : (a : ℕ) → a < 8 → getD (applied ps m y) a 0 ≡ getD y a 0 =
-    λ a h. run-out (take m ps) y a (all-take (λ (p : Write). a ≡ p .at → ⊥) ps m (head-spares l y (s .size) t (s .accepted) a h)) in
-    let size = length-run (take m ps) y in
-    (record { opens = same-opened y (applied ps m y) head size ∙ s .opens; size = size ∙ s .size; accepted = r .0 }, r .1)
+  -- and a last one with an allowance that is enough
+  module _ (ms : List ℕ) (last : ℕ) (y : List ℕ) (i : I y) (enough : needed (recoverPlan (wordsThrough ms y)) ≤ last) where
+    abbrev y₁ : List ℕ
+    y₁ = wordsThrough ms y
 
--- any number of them, which leave the words x, with their answers and the stores they made
-pub record Through (l : Layout) (t : ℕ → List ℕ) (y x : List ℕ) (answers : List Answer) (made : List Write) : Type 0 where
-  pub standing : Standing l t x
-  pub stores : made ++ recoverStores l x t ≡ recoverStores l y t
-  pub accepted : All NotRefused answers
+    plan₁ : recoverPlan y₁ ≡ stores (ps y₁)
+    plan₁ = plan y₁ (through ms y i .0)
 
-pub through : (l : Layout) (t : ℕ → List ℕ) (ms y : List ℕ) → Standing l t y
-    → Through l t y (wordsThrough ms y) (answersThrough ms y) (storesThrough ms y)
-unfolding wordsThrough answersThrough storesThrough
-through l t [] y s = record { standing = s; stores = refl; accepted = tt }
-through l t (m ∷ ms) y s =
-    subst
-    (λ (p : Plan).
-    Through l t y (wordsThrough ms (wordsAfter p m y)) (answerOf p m ∷ answersThrough ms (wordsAfter p m y))
-    (madeBy p m ++ storesThrough ms (wordsAfter p m y)))
-    (sym (standing-plan l t y s))
-    (let ps = recoverStores l y t in
-    let o = one-recovery l t y s m in
-    let r = through l t ms (applied ps m y) (o .0) in
-    record {
-      standing = r .standing;
-      stores =
-          append-assoc (take m ps) (storesThrough ms (applied ps m y)) (recoverStores l (wordsThrough ms (applied ps m y)) t)
-          ∙ ap (λ (qs : List Write). take m ps ++ qs) (r .stores ∙ o .1) ∙ take-append-drop m ps;
-      accepted = (not-refused ps m, r .accepted);
-    })
+    enough₁ : length (ps y₁) ≤ last
+    enough₁ = subst (λ (p : Plan). needed p ≤ last) plan₁ enough
+
+    made : storesThrough (ms ++ last ∷ []) y ≡ ps y
+    made =
+        stores-last ms last y
+        ∙ ap (λ (qs : List Write). storesThrough ms y ++ qs) (ap (λ (p : Plan). madeBy p last) plan₁ ∙ take-all last (ps y₁) enough₁)
+        ∙ through ms y i .1
+
+    pub recovered : Recovered y (ps y) ms last
+    recovered =
+        record {
+          accepted = through ms y i .2;
+          done = subst (λ (p : Plan). answerOf p last ≡ A.Done (needed p)) (sym plan₁) (sym (answer-done (ps y₁) last enough₁));
+          made = made;
+          words = through-run (ms ++ last ∷ []) y ∙ ap (λ (qs : List Write). run qs y) made;
+          adds =
+              omega (
+                arith,
+                through-number ms y,
+                made-number (recoverPlan y₁) last,
+                sym (length-append (storesThrough ms y) (madeBy (recoverPlan y₁) last)) ∙ ap length (sym (stores-last ms last y) ∙ made),
+              );
+        }

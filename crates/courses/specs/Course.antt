@@ -9,7 +9,7 @@ use lib.ListN.{length, set}
 use Rattle.sequences.specs.Sequence.{_∈_}
 use Rattle.stores.specs.declared.Answer.{Answer}
 use Rattle.stores.specs.declared.Answer.the-variants as A
-use Rattle.stores.specs.Stores.{Write, run, Plan, refuse, stores, answerOf, wordsAfter, madeBy, answerStores}
+use Rattle.stores.specs.Stores.{Write, applied, Plan, refuse, stores, answerOf, wordsAfter, madeBy, answerStores}
 use Rattle.layout.specs.declared.Layout.{Layout}
 use Rattle.layout.specs.Words.{cellAt, layoutOf}
 use Rattle.edits.specs.Edits.{insertCentral, deleteCentral}
@@ -30,11 +30,6 @@ abbrev pub editPlan : List ℕ → Edit → Plan
 editPlan w (insert k p c words) = insertPlan w k p c words
 editPlan w (delete k p) = deletePlan w k p
 
--- the number of its central store
-abbrev pub central : Layout → Edit → ℕ
-central l (insert k p c words) = insertCentral l
-central l (delete k p) = deleteCentral
-
 -- all stores of a plan, and how many they are
 abbrev pub allStores : Plan → List Write
 allStores (refuse n) = []
@@ -43,11 +38,20 @@ allStores (stores ps) = ps
 abbrev pub needed : Plan → ℕ
 needed p = length (allStores p)
 
+-- how many of its stores are due, if a call is cut after m: none before the central one, from that one on all
+abbrev pub dueOf : ℕ → ℕ → ℕ → ℕ
+dueOf central all m = cond (ltb m central) 0 all
+
+-- Insert has "P + 6 stores. The central one is .. number P + 5." "Delete stores four words", of which the second is.
+abbrev pub due : Layout → Edit → ℕ → ℕ
+due l (insert k p c words) = dueOf (insertCentral l) (l .width + 6)
+due l (delete k p) = dueOf deleteCentral 4
+
 -- "Its old words are those in the sound store, its new words those with every store of the insert or delete made. In the final
 -- store the list named by the call has its old words if the call was refused or its allowance is below the central store's number,
 -- else its new words."
 abbrev pub dueWords : List ℕ → Edit → ℕ → List ℕ
-dueWords w e m = cond (ltb m (central (layoutOf w) e)) w (run (allStores (editPlan w e)) w)
+dueWords w e m = applied (allStores (editPlan w e)) (due (layoutOf w) e m) w
 
 -- "in each list but the one it names, at most one word is altered, to any value": word f of cell c becomes v
 pub data Alteration : Type 0 where

@@ -19,8 +19,8 @@ pub record Course (w : List ℕ) (s : Sound w) (k : ℕ) (x y ms : List ℕ) (la
   -- "None is refused, and the last is answered done": with the number of stores that it needs
   pub accepted : All NotRefused (answersThrough ms y)
   pub done : r ≡ A.Done (needed (recoverPlan (wordsThrough ms y)))
-  -- The final store is sound. Its lists have their old sequences, but the one named has `own`, its sequence in x: a list has only one
-  -- (`list-unique`, lists/proofs/Unique.antt).
+  -- The final store is sound, and its lists have their old sequences, but the one named has `own`: by `list` that is its sequence in x, and
+  -- a list has only one (`list-unique`, lists/proofs/Unique.antt).
   pub own : List ℕ
   pub list : k < layoutOf w .lists → IsList (layoutOf w) x k own
   pub sound : Sound z

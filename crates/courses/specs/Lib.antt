@@ -1,2 +1,3 @@
 pub mod Course
 pub mod Demand3
+pub mod Left

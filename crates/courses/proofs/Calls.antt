@@ -1,0 +1,71 @@
+-- Whatever an insert or delete is asked of a sound store, its stores are of those that a call may have left (`Left`).
+use Prim.Native.Nat.{ℕ, _<_, _≤_}
+use mathlib.Core.Path.{_≡_, refl, ap, _∙_, sym, subst}
+use mathlib.Core.List.{List, List·Memᴰ·head, Memᴰ·append-right}
+use lib.ListN.{length}
+use Rattle.sequences.specs.Sequence.{_∈_}
+use Rattle.sequences.proofs.Members.{all-in}
+use Rattle.stores.specs.Stores.{Plan}
+use Rattle.layout.specs.declared.Layout.{Layout}
+use Rattle.layout.specs.Words.{Node, layoutOf}
+use Rattle.lists.specs.Lists.{Sound}
+use Rattle.lists.specs.Decide.{viewOf}
+use Rattle.requests.specs.declared.Site.{Site}
+use Rattle.requests.specs.declared.Looked.{Looked}
+use Rattle.requests.specs.declared.Looked.the-variants as K
+use Rattle.requests.specs.declared.Request.the-variants.{Member, Gap}
+use Rattle.requests.specs.Requests.{around, lookOf}
+use Rattle.edits.specs.Edits.{insertWrites, deleteWrites}
+use Rattle.edits.specs.Edited.{FirstFree}
+use Rattle.edits.proofs.Free.{around-nodes}
+use Rattle.edits.proofs.Done.{gap-facts, member-facts, its-layout, its-site, its-sequence}
+use Rattle.axle_store.proofs.Cases.{insert-refused, insert-at, delete-refused, delete-at}
+use Rattle.courses.specs.Course.{Edit, insert, delete, named, editPlan, due, allStores}
+use Rattle.courses.specs.Left.{gapOf, memberOf, Left, nothing, inserts, deletes}
+
+-- the first free cell met is a node
+first-node : (l : Layout) (w : List ℕ) (c i : ℕ) → Node l c → FirstFree (viewOf l w .ident) (around l c (l .nodes)) i → Node l i
+first-node l w c i h f =
+    all-in (Node l) (around l c (l .nodes)) (around-nodes l c (l .nodes) h)
+    (subst (λ (x : List ℕ). i ∈ x) (sym (f .order)) (Memᴰ·append-right (f .passed) (List·Memᴰ·head refl)))
+
+module _ (w : List ℕ) (s : Sound w) where
+  abbrev l : Layout
+  l = layoutOf w
+
+  abbrev LeftBy : Edit → Plan → Type 0
+  LeftBy e p = Left w s (named e) (due l e) (allStores p)
+
+  insert-left : (k p c : ℕ) (words : List ℕ) (t : Site) → lookOf w (Gap k p c (length words)) ≡ K.At l t
+      → Left w s k (due l (insert k p c words)) (insertWrites l k t words)
+  insert-left k p c words t e =
+      let f = gap-facts l w k p c (length words) t (its-site w s k p l t (Gap k p c (length words)) e) in
+      let q = its-sequence w s k p l t (f .list) in
+      subst (λ (u : Site). Left w s k (due l (insert k p c words)) (insertWrites l k u words))
+      (sym (f .site ∙ ap (λ (x : List ℕ). gapOf k x p (t .cell)) q))
+      (inserts (f .list) p (subst (λ (x : List ℕ). p ≤ length x) q (f .position)) (t .cell) (first-node l w c (t .cell) (f .start) (f .first))
+      (f .first .free) words (f .size))
+
+  delete-left : (k p : ℕ) (t : Site) → lookOf w (Member k p) ≡ K.At l t → Left w s k (due l (delete k p)) (deleteWrites l k t)
+  delete-left k p t e =
+      let f = member-facts l w k p t (its-site w s k p l t (Member k p) e) in
+      let q = its-sequence w s k p l t (f .list) in
+      subst (λ (u : Site). Left w s k (due l (delete k p)) (deleteWrites l k u)) (sym (f .site ∙ ap (λ (x : List ℕ). memberOf k x p) q))
+      (deletes (f .list) p (subst (λ (x : List ℕ). p < length x) q (f .position)))
+
+  pub call-left : (e : Edit) → LeftBy e (editPlan w e)
+  call-left (insert k p c words) = by (lookOf w (Gap k p c (length words))) refl
+    where
+      by : (x : Looked) → lookOf w (Gap k p c (length words)) ≡ x → LeftBy (insert k p c words) (editPlan w (insert k p c words))
+      by (K.Refused n) q = subst (LeftBy (insert k p c words)) (sym (insert-refused w k p c words q)) (nothing (due l (insert k p c words)))
+      by (K.At a t) q =
+          let r : lookOf w (Gap k p c (length words)) ≡ K.At l t =
+          q ∙ ap (λ (b : Layout). K.At b t) (its-layout w s k p a t (Gap k p c (length words)) q) in
+          subst (LeftBy (insert k p c words)) (sym (insert-at w k p c words r)) (insert-left k p c words t r)
+  call-left (delete k p) = by (lookOf w (Member k p)) refl
+    where
+      by : (x : Looked) → lookOf w (Member k p) ≡ x → LeftBy (delete k p) (editPlan w (delete k p))
+      by (K.Refused n) q = subst (LeftBy (delete k p)) (sym (delete-refused w k p q)) (nothing (due l (delete k p)))
+      by (K.At a t) q =
+          let r : lookOf w (Member k p) ≡ K.At l t = q ∙ ap (λ (b : Layout). K.At b t) (its-layout w s k p a t (Member k p) q) in
+          subst (LeftBy (delete k p)) (sym (delete-at w k p r)) (delete-left k p t r)

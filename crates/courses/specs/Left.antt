@@ -1,0 +1,41 @@
+-- Demand 3 without the calls: of stores that an insert or a delete may have left behind, whoever planned them.
+use Prim.Native.Nat.{ℕ, _+_, _<_, _≤_}
+use mathlib.Core.Path.{_≡_}
+use mathlib.Core.List.{List, [], _∷_, _++_}
+use lib.ListN.{length, getD}
+use Rattle.stores.specs.Stores.{Write, applied, answerOf}
+use Rattle.layout.specs.Words.{Node, identAt, layoutOf}
+use Rattle.lists.specs.Lists.{Sound}
+use Rattle.requests.specs.declared.Site.{Site}
+use Rattle.edits.specs.Edits.{insertWrites, deleteWrites, insertCentral, deleteCentral}
+use Rattle.recovery.specs.Plan.{recoverPlan}
+use Rattle.courses.specs.Course.{needed, dueOf, Alteration, AllowedBut, alteredBelow, wordsThrough}
+use Rattle.courses.specs.Demand3.{Course}
+
+-- position p of list k with the sequence s: the gap there, for cell i, and the member there
+abbrev pub gapOf : ℕ → List ℕ → ℕ → ℕ → Site
+gapOf k s p i = record { before = getD (k ∷ s) p 0; cell = i; after = getD (s ++ k ∷ []) p 0; count = length s }
+
+abbrev pub memberOf : ℕ → List ℕ → ℕ → Site
+memberOf k s p = record { before = getD (k ∷ s) p 0; cell = getD s p 0; after = getD (s ++ k ∷ []) (p + 1) 0; count = length s }
+
+-- the stores that a call which names list k has to make in the sound store w; cut after m of them, `due m` are due
+pub data Left (w : List ℕ) (s : Sound w) (k : ℕ) : (ℕ → ℕ) → List Write → Type 0 where
+  -- it was refused
+  nothing : (due : ℕ → ℕ) → Left w s k due []
+  -- an insert at any position of the list, of any record, in any node that is free
+  inserts : k < layoutOf w .lists → (p : ℕ) → p ≤ length (s .lists .sequence k) → (i : ℕ) → Node (layoutOf w) i
+      → getD w (identAt (layoutOf w) i) 0 ≡ 0 → (words : List ℕ) → length words ≡ layoutOf w .width
+      → Left w s k (dueOf (insertCentral (layoutOf w)) (layoutOf w .width + 6)) (insertWrites (layoutOf w) k (gapOf k (s .lists .sequence k) p i) words)
+  -- a delete at any position of the list
+  deletes : k < layoutOf w .lists → (p : ℕ) → p < length (s .lists .sequence k)
+      → Left w s k (dueOf deleteCentral 4) (deleteWrites (layoutOf w) k (memberOf k (s .lists .sequence k) p))
+
+-- cut after m stores, followed by alterations and recoveries as in demand 3
+abbrev pub LeftDemand3 : Type 0
+LeftDemand3 =
+    (w : List ℕ) (s : Sound w) (k : ℕ) (due : ℕ → ℕ) (ps : List Write) → Left w s k due ps
+    → (m : ℕ) (alts : ℕ → Alteration) → AllowedBut k (layoutOf w .lists) (s .lists .sequence) alts
+    → (y ms : List ℕ) (last : ℕ) → y ≡ alteredBelow (layoutOf w) k alts (layoutOf w .lists) (applied ps m w)
+    → needed (recoverPlan (wordsThrough ms y)) ≤ last
+    → Course w s k (applied ps (due m) w) y ms last (wordsThrough (ms ++ last ∷ []) y) (answerOf (recoverPlan (wordsThrough ms y)) last)
