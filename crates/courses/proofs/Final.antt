@@ -1,13 +1,13 @@
 -- What the whole plan leaves of an accepted store: the words of each list as its sequence asks them, and the rest as it was.
 use Prim.Native.Nat.{ℕ, _+_, _<_, _≤_}
 use mathlib.Core.Path.{_≡_, ap, _∙_, sym, subst}
-use mathlib.Core.List.{List, _∷_, List·Memᴰ, List·Memᴰ·head, List·Memᴰ·tail}
+use mathlib.Core.List.{List, _∷_, List·Memᴰ·head, List·Memᴰ·tail}
 use mathlib.Core.Logic.{_⊎_, inl, inr}
 use native.Mathlib.Decide.{ℕ-discrete, decLt}
 use native.Mathlib.Omega.{arith}
 use lib.ListN.{length, getD}
-use Rattle.sequences.specs.Sequence.{_∈_, All, Step, steps}
-use Rattle.sequences.proofs.Members.{all-in, in-behind}
+use Rattle.sequences.specs.Sequence.{_∈_, Step, steps}
+use Rattle.sequences.proofs.Members.{all-in, in-all, in-behind}
 use Rattle.stores.specs.Stores.{Write, run, Spares}
 use Rattle.stores.proofs.Laws.{run-out}
 use Rattle.layout.specs.declared.Layout.{Layout}
@@ -18,11 +18,11 @@ use Rattle.lists.specs.Decide.{viewOf, countIn}
 use Rattle.lists.proofs.Agree.{Holds, agrees-holds}
 use Rattle.lists.proofs.Same.{ident-word, count-word}
 use Rattle.recovery.specs.Plan.{joined, recoverStores, Accepted, Kind, mend, clear}
+use Rattle.recovery.proofs.Required.{wrong-in}
 use Rattle.recovery.proofs.Slots.{Value, ident, forward, back, count, slot}
-use Rattle.recovery.proofs.Step.{wrong-in}
-use Rattle.recovery.proofs.Suffix.{one-joined}
+use Rattle.recovery.proofs.Joined.{one-joined}
+use Rattle.recovery.proofs.Count.{plan-kinds}
 use Rattle.recovery.proofs.Whole.{whole-sound}
-use Rattle.recovery.proofs.Count.{in-all-writes, plan-kinds}
 use Rattle.courses.proofs.Rival.{step-from, step-to, step-at}
 
 -- two stores in which list j has the sequence s hold the same words in its header and the same links in its members
@@ -68,17 +68,13 @@ same-links l w x j h s i i′ c f m k = by k
     by (inl g) = word (ℕ-discrete f 0) (ℕ-discrete f 1) g
     by (inr e) = counted x b (e .0) (e .1) ∙ sym (counted w a (e .0) (e .1))
 
-at-write : (P : Write → Type 0) (ps : List Write) → All P ps → {p : Write} → List·Memᴰ p ps → P p
-at-write P (q ∷ ps) h (List·Memᴰ·head e) = subst P (sym e) (h .0)
-at-write P (q ∷ ps) h (List·Memᴰ·tail m) = at-write P ps (h .1) m
-
 module _ (l : Layout) (y : List ℕ) (exact : length y ≡ sizeOf l) (s : ℕ → List ℕ) (a : Accepted l y s) where
   abbrev pub Final : List ℕ
   Final = run (recoverStores l y s) y
 
   plan-spares : (b : ℕ) → ((p : Write) → Kind l y s p → b ≡ p .at → ⊥) → Spares b (recoverStores l y s)
   plan-spares b h =
-      in-all-writes (λ (p : Write). b ≡ p .at → ⊥) (recoverStores l y s) (λ p m. h p (at-write (Kind l y s) (recoverStores l y s) (plan-kinds l y s) m))
+      in-all (λ (p : Write). b ≡ p .at → ⊥) (recoverStores l y s) (λ p m. h p (all-in (Kind l y s) (recoverStores l y s) (plan-kinds l y s) m))
 
   -- no store goes to words 0 to 7
   pub head-spares : (b : ℕ) → b < 8 → Spares b (recoverStores l y s)

@@ -22,9 +22,9 @@ use Rattle.lists.proofs.Agree.{Holds, agrees-holds}
 use Rattle.lists.proofs.Unique.{header-out, nodes-all}
 use Rattle.lists.proofs.Same.{ident-word, count-word}
 use Rattle.recovery.specs.Fits.{wrong, Fits}
-use Rattle.recovery.proofs.Candidates.{sequence-dec, wrong-right, wrong-wrong, wrong-parts, right-forward, right-backward, Whole, rivals}
-use Rattle.recovery.proofs.Step.{ring-cells}
-use Rattle.recovery.proofs.Slots.{step-source, step-target}
+use Rattle.recovery.proofs.Required.{wrong-right, wrong-wrong}
+use Rattle.recovery.proofs.Candidates.{sequence-dec, wrong-parts, right-forward, right-backward, Whole, rivals}
+use Rattle.recovery.proofs.Slots.{step-source, step-target, ring-cells}
 use Rattle.recovery.proofs.Disjoint.{no-paths}
 use Rattle.courses.specs.Course.{Alteration, untouched, altered}
 use Rattle.courses.proofs.Rival.{step-at, no-rival}

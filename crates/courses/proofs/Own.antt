@@ -19,7 +19,7 @@ use Rattle.lists.proofs.Same.{count-word}
 use Rattle.layout.proofs.Apart.{words-header}
 use Rattle.recovery.specs.Fits.{Fits, backwardOf}
 use Rattle.recovery.proofs.Candidates.{sequence-dec, forward-right, forward-candidate, candidates, rivals}
-use Rattle.recovery.proofs.Step.{fits-same}
+use Rattle.recovery.proofs.Suffix.{fits-same}
 
 -- a sequence s fits and its forward links are right; the back links lead through some of its members, which are all of them or another
 -- number than the count

@@ -257,7 +257,7 @@ recovers w =
         → Refuses recoverNumbers (ask b (refuse (refusalFrom l w 0 (l .lists))) (stores (recoverStores l w (fittingOf l w)))) w
     by l e true z =
         stored recoverNumbers w (recoverStores l w (fittingOf l w))
-        (stores-inside l (fittingOf l w) (recoverStores l w (fittingOf l w)) w (opened-open w l e .3) (number-accepted l w (eqb-true _ _ z)) refl)
+        (stores-inside l w (fittingOf l w) (number-accepted l w (eqb-true _ _ z)) (opened-open w l e .3))
     by l e false z = refused recoverNumbers w (refusalFrom l w 0 (l .lists)) (Memᴰ·append-right openNumbers (list-numbers l w 0 (l .lists) (eqb-false _ _ z)))
 
 pub demand1 : Demand1

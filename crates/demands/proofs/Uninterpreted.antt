@@ -1,7 +1,8 @@
 -- Nothing interprets a record: no question, answer or store depends on a word of one.
 use Prim.Native.Nat.{ℕ, zero, suc, _+_, _≤_, _<_}
 use mathlib.Core.Path.{_≡_, refl, ap, _∙_, sym, subst, fun-ext}
-use mathlib.Core.List.{List, reverse}
+use mathlib.Core.List.{List, reverse, List·Memᴰ, List·Memᴰ·append-cases}
+use mathlib.Core.Logic.{⊎-elim}
 use native.Mathlib.Omega.{arith}
 use lib.Dec.{eqb, leb}
 use lib.ListN.{length, getD}
@@ -10,7 +11,7 @@ use Rattle.stores.specs.Stores.{Write, refuse, stores}
 use Rattle.layout.specs.declared.Layout.{Layout}
 use Rattle.layout.specs.declared.Opened.{Opened}
 use Rattle.layout.specs.declared.Opened.the-variants as O
-use Rattle.layout.specs.Words.{Node, isNode, firstNode, cellAt, cellWords, identAt, layoutOf, ask, opened, afterOpen}
+use Rattle.layout.specs.Words.{Node, isNode, cellAt, cellWords, identAt, layoutOf, ask, opened, afterOpen}
 use Rattle.layout.proofs.Laws.{opened-open}
 use Rattle.layout.proofs.Apart.{words-apart, words-header, words-node, links-words, cell-behind}
 use Rattle.lists.specs.Lists.{asked}
@@ -26,11 +27,11 @@ use Rattle.requests.proofs.Laws.{site-same}
 use Rattle.edits.specs.Edits.{insertLinks, insertWrites}
 use Rattle.edits.proofs.Writes.{record-word}
 use Rattle.edits.proofs.Done.{looked}
-use Rattle.recovery.specs.Fits.{wrong, backwardOf, fewWrong, same, fitting, fitOf}
-use Rattle.recovery.specs.Plan.{joined, recoverStores, onlyOf, fittingOf, fitNumber, refusalFrom, recoverOf, recoverPlan}
+use Rattle.recovery.specs.Fits.{backwardOf, fewWrong, same, fitting, fitOf}
+use Rattle.recovery.specs.Plan.{listsAsked, required, recoverStores, onlyOf, fittingOf, fitNumber, refusalFrom, recoverOf, recoverPlan}
 use Rattle.recovery.proofs.Slots.{Value, ident, forward, back, count, slot}
-use Rattle.recovery.proofs.Step.{wrong-same}
-use Rattle.recovery.proofs.Suffix.{clears-same, stores-same}
+use Rattle.recovery.proofs.Required.{wrong-same}
+use Rattle.recovery.proofs.Count.{in-lists, in-clears}
 use Rattle.recovery.proofs.Whole.{plan-same}
 use Rattle.axle_store.specs.Calls.{formatAnswer, checkAnswer, lengthAnswer, readNumber, readStart, insertPlan, deletePlan}
 use Rattle.axle_store.proofs.Cases.{insert-refused, insert-at}
@@ -99,8 +100,8 @@ module _ (w w′ : List ℕ) (s : SameButRecords w w′) where
       (ap (λ (t : Sited). withSite t K.Refused (K.At l)) (same-site q))
 
   -- of what is asked of a list, the same words are wrong; so the same sequences fit, and recovery has the same plan
-  same-wrong : (k : ℕ) → k < l .lists → (t : List ℕ) → wrong w′ (asked l k t) ≡ wrong w (asked l k t)
-  same-wrong k h t = wrong-same w w′ (asked l k t) (λ p m. let y = slot l k t h m in moved (y .at) (word (y .value)))
+  same-asked : (k : ℕ) → k < l .lists → (t : List ℕ) (p : Write) → List·Memᴰ p (asked l k t) → getD w′ (p .at) 0 ≡ getD w (p .at) 0
+  same-asked k h t p m = let y = slot l k t h m in moved (y .at) (word (y .value))
     where
       word : {c f v : ℕ} → Value k t c f v → getD w′ (cellAt l c + f) 0 ≡ getD w (cellAt l c + f) 0
       word {c} {f} (ident e q) = same-link c f (omega arith)
@@ -119,18 +120,24 @@ module _ (w w′ : List ℕ) (s : SameButRecords w w′) where
       behind = ap (λ (v : View). reverse (trail (v .back) (isNode l) (l .nodes) (v .back k))) same-view
 
       few : fewWrong l w′ k ≡ fewWrong l w k
-      few = fun-ext (λ t. ap (λ (ps : List Write). leb (length ps) 1) (same-wrong k h t))
+      few = fun-ext (λ t. ap (λ (ps : List Write). leb (length ps) 1) (wrong-same w w′ (asked l k t) (same-asked k h t)))
 
   same-refusal : (k n : ℕ) → k + n ≤ l .lists → refusalFrom l w′ k n ≡ refusalFrom l w k n
   unfolding refusalFrom
   same-refusal k zero h = refl
   same-refusal k (suc n) h = λ i. fitNumber (same-fit k (omega arith) i) (same-refusal (suc k) n (omega arith) i)
 
+  same-required : (t : ℕ → List ℕ) → recoverStores l w′ t ≡ recoverStores l w t
+  same-required t =
+      wrong-same w w′ (required l t)
+      (λ p m.
+      ⊎-elim (λ i. let k = in-lists l t i in same-asked (k .0) (k .1) (t (k .0)) p (k .2))
+      (λ i. let c = in-clears l t i in moved (ap (λ (q : Write). q .at) (sym (c .3))) (same-ident (c .0)))
+      (List·Memᴰ·append-cases (listsAsked l t) m))
+
   same-stores : recoverStores l w′ (fittingOf l w′) ≡ recoverStores l w (fittingOf l w)
   same-stores =
-      plan-same l w′ (fittingOf l w′) (fittingOf l w) (λ k h. ap onlyOf (same-fit k h))
-      ∙ stores-same l (fittingOf l w) w w′ 0 (l .lists) (λ k _ h. same-wrong k (omega arith) (fittingOf l w k))
-      (clears-same l (joined (fittingOf l w) (l .lists)) w w′ (firstNode l) (l .nodes) (λ c _ _. same-ident c))
+      plan-same l w′ (fittingOf l w′) (fittingOf l w) (λ k h. ap onlyOf (same-fit k h)) ∙ same-required (fittingOf l w)
 
   same-recovery : recoverOf l w′ ≡ recoverOf l w
   unfolding recoverOf

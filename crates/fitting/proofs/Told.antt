@@ -17,7 +17,8 @@ use Rattle.lists.specs.Decide.{View, viewOf, countIn, sequenceOf}
 use Rattle.lists.proofs.Same.{ident-word, count-word}
 use Rattle.recovery.specs.Fits.{wrong, backwardOf, fewWrong, same, none, only, several, fitting, fitOf}
 use Rattle.recovery.specs.Plan.{fittingOf}
-use Rattle.recovery.proofs.Candidates.{same-yes, same-refl, wrong-append, wrong-parts, few-fits, forward-candidate, back-candidate, forward-nodes, back-nodes}
+use Rattle.recovery.proofs.Required.{wrong-append}
+use Rattle.recovery.proofs.Candidates.{same-yes, same-refl, wrong-parts, few-fits, forward-candidate, back-candidate, forward-nodes, back-nodes}
 use Rattle.fitting.specs.declared.Faults.{Faults}
 use Rattle.fitting.specs.declared.Faults.the-variants as F
 use Rattle.fitting.specs.declared.Fitted.{Fitted}

@@ -8,11 +8,11 @@ use Rattle.lists.specs.Decide.{turn, holds, allHold, members, used, soundIn}
 use Rattle.requests.specs.Requests.{nextCell, around, firstFree, memberAt, gapAt, siteIn, lookOf}
 use Rattle.edits.specs.Edits.{insertLinks, insertWrites, deleteWrites}
 use Rattle.recovery.specs.Fits.{wrong, fewWrong, same, fitOf}
-use Rattle.recovery.specs.Plan.{joined, isIn, clears, storesFrom, refusalFrom, recoverOf, recoverPlan}
+use Rattle.recovery.specs.Plan.{joined, isIn, outOf, refusalFrom, recoverOf, recoverPlan}
 use Rattle.axle_store.specs.Calls.{formatAnswer, checkAnswer, lengthAnswer, readNumber, readWords, insertPlan, deletePlan}
 use Rattle.marked.specs.Table.{Row, outcome, rows}
 
 pub table : All (λ (r : Row). outcome (r .call) (r .words) ≡ r .outcome) rows
-unfolding steps trail run inRow isNode nodeAt cellAt sizeOf marked inRange openedBy emptyHeaders formatted asked turn holds allHold members used soundIn nextCell around firstFree memberAt gapAt siteIn lookOf insertLinks insertWrites deleteWrites wrong fewWrong same fitOf joined isIn clears storesFrom refusalFrom recoverOf recoverPlan formatAnswer checkAnswer lengthAnswer readNumber readWords insertPlan deletePlan
+unfolding steps trail run inRow isNode nodeAt cellAt sizeOf marked inRange openedBy emptyHeaders formatted asked turn holds allHold members used soundIn nextCell around firstFree memberAt gapAt siteIn lookOf insertLinks insertWrites deleteWrites wrong fewWrong same fitOf joined isIn outOf refusalFrom recoverOf recoverPlan formatAnswer checkAnswer lengthAnswer readNumber readWords insertPlan deletePlan
 table =
     (refl, (refl, (refl, (refl, (refl, (refl, (refl, (refl, (refl, (refl, (refl, (refl, (refl, (refl, (refl, (refl, (refl, (refl, (refl, (refl, (refl, (refl, (refl, (refl, (refl, (refl, (refl, (refl, (refl, tt)))))))))))))))))))))))))))))

@@ -1,8 +1,8 @@
 -- The clears of the erased column are those of recovery's plan.
 use Prim.Native.Nat.{ℕ, zero, suc, _+_, _<_, _≤_}
 use mathlib.Core.Path.{_≡_, refl, ap, ap₂, _∙_, sym, subst}
-use mathlib.Core.List.{List, [], _∷_, List·Memᴰ·head, List·Memᴰ·tail}
-use mathlib.Core.Bool.{Bool, true, false, _||_, cond, or-true, or-false}
+use mathlib.Core.List.{List, [], _∷_, map, List·Memᴰ·head, List·Memᴰ·tail}
+use mathlib.Core.Bool.{Bool, true, false, cond}
 use mathlib.Core.Logic.{⊎-elim}
 use native.Mathlib.Decide.{ℕ-discrete}
 use native.Mathlib.Omega.{arith}
@@ -10,14 +10,15 @@ use native.Mathlib.Nat.{eq-or-lt-of-le}
 use lib.Dec.{eqb}
 use lib.ListN.{getD, set}
 use lib.Seq.{getD-set-other}
-use borrow.Author.Tests.{eq-eqb}
 use Rattle.sequences.specs.Sequence.{_∈_}
+use Rattle.sequences.proofs.Members.{member?}
 use Rattle.stores.specs.Stores.{Write, write}
 use Rattle.layout.specs.declared.Layout.{Layout}
 use Rattle.layout.specs.Words.{firstNode, cellCount, identAt}
 use Rattle.lists.specs.Decide.{View}
-use Rattle.recovery.specs.Plan.{joined, isIn, clears}
-use Rattle.recovery.proofs.Suffix.{isIn-in, isIn-true, one-joined, joined-one}
+use Rattle.recovery.specs.Fits.{wrong}
+use Rattle.recovery.specs.Plan.{joined, outOf, clearsAsked}
+use Rattle.recovery.proofs.Joined.{one-joined, joined-one, out-member, out-other}
 use Rattle.fitting.specs.Fitting.{membersBy}
 use Rattle.mending.specs.Mending.{erased, erasedFrom, clearsIn}
 
@@ -86,36 +87,42 @@ module _ (l : Layout) (v : View) (back : ℕ → Bool) where
       from-other (suc k) n (erased (membersBy l v (back k) k) xs) c (λ j p q. h j (omega arith) (omega arith))
       ∙ erased-other (membersBy l v (back k) k) xs c (h k (omega arith) (omega arith))
 
--- the clears are the same if an entry is 0 exactly where the word is 0 or the cell a member
+-- an entry is 0 at a member, and elsewhere as in the words: the clears are what is wrong of those required
 clears-told : (l : Layout) (w idents ms : List ℕ) (a n : ℕ)
-    → ((c : ℕ) → a ≤ c → c < a + n → eqb (getD idents c 0) 0 ≡ (eqb (getD w (identAt l c) 0) 0 || isIn c ms))
-    → clearsIn l idents a n ≡ clears l w ms a n
-unfolding clearsIn clears
+    → ((c : ℕ) → c < a + n → (c ∈ ms → getD idents c 0 ≡ 0) × ((c ∈ ms → ⊥) → getD idents c 0 ≡ getD w (identAt l c) 0))
+    → clearsIn l idents a n ≡ wrong w (map (λ c. write (identAt l c) 0) (outOf ms a n))
+unfolding clearsIn outOf wrong
 clears-told l w idents ms a zero h = refl
 clears-told l w idents ms a (suc n) h =
-    ap₂ (λ (b : Bool) (t : List Write). cond b t (write (identAt l a) 0 ∷ t)) (h a (omega arith) (omega arith))
-    (clears-told l w idents ms (suc a) n (λ c p q. h c (omega arith) (omega arith)))
+    let p = write (identAt l a) 0 in
+    let step : ℕ → List Write → List Write = λ v t. cond (eqb v 0) t (p ∷ t) in
+    let required : List ℕ → List Write = λ cs. map (λ c. write (identAt l c) 0) cs in
+    let here = h a (omega arith) in
+    let below = clears-told l w idents ms (suc a) n (λ c q. h c (omega arith)) in
+    ⊎-elim
+    (λ m. ap₂ step (here .0 m) below ∙ ap (λ (cs : List ℕ). wrong w (required cs)) (sym (out-member ms a n m)))
+    (λ o.
+    ap₂ step (here .1 o) below ∙ tested (eqb (getD w (identAt l a) 0) 0) (wrong w (required (outOf ms (suc a) n)))
+    ∙ ap (λ (cs : List ℕ). wrong w (required cs)) (sym (out-other ms a n o)))
+    (member? a ms)
+  where
+    tested : (b : Bool) (t : List Write) → cond b t (write (identAt l a) 0 ∷ t) ≡ (elim b as (λ _. List Write) [ true ↦ t | false ↦ write (identAt l a) 0 ∷ t ])
+    tested true t = refl
+    tested false t = refl
 
 -- the clears of the identifiers without the members of the lists are those of the plan
 pub cleared-told : (l : Layout) (w idents : List ℕ) (v : View) (back : ℕ → Bool) (s : ℕ → List ℕ)
     → ((c : ℕ) → c < cellCount l → getD idents c 0 ≡ getD w (identAt l c) 0)
     → ((k : ℕ) → k < l .lists → (c : ℕ) → (c ∈ membersBy l v (back k) k → c ∈ s k) × (c ∈ s k → c ∈ membersBy l v (back k) k))
-    → clearsIn l (erasedFrom l v back 0 (l .lists) idents) (firstNode l) (l .nodes) ≡ clears l w (joined s (l .lists)) (firstNode l) (l .nodes)
+    → clearsIn l (erasedFrom l v back 0 (l .lists) idents) (firstNode l) (l .nodes) ≡ wrong w (clearsAsked l s)
 cleared-told l w idents v back s same members =
     clears-told l w (erasedFrom l v back 0 (l .lists) idents) (joined s (l .lists)) (firstNode l) (l .nodes)
-    (λ c p q. by c q (isIn c (joined s (l .lists))) refl)
-  where
-    by : (c : ℕ) → c < cellCount l → (b : Bool) → isIn c (joined s (l .lists)) ≡ b
-        → eqb (getD (erasedFrom l v back 0 (l .lists) idents) c 0) 0 ≡ (eqb (getD w (identAt l c) 0) 0 || isIn c (joined s (l .lists)))
-    by c q true e =
-        let r = joined-one s (l .lists) c (isIn-true c (joined s (l .lists)) e) in
-        eq-eqb _ _ (from-in l v back 0 (l .lists) idents c (r .0) (omega arith) (omega (arith, r .1)) (members (r .0) (r .1) c .1 (r .2)))
-        ∙ sym (rw e (or-true (eqb (getD w (identAt l c) 0) 0)))
-    by c q false e =
-        ap (λ (x : ℕ). eqb x 0) (from-other l v back 0 (l .lists) idents c out ∙ same c q)
-        ∙ sym (rw e (or-false (eqb (getD w (identAt l c) 0) 0)))
-      where
-        out : (j : ℕ) → 0 ≤ j → j < 0 + l .lists → c ∈ membersBy l v (back j) j → ⊥
-        out j _ h m =
-            let k : j < l .lists = omega arith in
-            isIn-in c (joined s (l .lists)) e (one-joined s (l .lists) j c k (members j k c .0 m))
+    (λ c q. (
+      (λ m.
+          let r = joined-one s (l .lists) c m in
+          from-in l v back 0 (l .lists) idents c (r .0) (omega arith) (omega (arith, r .1)) (members (r .0) (r .1) c .1 (r .2))),
+      (λ o.
+          from-other l v back 0 (l .lists) idents c
+          (λ j _ h m. let k : j < l .lists = omega arith in o (one-joined s (l .lists) j c k (members j k c .0 m)))
+          ∙ same c q),
+    ))

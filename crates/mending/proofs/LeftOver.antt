@@ -16,8 +16,9 @@ use Rattle.lists.specs.Lists.{asked}
 use Rattle.lists.specs.Decide.{viewOf, countIn, used}
 use Rattle.lists.proofs.Decided.{is-used}
 use Rattle.recovery.specs.Fits.{wrong, Fits}
-use Rattle.recovery.specs.Plan.{joined, clears, fittingOf}
-use Rattle.recovery.proofs.Suffix.{joined-one}
+use Rattle.recovery.specs.Plan.{joined, clearsAsked, fittingOf}
+use Rattle.recovery.proofs.Required.{agrees-wrong}
+use Rattle.recovery.proofs.Joined.{joined-one}
 use Rattle.recovery.proofs.Disjoint.{fits-disjoint}
 use Rattle.recovery.proofs.Whole.{clear-none, fit-accepted}
 use Rattle.fitting.specs.declared.Faults.{Faults}
@@ -69,18 +70,18 @@ module _ (l : Layout) (w : List ℕ) (s : ℕ → List ℕ) (fits : (k : ℕ) �
       is-used (viewOf l w) (firstNode l) (l .nodes) x (n .low) (n .high) (carry (r .0) (r .1) x (r .2))
 
   -- so if no more nodes do, all others have identifier 0
-  none-else : length Members ≡ length Used → clears l w Members (firstNode l) (l .nodes) ≡ []
-  none-else e = clear-none l w Members (firstNode l) (l .nodes) (λ c p q o. by c p q o (ℕ-discrete (getD w (identAt l c) 0) 0))
+  none-else : length Members ≡ length Used → wrong w (clearsAsked l s) ≡ []
+  none-else e =
+      agrees-wrong w (clearsAsked l s) (clear-none l w s (λ c n o. by c n o (ℕ-discrete (getD w (identAt l c) 0) 0)))
     where
-      by : (c : ℕ) → firstNode l ≤ c → c < firstNode l + l .nodes → (c ∈ Members → ⊥) → Dec (getD w (identAt l c) 0 ≡ 0)
-          → getD w (identAt l c) 0 ≡ 0
-      by c p q o (yes z) = z
-      by c p q o (no z) =
+      by : (c : ℕ) → Node l c → (c ∈ Members → ⊥) → Dec (getD w (identAt l c) 0 ≡ 0) → getD w (identAt l c) 0 ≡ 0
+      by c n o (yes z) = z
+      by c n o (no z) =
           absurd (omega (
             arith,
             e,
             pigeonhole-less Members Used c (joined-different (l .lists) (omega arith)) member-used
-                (is-used (viewOf l w) (firstNode l) (l .nodes) c p q z) o,
+                (is-used (viewOf l w) (firstNode l) (l .nodes) c (n .low) (n .high) z) o,
           ))
 
 -- As it is told by the faults: no list is refused, all members carry an identifier, and they are as many as the nodes that do. Then
@@ -90,7 +91,7 @@ pub nothing-left : (l : Layout) (w : List ℕ)
     → ((k : ℕ) → k < l .lists → carries (viewOf l w .ident) (faultAt l (viewOf l w) (countIn w) k) ≡ true)
     → total (λ k. lengthBy (faultAt l (viewOf l w) (countIn w) k) (countIn w k)) (l .lists)
     ≡ length (used (viewOf l w) (firstNode l) (l .nodes))
-    → clears l w (joined (fittingOf l w) (l .lists)) (firstNode l) (l .nodes) ≡ []
+    → wrong w (clearsAsked l (fittingOf l w)) ≡ []
 nothing-left l w fitted carried number =
     none-else l w s fits
     (λ k h. members-carry (viewOf l w) k (countIn w k) (s k) (few k h)

@@ -14,11 +14,12 @@ use Rattle.stores.specs.Stores.{Write, refuse, stores, writesIn}
 use Rattle.layout.specs.declared.Layout.{Layout}
 use Rattle.layout.specs.Words.{firstNode}
 use Rattle.lists.specs.Lists.{asked}
-use Rattle.lists.specs.Decide.{View, viewOf, countIn, sequenceOf, used}
+use Rattle.lists.specs.Decide.{View, viewOf, countIn, used}
 use Rattle.survey.specs.Survey.{columns, Loaded}
 use Rattle.survey.proofs.Laws.{loaded-view, used-same}
-use Rattle.recovery.specs.Fits.{wrong, backwardOf}
-use Rattle.recovery.specs.Plan.{joined, clears, storesFrom, fittingOf, refusalFrom, recoverOf}
+use Rattle.recovery.specs.Fits.{wrong}
+use Rattle.recovery.specs.Plan.{joined, listsAsked, clearsAsked, fittingOf, refusalFrom, recoverOf}
+use Rattle.recovery.proofs.Required.{wrong-append}
 use Rattle.fitting.specs.declared.Fitted.{Fitted}
 use Rattle.fitting.specs.declared.Fitted.the-variants as G
 use Rattle.fitting.specs.Fitting.{fitIn, mendOf, numberOf, faultIn, isBackward, lengthBy, carries, membersBy}
@@ -45,28 +46,38 @@ refusal-told l w k (suc n) h =
     by (G.Forward f) e t i = rw (e, t .0) i
     by (G.Backward f) e t i = rw (e, t .0) i
 
--- the mends are the wrong words of the sequences that fit, and with the clears behind them they are all stores
-pub mends-told
-    : (l : Layout) (w : List ℕ) (k n : ℕ) → k + n ≤ l .lists → refusalIn l (viewOf l w) (countIn w) k n ≡ 0
-    → mendsIn l (viewOf l w) (countIn w) k n ++ clears l w (joined (fittingOf l w) (l .lists)) (firstNode l) (l .nodes)
-    ≡ storesFrom l w (fittingOf l w) k n
-unfolding refusalIn mendsIn storesFrom
-mends-told l w k zero h z = refl
-mends-told l w k (suc n) h z =
-    by (fitIn l (viewOf l w) k (countIn w k)) refl (fit-told l w k (omega arith)) (λ q. mends-told l w (suc k) n (omega arith) q)
+-- list j more at the end
+mends-more : (l : Layout) (v : View) (c : ℕ → ℕ) (k n j : ℕ) → k + n ≡ j
+    → mendsIn l v c k (suc n) ≡ mendsIn l v c k n ++ mendOf l (faultIn (fitIn l v j (c j)))
+unfolding mendsIn
+mends-more l v c k zero j e =
+    let q : k ≡ j = omega arith in
+    append-nil (mendOf l (faultIn (fitIn l v k (c k)))) ∙ ap (λ (i : ℕ). mendOf l (faultIn (fitIn l v i (c i)))) q
+mends-more l v c k (suc n) j e =
+    ap (λ (ps : List Write). mendOf l (faultIn (fitIn l v k (c k))) ++ ps) (mends-more l v c (suc k) n j (omega arith))
+    ∙ sym (append-assoc (mendOf l (faultIn (fitIn l v k (c k)))) (mendsIn l v c (suc k) n) (mendOf l (faultIn (fitIn l v j (c j)))))
+
+-- the mends are the wrong words of the sequences that fit
+mend-told
+    : (l : Layout) (w : List ℕ) (k : ℕ) → k < l .lists → numberOf (fitIn l (viewOf l w) k (countIn w k)) ≡ 0
+    → mendOf l (faultIn (fitIn l (viewOf l w) k (countIn w k))) ≡ wrong w (asked l k (fittingOf l w k))
+mend-told l w k h z = by (fitIn l (viewOf l w) k (countIn w k)) z (fit-told l w k h)
   where
-    by : (r : Fitted) → fitIn l (viewOf l w) k (countIn w k) ≡ r → Told l w k r
-        → (refusalIn l (viewOf l w) (countIn w) (suc k) n ≡ 0
-        → mendsIn l (viewOf l w) (countIn w) (suc k) n ++ clears l w (joined (fittingOf l w) (l .lists)) (firstNode l) (l .nodes)
-        ≡ storesFrom l w (fittingOf l w) (suc k) n)
-        → mendsIn l (viewOf l w) (countIn w) k (suc n) ++ clears l w (joined (fittingOf l w) (l .lists)) (firstNode l) (l .nodes)
-        ≡ storesFrom l w (fittingOf l w) k (suc n)
-    by G.Nothing e t i = absurd (omega (arith, rw e at z))
-    by G.Several e t i = absurd (omega (arith, rw e at z))
-    by (G.Forward f) e t i =
-        rw (e, append-assoc, t .0, t .1) (ap (λ (ps : List Write). wrong w (asked l k (sequenceOf l w k)) ++ ps) (i (rw e at z)))
-    by (G.Backward f) e t i =
-        rw (e, append-assoc, t .0, t .1) (ap (λ (ps : List Write). wrong w (asked l k (backwardOf l w k)) ++ ps) (i (rw e at z)))
+    by : (r : Fitted) → numberOf r ≡ 0 → Told l w k r → mendOf l (faultIn r) ≡ wrong w (asked l k (fittingOf l w k))
+    by G.Nothing z t = absurd (omega arith)
+    by G.Several z t = absurd (omega arith)
+    by (G.Forward f) z t = rw (t .0, t .1)
+    by (G.Backward f) z t = rw (t .0, t .1)
+
+mends-told
+    : (l : Layout) (w : List ℕ) → ((k : ℕ) → k < l .lists → numberOf (fitIn l (viewOf l w) k (countIn w k)) ≡ 0)
+    → (n : ℕ) → n ≤ l .lists → mendsIn l (viewOf l w) (countIn w) 0 n ≡ wrong w (joined (λ k. asked l k (fittingOf l w k)) n)
+unfolding mendsIn joined wrong
+mends-told l w z zero h = refl
+mends-told l w z (suc n) h =
+    mends-more l (viewOf l w) (countIn w) 0 n n (omega arith)
+    ∙ ap₂ _++_ (mends-told l w z n (omega arith)) (mend-told l w n (omega arith) (z n (omega arith)))
+    ∙ sym (wrong-append w (joined (λ k. asked l k (fittingOf l w k)) n) (asked l n (fittingOf l w n)))
 
 -- the counts of lists below L are all that matters
 refusal-counts : (l : Layout) (v : View) (c d : ℕ → ℕ) (k n : ℕ) → ((j : ℕ) → k ≤ j → j < k + n → c j ≡ d j)
@@ -126,17 +137,18 @@ module _ (l : Layout) (w idents forwards backs : List ℕ) (loaded : Loaded l w 
 
     -- the stores: the mends, and the clears ..
     abbrev Left : List Write
-    Left = clears l w (joined (fittingOf l w) (l .lists)) (firstNode l) (l .nodes)
+    Left = wrong w (clearsAsked l (fittingOf l w))
 
     stores-told : recoverOf l w ≡ stores (writesIn (m .rows) ++ Left)
     unfolding recoverOf
     stores-told =
         rw (eq-eqb _ _ (sym refusal ∙ z))
         (ap stores
+        (wrong-append w (listsAsked l (fittingOf l w)) (clearsAsked l (fittingOf l w))
+        ∙ ap (λ (ps : List Write). ps ++ Left)
         (sym
-        (ap (λ (ps : List Write). ps ++ Left)
-        (told-words .rows z .same ∙ mends-counts l v counts (countIn w) 0 (l .lists) (λ j p q. same j (omega arith)))
-        ∙ mends-told l w 0 (l .lists) (omega arith) none)))
+        (told-words .rows z .same ∙ mends-counts l v counts (countIn w) 0 (l .lists) (λ j p q. same j (omega arith))
+        ∙ mends-told l w fitted (l .lists) (omega arith)))))
 
     -- .. by what is left of the identifiers
     abbrev Clears : List Write

@@ -5,21 +5,23 @@ use mathlib.Core.Path.{_≡_, refl, ap, _∙_, sym, subst}
 use mathlib.Core.List.{List, [], _∷_, _++_}
 use mathlib.Core.Bool.{Bool, true, false, and-eq-true-iff, true≢false, false≢true}
 use mathlib.Core.Logic.{_⊎_, inl, inr, ⊎-elim}
+use native.Mathlib.Decide.{ℕ-discrete}
 use native.Mathlib.Omega.{arith}
 use lib.Dec.{eqb}
-use lib.ListN.{length, getD, length-append}
-use borrow.Author.Tests.{eq-eqb, ne-eqb, eqb-true, eqb-false, leb-true, leb-false}
+use lib.ListN.{length, getD}
+use borrow.Author.Tests.{eq-eqb, eqb-true, leb-true, leb-false}
 use Rattle.sequences.specs.Sequence.{All, Different, Step, steps, Forward, Backward, trail}
 use Rattle.sequences.proofs.Trail.{trail-inside, leads-trail, leads-different}
 use Rattle.sequences.proofs.Reversed.{all-reverse, backs-trail, backs-different}
-use Rattle.stores.specs.Stores.{Write, write}
+use Rattle.stores.specs.Stores.{write}
 use Rattle.layout.specs.declared.Layout.{Layout}
 use Rattle.layout.specs.Words.{Node, isNode, identOf, identAt, forwardAt, backAt}
-use Rattle.lists.specs.Lists.{asked, Agrees, identsAsked, forwardsAsked, backsAsked, countAsked}
+use Rattle.lists.specs.Lists.{asked, identsAsked, forwardsAsked, backsAsked, countAsked}
 use Rattle.lists.specs.Decide.{viewOf, countIn, sequenceOf}
 use Rattle.lists.proofs.Agree.{all-map, map-all}
 use Rattle.lists.proofs.Unique.{header-out, nodes-few, all-nodes, nodes-all}
 use Rattle.recovery.specs.Fits.{wrong, Fits, backwardOf, fewWrong, same, Fit, none, only, several, fitting, fitOf}
+use Rattle.recovery.proofs.Required.{Right, wrong-length, agrees-wrong, wrong-agrees}
 
 -- equality of sequences, decided
 pub same-yes : (s t : List ℕ) → same s t ≡ true → s ≡ t
@@ -43,42 +45,6 @@ sequence-dec s t = by (same s t) refl
     by true e = yes (same-yes s t e)
     by false e = no (λ q. true≢false (sym (same-refl s) ∙ ap (same s) q ∙ e))
 
--- a word that is right, or wrong
-pub wrong-right : (w : List ℕ) (p : Write) (ps : List Write) → getD w (p .at) 0 ≡ p .value → wrong w (p ∷ ps) ≡ wrong w ps
-unfolding wrong
-wrong-right w p ps e = rw (wrong, eq-eqb _ _ e)
-
-pub wrong-wrong : (w : List ℕ) (p : Write) (ps : List Write) → (getD w (p .at) 0 ≡ p .value → ⊥) → wrong w (p ∷ ps) ≡ p ∷ wrong w ps
-unfolding wrong
-wrong-wrong w p ps n = rw (wrong, ne-eqb _ _ n)
-
-pub wrong-append : (w : List ℕ) (ps qs : List Write) → wrong w (ps ++ qs) ≡ wrong w ps ++ wrong w qs
-unfolding wrong
-wrong-append w [] qs = refl
-wrong-append w (p ∷ ps) qs = by (eqb (getD w (p .at) 0) (p .value)) refl (wrong-append w ps qs)
-  where
-    by : (b : Bool) → eqb (getD w (p .at) 0) (p .value) ≡ b → wrong w (ps ++ qs) ≡ wrong w ps ++ wrong w qs
-        → wrong w (p ∷ ps ++ qs) ≡ wrong w (p ∷ ps) ++ wrong w qs
-    by true e h =
-        wrong-right w p (ps ++ qs) (eqb-true _ _ e) ∙ h ∙ ap (λ (t : List Write). t ++ wrong w qs) (sym (wrong-right w p ps (eqb-true _ _ e)))
-    by false e h =
-        wrong-wrong w p (ps ++ qs) (eqb-false _ _ e) ∙ ap (λ (t : List Write). p ∷ t) h
-        ∙ ap (λ (t : List Write). t ++ wrong w qs) (sym (wrong-wrong w p ps (eqb-false _ _ e)))
-
--- no word is wrong exactly if the words agree
-pub agrees-wrong : (w : List ℕ) (ps : List Write) → Agrees w ps → wrong w ps ≡ []
-unfolding wrong
-agrees-wrong w [] h = refl
-agrees-wrong w (p ∷ ps) h = wrong-right w p ps (h .0) ∙ agrees-wrong w ps (h .1)
-
-pub wrong-agrees : (w : List ℕ) (ps : List Write) → length (wrong w ps) ≡ 0 → Agrees w ps
-wrong-agrees w [] e = tt
-wrong-agrees w (p ∷ ps) e = by (λ q. wrong-agrees w ps q) (eqb (getD w (p .at) 0) (p .value)) refl
-  where
-    by : (length (wrong w ps) ≡ 0 → Agrees w ps) → (b : Bool) → eqb (getD w (p .at) 0) (p .value) ≡ b → Agrees w (p ∷ ps)
-    by below true q = (eqb-true _ _ q, below (sym (ap length (wrong-right w p ps (eqb-true _ _ q))) ∙ e))
-    by below false q = absurd (omega (arith, ap length (wrong-wrong w p ps (eqb-false _ _ q))))
-
 -- the four kinds of words that are asked, counted
 module _ (l : Layout) (w : List ℕ) (k : ℕ) (s : List ℕ) where
   pub wrong-parts
@@ -86,33 +52,27 @@ module _ (l : Layout) (w : List ℕ) (k : ℕ) (s : List ℕ) where
       ≡ length (wrong w (identsAsked l k s)) + (length (wrong w (forwardsAsked l k s)) + (length (wrong w (backsAsked l k s)) + length (wrong w (countAsked k s))))
   unfolding asked
   wrong-parts =
-      ap length (wrong-append w (identsAsked l k s) (forwardsAsked l k s ++ (backsAsked l k s ++ countAsked k s)))
-      ∙ length-append (wrong w (identsAsked l k s)) (wrong w (forwardsAsked l k s ++ (backsAsked l k s ++ countAsked k s)))
+      wrong-length w (identsAsked l k s) (forwardsAsked l k s ++ (backsAsked l k s ++ countAsked k s))
       ∙ ap (λ (n : ℕ). length (wrong w (identsAsked l k s)) + n)
-      (ap length (wrong-append w (forwardsAsked l k s) (backsAsked l k s ++ countAsked k s))
-      ∙ length-append (wrong w (forwardsAsked l k s)) (wrong w (backsAsked l k s ++ countAsked k s))
-      ∙ ap (λ (n : ℕ). length (wrong w (forwardsAsked l k s)) + n)
-      (ap length (wrong-append w (backsAsked l k s) (countAsked k s)) ∙ length-append (wrong w (backsAsked l k s)) (wrong w (countAsked k s))))
-
-  abbrev Right : Write → Type 0
-  Right p = getD w (p .at) 0 ≡ p .value
+      (wrong-length w (forwardsAsked l k s) (backsAsked l k s ++ countAsked k s)
+      ∙ ap (λ (n : ℕ). length (wrong w (forwardsAsked l k s)) + n) (wrong-length w (backsAsked l k s) (countAsked k s)))
 
   -- all links of a kind are right
   pub right-forward : length (wrong w (forwardsAsked l k s)) ≡ 0 → Forward (viewOf l w .forward) k s k
   right-forward e =
-      all-map Right (λ (p : Step). write (forwardAt l (p .source)) (p .target)) (steps k s k) (wrong-agrees w (forwardsAsked l k s) e)
+      all-map (Right w) (λ (p : Step). write (forwardAt l (p .source)) (p .target)) (steps k s k) (wrong-agrees w (forwardsAsked l k s) e)
 
   pub right-backward : length (wrong w (backsAsked l k s)) ≡ 0 → Backward (viewOf l w .back) k s k
   right-backward e =
-      all-map Right (λ (p : Step). write (backAt l (p .target)) (p .source)) (steps k s k) (wrong-agrees w (backsAsked l k s) e)
+      all-map (Right w) (λ (p : Step). write (backAt l (p .target)) (p .source)) (steps k s k) (wrong-agrees w (backsAsked l k s) e)
 
   pub forward-right : Forward (viewOf l w .forward) k s k → length (wrong w (forwardsAsked l k s)) ≡ 0
   forward-right h =
-      ap length (agrees-wrong w (forwardsAsked l k s) (map-all Right (λ (p : Step). write (forwardAt l (p .source)) (p .target)) (steps k s k) h))
+      ap length (agrees-wrong w (forwardsAsked l k s) (map-all (Right w) (λ (p : Step). write (forwardAt l (p .source)) (p .target)) (steps k s k) h))
 
   pub right-idents : length (wrong w (identsAsked l k s)) ≡ 0 → (getD w (identAt l k) 0 ≡ identOf k) × All (λ c. getD w (identAt l c) 0 ≡ identOf k) s
   right-idents e =
-      let r = all-map Right (λ c. write (identAt l c) (identOf k)) (k ∷ s) (wrong-agrees w (identsAsked l k s) e) in
+      let r = all-map (Right w) (λ c. write (identAt l c) (identOf k)) (k ∷ s) (wrong-agrees w (identsAsked l k s) e) in
       (r .0, r .1)
 
   pub right-count : length (wrong w (countAsked k s)) ≡ 0 → countIn w k ≡ length s
@@ -121,12 +81,8 @@ module _ (l : Layout) (w : List ℕ) (k : ℕ) (s : List ℕ) where
   -- with at most one wrong word, all forward links are right or all back links
   pub few-links
       : length (wrong w (asked l k s)) ≤ 1 → (length (wrong w (forwardsAsked l k s)) ≡ 0) ⊎ (length (wrong w (backsAsked l k s)) ≡ 0)
-  few-links h = by (eqb (length (wrong w (forwardsAsked l k s))) 0) refl
-    where
-      by : (b : Bool) → eqb (length (wrong w (forwardsAsked l k s))) 0 ≡ b
-          → (length (wrong w (forwardsAsked l k s)) ≡ 0) ⊎ (length (wrong w (backsAsked l k s)) ≡ 0)
-      by true q = inl (eqb-true _ _ q)
-      by false q = inr (omega (arith, wrong-parts, eqb-false (length (wrong w (forwardsAsked l k s))) 0 q))
+  few-links h =
+      elim (ℕ-discrete (length (wrong w (forwardsAsked l k s))) 0) [ yes e ↦ inl e | no n ↦ inr (omega (arith, wrong-parts, n)) ]
 
   -- so its members are different by themselves
   pub few-different : k < l .lists → All (Node l) s → length (wrong w (asked l k s)) ≤ 1 → Different s

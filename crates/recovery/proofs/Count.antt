@@ -1,181 +1,112 @@
--- No word is stored twice, and each store changes its word: the stores are as many as the words that differ in the end.
-use Prim.Native.Nat.{ℕ, zero, suc, _+_, _<_, _≤_}
-use mathlib.Core.Path.{_≡_, refl, ap, _∙_, sym, subst}
-use mathlib.Core.List.{List, [], _∷_, List·Memᴰ, List·Memᴰ·head, List·Memᴰ·tail}
-use mathlib.Core.Bool.{Bool, true, false}
-use mathlib.Core.Logic.{_⊎_, inl, inr}
+-- Where the stores of a plan go. No word is required twice, so the stores are as many as the words that differ in the end.
+use Prim.Native.Nat.{ℕ, zero, suc, _<_, _≤_}
+use mathlib.Core.Path.{_≡_, ap, _∙_, sym, subst}
+use mathlib.Core.List.{List, _∷_, map-id, List·Memᴰ, List·Memᴰ·head, List·Memᴰ·tail, List·Memᴰ·append-cases, Memᴰ·cast, Memᴰ·of-map}
+use mathlib.Core.Logic.{⊎-elim}
 use native.Mathlib.Decide.{ℕ-discrete}
 use native.Mathlib.Omega.{arith}
-use lib.Dec.{eqb}
-use lib.ListN.{length, getD, set, length-set}
-use lib.Seq.{getD-set-same}
-use borrow.Author.Tests.{eq-eqb, ne-eqb, eqb-false}
-use Rattle.sequences.specs.Sequence.{_∈_, All}
-use Rattle.sequences.proofs.Members.{all-in, all-append}
-use Rattle.stores.specs.Stores.{Write, store, run, Spares}
-use Rattle.stores.proofs.Laws.{run-out, length-run}
+use lib.ListN.{length, getD}
+use Rattle.sequences.specs.Sequence.{_∈_, All, Different}
+use Rattle.sequences.proofs.Members.{all-in, in-all, all-append}
+use Rattle.stores.specs.Stores.{Write, write, run}
 use Rattle.layout.specs.declared.Layout.{Layout}
-use Rattle.layout.specs.Words.{firstNode, Node, sizeOf, cellAt, cellWords, identAt}
-use Rattle.layout.proofs.Apart.{cells-apart, links-words}
+use Rattle.layout.specs.Words.{firstNode, Node, cellCount, sizeOf, identAt}
+use Rattle.layout.proofs.Apart.{cells-apart, links-words, word-fits}
 use Rattle.lists.specs.Lists.{asked}
 use Rattle.lists.proofs.Same.{ident-word}
-use Rattle.recovery.specs.Fits.{wrong}
-use Rattle.recovery.specs.Plan.{joined, isIn, clears, storesFrom, recoverStores, Accepted, differing, Kind, mend, clear}
+use Rattle.recovery.specs.Fits.{Fits}
+use Rattle.recovery.specs.Plan.{joined, nodesOut, listsAsked, clearsAsked, required, recoverStores, Accepted, differing, Kind, mend, clear}
 use Rattle.recovery.proofs.Disjoint.{fits-disjoint}
-use Rattle.recovery.proofs.Slots.{Slot, slot}
-use Rattle.recovery.proofs.Step.{wrong-in, mend-own}
-use Rattle.recovery.proofs.Suffix.{isIn-in, one-joined, clear-skip, clear-here, Next, next}
+use Rattle.recovery.proofs.Required.{wrong-in, in-wrong, Once, once-append, wrong-differs}
+use Rattle.recovery.proofs.Slots.{slot, ident-cell, cells-once, asked-once}
+use Rattle.recovery.proofs.Joined.{one-joined, joined-one, out-is, out-different}
 
-pub in-all-writes : (P : Write → Type 0) (ps : List Write) → ((p : Write) → List·Memᴰ p ps → P p) → All P ps
-in-all-writes P [] h = tt
-in-all-writes P (p ∷ ps) h = (h p (List·Memᴰ·head refl), in-all-writes P ps (λ q m. h q (List·Memᴰ·tail m)))
+-- the requirements, one by one: the words asked of a list, and the identifiers of nodes in none
+module _ (l : Layout) (s : ℕ → List ℕ) {p : Write} where
+  pub in-lists : List·Memᴰ p (listsAsked l s) → (k : ℕ) × (k < l .lists) × List·Memᴰ p (asked l k (s k))
+  in-lists = joined-one (λ k. asked l k (s k)) (l .lists) p
 
-module _ (l : Layout) (w : List ℕ) (s : ℕ → List ℕ) where
-  clear-kinds : (a n : ℕ) → firstNode l ≤ a → All (Kind l w s) (clears l w (joined s (l .lists)) a n)
-  unfolding clears
-  clear-kinds a zero h = tt
-  clear-kinds a (suc n) h = by (eqb (getD w (identAt l a) 0) 0) refl (isIn a (joined s (l .lists))) refl (clear-kinds (suc a) n (omega arith))
+  pub in-clears : List·Memᴰ p (clearsAsked l s) → (c : ℕ) × Node l c × (c ∈ joined s (l .lists) → ⊥) × (write (identAt l c) 0 ≡ p)
+  in-clears m =
+      let r = Memᴰ·of-map (λ c. write (identAt l c) 0) (nodesOut l s) m in
+      let o = out-is (joined s (l .lists)) (firstNode l) (l .nodes) (r .0) (r .1) in
+      (r .0, record { low = o .0; high = o .1 }, o .2, r .2)
+
+-- the stores of a plan
+pub plan-kinds : (l : Layout) (w : List ℕ) (s : ℕ → List ℕ) → All (Kind l w s) (recoverStores l w s)
+plan-kinds l w s =
+    in-all (Kind l w s) (recoverStores l w s)
+    (λ p m.
+    let r = wrong-in w (required l s) m in
+    ⊎-elim (λ t. let k = in-lists l s t in mend (k .0) (k .1) (in-wrong w (asked l (k .0) (s (k .0))) (k .2) (r .1)))
+    (λ t.
+    let c = in-clears l s t in
+    clear (c .0) (c .1 .low) (c .2) (λ z. r .1 (subst (λ (q : Write). getD w (q .at) 0 ≡ q .value) (c .3) z)) (sym (c .3)))
+    (List·Memᴰ·append-cases (listsAsked l s) (r .0)))
+
+module _ (l : Layout) (w : List ℕ) (s : ℕ → List ℕ) (fits : (k : ℕ) → k < l .lists → Fits l w k (s k)) where
+  -- a cell is of one list
+  one-list : (i k c : ℕ) → i < l .lists → k < l .lists → c ∈ (i ∷ s i) → c ∈ (k ∷ s k) → i ≡ k
+  one-list i k c hi hk m m′ = elim (ℕ-discrete i k) [ yes e ↦ e | no n ↦ by n m m′ ]
     where
-      by : (b : Bool) → eqb (getD w (identAt l a) 0) 0 ≡ b → (c : Bool) → isIn a (joined s (l .lists)) ≡ c
-          → All (Kind l w s) (clears l w (joined s (l .lists)) (suc a) n) → All (Kind l w s) (clears l w (joined s (l .lists)) a (suc n))
-      by true p c q r = subst (All (Kind l w s)) (sym (clear-skip l (joined s (l .lists)) w a n (rw p))) r
-      by false p true q r = subst (All (Kind l w s)) (sym (clear-skip l (joined s (l .lists)) w a n (rw (p, q)))) r
-      by false p false q r =
-          subst (All (Kind l w s)) (sym (clear-here l (joined s (l .lists)) w a n (rw (p, q))))
-          (clear a h (isIn-in a (joined s (l .lists)) q) (eqb-false _ _ p) refl, r)
+      by : (i ≡ k → ⊥) → c ∈ (i ∷ s i) → c ∈ (k ∷ s k) → i ≡ k
+      by n (List·Memᴰ·head e) (List·Memᴰ·head e′) = sym e ∙ e′
+      by n (List·Memᴰ·head e) (List·Memᴰ·tail q) = absurd (omega (arith, all-in (Node l) (s k) (fits k hk .nodes) q .low))
+      by n (List·Memᴰ·tail p) (List·Memᴰ·head e) = absurd (omega (arith, all-in (Node l) (s i) (fits i hi .nodes) p .low))
+      by n (List·Memᴰ·tail p) (List·Memᴰ·tail q) = absurd (fits-disjoint l w i k hi hk n (s i) (s k) c (fits i hi) (fits k hk) p q)
 
-  pub kinds : (k n : ℕ) → k + n ≤ l .lists → All (Kind l w s) (storesFrom l w s k n)
-  unfolding storesFrom
-  kinds k zero h = clear-kinds (firstNode l) (l .nodes) (omega arith)
-  kinds k (suc n) h =
-      all-append (Kind l w s) (wrong w (asked l k (s k))) (storesFrom l w s (suc k) n)
-      (in-all-writes (Kind l w s) (wrong w (asked l k (s k))) (λ p m. mend k (omega arith) m)) (kinds (suc k) n (omega arith))
+  lists-once : (n : ℕ) → n ≤ l .lists → Once (joined (λ k. asked l k (s k)) n)
+  unfolding joined
+  lists-once zero h = tt
+  lists-once (suc n) h =
+      once-append (joined (λ k. asked l k (s k)) n) (asked l n (s n)) (lists-once n (omega arith))
+      (asked-once l n (s n) (omega arith) (fits n (omega arith) .nodes) (fits n (omega arith) .different))
+      (λ p q m m′ e.
+      let i = joined-one (λ k. asked l k (s k)) n p m in
+      let x = slot l (i .0) (s (i .0)) (omega (arith, i .1)) (i .2) in
+      let y = slot l n (s n) (omega arith) m′ in
+      cells-apart l (x .cell) (y .cell) (x .word) (y .word)
+      (λ c. omega (arith, i .1, one-list (i .0) n (x .cell) (omega (arith, i .1)) (omega arith) (x .within) (Memᴰ·cast c (y .within))))
+      (x .fits) (y .fits) (sym (x .at) ∙ e ∙ y .at))
 
-  -- all stores of a plan
-  pub plan-kinds : All (Kind l w s) (recoverStores l w s)
-  plan-kinds = kinds 0 (l .lists) (omega arith)
+  -- a cell of a list is no node outside
+  member-out : (k c : ℕ) → k < l .lists → firstNode l ≤ c → (c ∈ joined s (l .lists) → ⊥) → c ∈ (k ∷ s k) → ⊥
+  member-out k c h low out (List·Memᴰ·head e) = omega arith
+  member-out k c h low out (List·Memᴰ·tail m) = out (one-joined s (l .lists) k c h m)
 
--- words of two cells of the lists, or of a list and of a node in none, are different words
-module _ (l : Layout) (x : List ℕ) (s : ℕ → List ℕ) (a : Accepted l x s) where
-  -- a store of the plan goes elsewhere than to a word that is right for its cell
-  elsewhere
-      : (c f v : ℕ) → f < cellWords l c → getD x (cellAt l c + f) 0 ≡ v
-      → ((k : ℕ) → k < l .lists → c ∈ (k ∷ s k) → (p : Write) → List·Memᴰ p (wrong x (asked l k (s k))) → ⊥)
-      → (c ∈ joined s (l .lists)) ⊎ ((c < firstNode l) ⊎ ((f ≡ 0) × (v ≡ 0)))
-      → (p : Write) → Kind l x s p → cellAt l c + f ≡ p .at → ⊥
-  elsewhere c f v h e none side p (mend k g m) q =
-      let y = slot l k (s k) g (wrong-in x (asked l k (s k)) m .0) in
-      by (ℕ-discrete c (y .cell)) y
+  -- no word is required twice
+  pub required-once : Once (required l s)
+  required-once =
+      once-append (listsAsked l s) (clearsAsked l s) (lists-once (l .lists) (omega arith))
+      (cells-once (identAt l) (ident-cell l) (λ c. c) (λ c. 0) (nodesOut l s)
+      (subst Different (sym (map-id (nodesOut l s))) (out-different (joined s (l .lists)) (firstNode l) (l .nodes))))
+      (λ p q m m′ e.
+      let i = in-lists l s m in
+      let x = slot l (i .0) (s (i .0)) (i .1) (i .2) in
+      let c = in-clears l s m′ in
+      cells-apart l (x .cell) (c .0) (x .word) 0 (λ z. member-out (i .0) (c .0) (i .1) (c .1 .low) (c .2) (Memᴰ·cast (sym z) (x .within)))
+      (x .fits) (links-words l (c .0) 0 (omega arith)) (sym (x .at) ∙ e ∙ ap (λ (r : Write). r .at) (sym (c .3)) ∙ ident-word l (c .0)))
+
+  -- and all are words of the store
+  pub required-inside : length w ≡ sizeOf l → All (λ (p : Write). p .at < length w) (required l s)
+  required-inside e =
+      all-append (λ (p : Write). p .at < length w) (listsAsked l s) (clearsAsked l s)
+      (in-all _ (listsAsked l s)
+      (λ p m.
+      let k = in-lists l s m in
+      let x = slot l (k .0) (s (k .0)) (k .1) (k .2) in
+      omega (arith, x .at, word-fits l (x .cell) (x .word) (cell (k .0) (k .1) (x .cell) (x .within)) (x .fits))))
+      (in-all _ (clearsAsked l s)
+      (λ p m.
+      let c = in-clears l s m in
+      omega (arith, ap (λ (r : Write). r .at) (c .3), ident-word l (c .0), word-fits l (c .0) 0 (c .1 .high) (links-words l (c .0) 0 (omega arith)))))
     where
-      by : Dec (c ≡ slot l k (s k) g (wrong-in x (asked l k (s k)) m .0) .cell) → Slot l k (s k) p → ⊥
-      by (yes z) y = none k g (subst (λ (d : ℕ). d ∈ (k ∷ s k)) (sym z) (slot l k (s k) g (wrong-in x (asked l k (s k)) m .0) .within)) p m
-      by (no n) y =
-          let t = slot l k (s k) g (wrong-in x (asked l k (s k)) m .0) in
-          cells-apart l c (t .cell) f (t .word) n h (t .fits) (q ∙ t .at)
-  elsewhere c f v h e none side p (clear d low out nz r) q = by (ℕ-discrete c d) side
-    where
-      at : cellAt l c + f ≡ cellAt l d + 0
-      at = q ∙ ap (λ (t : Write). t .at) r ∙ ident-word l d
-
-      by : Dec (c ≡ d) → (c ∈ joined s (l .lists)) ⊎ ((c < firstNode l) ⊎ ((f ≡ 0) × (v ≡ 0))) → ⊥
-      by (no n) z = cells-apart l c d f 0 n h (links-words l d 0 (omega arith)) at
-      by (yes z) (inl m) = out (subst (λ (t : ℕ). t ∈ joined s (l .lists)) z m)
-      by (yes z) (inr (inl g)) = omega arith
-      by (yes z) (inr (inr g)) =
-          nz (ap (λ (t : ℕ). getD x t 0) (sym (q ∙ ap (λ (t : Write). t .at) r)) ∙ e ∙ g .1)
-
--- a list with one wrong word at most: that one
-only-wrong : (w : List ℕ) (ps : List Write) (p : Write) → length (wrong w ps) ≤ 1 → List·Memᴰ p (wrong w ps) → wrong w ps ≡ p ∷ []
-only-wrong w ps p h m = by (wrong w ps) h m
-  where
-    by : (t : List Write) → length t ≤ 1 → List·Memᴰ p t → t ≡ p ∷ []
-    by [] g m = absurd (elim m [ ])
-    by (q ∷ []) g (List·Memᴰ·head e) = ap (λ (r : Write). r ∷ []) (sym e)
-    by (q ∷ []) g (List·Memᴰ·tail m) = absurd (elim m [ ])
-    by (q ∷ r ∷ t) g m = absurd (omega arith)
-
--- a cell of two fitting sequences is of one list
-one-list : (l : Layout) (w : List ℕ) (s : ℕ → List ℕ) → Accepted l w s → (i k c : ℕ) → i < l .lists → k < l .lists
-    → c ∈ (i ∷ s i) → c ∈ (k ∷ s k) → k ≡ i
-one-list l w s a i k c hi hk m m′ = by (ℕ-discrete k i) m m′
-  where
-    by : Dec (k ≡ i) → c ∈ (i ∷ s i) → c ∈ (k ∷ s k) → k ≡ i
-    by (yes e) p q = e
-    by (no n) (List·Memᴰ·head e) (List·Memᴰ·head e′) = sym e′ ∙ e
-    by (no n) (List·Memᴰ·head e) (List·Memᴰ·tail q) = absurd (omega (arith, all-in (Node l) (s k) (a .fits k hk .nodes) q .low))
-    by (no n) (List·Memᴰ·tail p) (List·Memᴰ·head e) = absurd (omega (arith, all-in (Node l) (s i) (a .fits i hi .nodes) p .low))
-    by (no n) (List·Memᴰ·tail p) (List·Memᴰ·tail q) =
-        absurd (fits-disjoint l w i k hi hk (λ e. n (sym e)) (s i) (s k) c (a .fits i hi) (a .fits k hk) p q)
-
-module _ (l : Layout) (w : List ℕ) (exact : length w ≡ sizeOf l) (s : ℕ → List ℕ) (a : Accepted l w s) where
-  -- the rest of the plan spares the word just stored
-  spare-rest : (p : Write) (rest : List Write) → Next l w s p rest → Kind l w s p → Spares (p .at) rest
-  spare-rest p rest n (mend i hi m) =
-      let e = only-wrong w (asked l i (s i)) p (a .fits i hi .few) m in
-      let y = slot l i (s i) hi (wrong-in w (asked l i (s i)) m .0) in
-      subst (Spares (p .at)) (n .left)
-      (in-all-writes (λ (q : Write). p .at ≡ q .at → ⊥) (recoverStores l (store w p) s)
-      (λ q t z.
-      elsewhere l (store w p) s (n .accepted) (y .cell) (y .word) (p .value) (y .fits)
-      (ap (λ (b : ℕ). getD (store w p) b 0) (sym (y .at)) ∙ getD-set-same w (p .at) (p .value) 0 (n .inside))
-      (λ k hk c r g.
-      nothing (subst (λ (ps : List Write). List·Memᴰ r ps)
-      (ap (λ (j : ℕ). wrong (store w p) (asked l j (s j))) (one-list l w s a i k (y .cell) hi hk (y .within) c)
-      ∙ mend-own l w exact s a i hi p e) g))
-      (side (y .cell) (y .within)) q (at-kind (recoverStores l (store w p) s) (plan-kinds l (store w p) s) t) (sym (y .at) ∙ z)))
-    where
-      nothing : {r : Write} → List·Memᴰ r [] → ⊥
-      nothing m = elim m [ ]
-
-      at-kind : (ps : List Write) → All (Kind l (store w p) s) ps → {q : Write} → List·Memᴰ q ps → Kind l (store w p) s q
-      at-kind (r ∷ ps) h (List·Memᴰ·head e) = subst (Kind l (store w p) s) (sym e) (h .0)
-      at-kind (r ∷ ps) h (List·Memᴰ·tail t) = at-kind ps (h .1) t
-
-      side : (c : ℕ) → c ∈ (i ∷ s i) → (c ∈ joined s (l .lists)) ⊎ ((c < firstNode l) ⊎ ((slot l i (s i) hi (wrong-in w (asked l i (s i)) m .0) .word ≡ 0) × (p .value ≡ 0)))
-      side c (List·Memᴰ·head e) = inr (inl (omega arith))
-      side c (List·Memᴰ·tail t) = inl (one-joined s (l .lists) i c hi t)
-  spare-rest p rest n (clear d low out nz r) =
-      subst (Spares (p .at)) (n .left)
-      (in-all-writes (λ (q : Write). p .at ≡ q .at → ⊥) (recoverStores l (store w p) s)
-      (λ q t z.
-      elsewhere l (store w p) s (n .accepted) d 0 0 (links-words l d 0 (omega arith))
-      (ap (λ (b : ℕ). getD (store w p) b 0) (sym (ap (λ (u : Write). u .at) r ∙ ident-word l d))
-      ∙ getD-set-same w (p .at) (p .value) 0 (n .inside) ∙ ap (λ (u : Write). u .value) r)
-      (λ k hk c g h. member-out k hk c)
-      (inr (inr (refl, refl))) q (at-kind (recoverStores l (store w p) s) (plan-kinds l (store w p) s) t)
-      (sym (ap (λ (u : Write). u .at) r ∙ ident-word l d) ∙ z)))
-    where
-      at-kind : (ps : List Write) → All (Kind l (store w p) s) ps → {q : Write} → List·Memᴰ q ps → Kind l (store w p) s q
-      at-kind (r ∷ ps) h (List·Memᴰ·head e) = subst (Kind l (store w p) s) (sym e) (h .0)
-      at-kind (r ∷ ps) h (List·Memᴰ·tail t) = at-kind ps (h .1) t
-
-      member-out : (k : ℕ) → k < l .lists → d ∈ (k ∷ s k) → ⊥
-      member-out k hk (List·Memᴰ·head e) = omega arith
-      member-out k hk (List·Memᴰ·tail t) = out (one-joined s (l .lists) k d hk t)
-
--- places that differ, counted
-differing-step : (w y : List ℕ) (b v : ℕ) → b < length w → length y ≡ length w → (getD w b 0 ≡ v → ⊥) → getD y b 0 ≡ v
-    → differing w y ≡ suc (differing (set w b v) y)
-unfolding differing
-differing-step [] y b v h e n q = absurd (omega arith)
-differing-step (c ∷ w) [] b v h e n q = absurd (omega arith)
-differing-step (c ∷ w) (d ∷ y) zero v h e n q = rw (ne-eqb c d (λ z. n (z ∙ q)), eq-eqb v d (sym q)) (omega arith)
-differing-step (c ∷ w) (d ∷ y) (suc b) v h e n q = rw (differing-step w y b v (omega arith) (omega arith) n q) (omega arith)
-
-differing-self : (w : List ℕ) → differing w w ≡ 0
-unfolding differing
-differing-self [] = refl
-differing-self (a ∷ w) = rw (eq-eqb a a refl, differing-self w)
+      cell : (k : ℕ) → k < l .lists → (c : ℕ) → c ∈ (k ∷ s k) → c < cellCount l
+      cell k h c (List·Memᴰ·head d) = omega arith
+      cell k h c (List·Memᴰ·tail m) = all-in (Node l) (s k) (fits k h .nodes) m .high
 
 -- the stores of a plan are as many as the words in which found and final store differ
 pub plan-differs : (l : Layout) (s : ℕ → List ℕ) (ps : List Write) (w : List ℕ) → length w ≡ sizeOf l → Accepted l w s → recoverStores l w s ≡ ps
     → differing w (run ps w) ≡ length ps
-unfolding run
-plan-differs l s [] w e a q = differing-self w
-plan-differs l s (p ∷ ps) w e a q =
-    let n = next l w e s a p ps q in
-    let x = store w p in
-    let k : Kind l w s p = subst (All (Kind l w s)) q (plan-kinds l w s) .0 in
-    differing-step w (run ps x) (p .at) (p .value) (n .inside) (length-run ps x ∙ length-set w (p .at) (p .value)) (n .changes)
-    (run-out ps x (p .at) (spare-rest l w e s a p ps n k) ∙ getD-set-same w (p .at) (p .value) 0 (n .inside))
-    ∙ ap suc (plan-differs l s ps x (length-set w (p .at) (p .value) ∙ e) (n .accepted) (n .left))
+plan-differs l s ps w e a q =
+    wrong-differs (required l s) (required-once l w s (a .fits)) ps w (required-inside l w s (a .fits) e) q

@@ -1,7 +1,8 @@
+pub mod Required
 pub mod Candidates
 pub mod Disjoint
 pub mod Slots
-pub mod Step
+pub mod Joined
+pub mod Count
 pub mod Suffix
 pub mod Whole
-pub mod Count

@@ -1,66 +1,44 @@
--- What is asked of a list goes to words of its cells, to each word one value.
+-- What is asked of a list goes to words of its cells, to each word once.
 use Prim.Native.Nat.{ℕ, _+_, _<_}
 use mathlib.Core.Path.{_≡_, refl, ap, _∙_, sym, subst}
-use mathlib.Core.List.{List, [], _∷_, _++_, map, List·Memᴰ, List·Memᴰ·head, List·Memᴰ·tail, List·Memᴰ·append-cases}
-use mathlib.Core.Logic.{_⊎_, ⊎-elim}
+use mathlib.Core.List.{List, [], _∷_, _++_, map, map-id, List·Memᴰ, List·Memᴰ·head, List·Memᴰ·append-cases, List·Memᴰ·eq-of-singleton, Memᴰ·cast, Memᴰ·map, Memᴰ·of-map}
+use mathlib.Core.Logic.{⊎-elim}
 use native.Mathlib.Decide.{ℕ-discrete}
 use native.Mathlib.Omega.{arith}
 use lib.ListN.{length}
-use Rattle.sequences.specs.Sequence.{_∈_, Different, Step, steps}
-use Rattle.sequences.proofs.Members.{in-front}
+use Rattle.sequences.specs.Sequence.{_∈_, All, Different, Step, steps}
+use Rattle.sequences.proofs.Members.{all-in, in-front, different-append, one-image}
 use Rattle.stores.specs.Stores.{Write, write}
 use Rattle.layout.specs.declared.Layout.{Layout}
-use Rattle.layout.specs.Words.{cellAt, cellWords, identAt, forwardAt, backAt, identOf}
+use Rattle.layout.specs.Words.{Node, cellAt, cellWords, identAt, forwardAt, backAt, identOf}
 use Rattle.layout.proofs.Apart.{words-apart, cells-apart, links-words, words-header}
 use Rattle.lists.specs.Lists.{asked, identsAsked, forwardsAsked, backsAsked, countAsked}
 use Rattle.lists.proofs.Same.{ident-word, count-word}
+use Rattle.recovery.proofs.Required.{Once, once-append}
 
--- a member of an image
-map-in {ℓ ℓ′} : {A : Type ℓ} {B : Type ℓ′} (f : A → B) (xs : List A) {y : B} → List·Memᴰ y (map f xs) → (x : A) × List·Memᴰ x xs × (y ≡ f x)
-map-in f (x ∷ xs) (List·Memᴰ·head e) = (x, List·Memᴰ·head refl, e)
-map-in f (x ∷ xs) (List·Memᴰ·tail m) = let r = map-in f xs m in (r .0, List·Memᴰ·tail (r .1), r .2)
-
--- where a step starts and ends
-pub step-source : (x : ℕ) (s : List ℕ) (z : ℕ) {t : Step} → List·Memᴰ t (steps x s z) → t .source ∈ (x ∷ s)
+-- where the steps of a path start and end
+sources : (x : ℕ) (s : List ℕ) (z : ℕ) → map (λ (t : Step). t .source) (steps x s z) ≡ x ∷ s
 unfolding steps
-step-source x [] z (List·Memᴰ·head e) = List·Memᴰ·head (ap (λ (t : Step). t .source) e)
-step-source x [] z (List·Memᴰ·tail m) = absurd (elim m [ ])
-step-source x (y ∷ s) z (List·Memᴰ·head e) = List·Memᴰ·head (ap (λ (t : Step). t .source) e)
-step-source x (y ∷ s) z (List·Memᴰ·tail m) = List·Memᴰ·tail (step-source y s z m)
+sources x [] z = refl
+sources x (y ∷ s) z = ap (λ (r : List ℕ). x ∷ r) (sources y s z)
+
+targets : (x : ℕ) (s : List ℕ) (z : ℕ) → map (λ (t : Step). t .target) (steps x s z) ≡ s ++ z ∷ []
+unfolding steps
+targets x [] z = refl
+targets x (y ∷ s) z = ap (λ (r : List ℕ). y ∷ r) (targets y s z)
+
+pub step-source : (x : ℕ) (s : List ℕ) (z : ℕ) {t : Step} → List·Memᴰ t (steps x s z) → t .source ∈ (x ∷ s)
+step-source x s z {t} m = subst (λ (r : List ℕ). t .source ∈ r) (sources x s z) (Memᴰ·map (λ (u : Step). u .source) m)
 
 pub step-target : (x : ℕ) (s : List ℕ) (z : ℕ) {t : Step} → List·Memᴰ t (steps x s z) → t .target ∈ (s ++ z ∷ [])
-unfolding steps
-step-target x [] z (List·Memᴰ·head e) = List·Memᴰ·head (ap (λ (t : Step). t .target) e)
-step-target x [] z (List·Memᴰ·tail m) = absurd (elim m [ ])
-step-target x (y ∷ s) z (List·Memᴰ·head e) = List·Memᴰ·head (ap (λ (t : Step). t .target) e)
-step-target x (y ∷ s) z (List·Memᴰ·tail m) = List·Memᴰ·tail (step-target y s z m)
+step-target x s z {t} m = subst (λ (r : List ℕ). t .target ∈ r) (targets x s z) (Memᴰ·map (λ (u : Step). u .target) m)
 
--- a cell is the source of one step, and the target of one
-pub one-target : (x : ℕ) (s : List ℕ) (z : ℕ) → Different (x ∷ s) → {t u : Step} → List·Memᴰ t (steps x s z) → List·Memᴰ u (steps x s z)
-    → t .source ≡ u .source → t .target ≡ u .target
-unfolding steps
-one-target x [] z d (List·Memᴰ·head e) (List·Memᴰ·head e′) q = ap (λ (t : Step). t .target) (e ∙ sym e′)
-one-target x [] z d (List·Memᴰ·head e) (List·Memᴰ·tail m) q = absurd (elim m [ ])
-one-target x [] z d (List·Memᴰ·tail m) m′ q = absurd (elim m [ ])
-one-target x (y ∷ s) z d (List·Memᴰ·head e) (List·Memᴰ·head e′) q = ap (λ (t : Step). t .target) (e ∙ sym e′)
-one-target x (y ∷ s) z d (List·Memᴰ·head e) (List·Memᴰ·tail m) q =
-    absurd (d .0 (subst (λ (c : ℕ). c ∈ (y ∷ s)) (sym q ∙ ap (λ (t : Step). t .source) e) (step-source y s z m)))
-one-target x (y ∷ s) z d (List·Memᴰ·tail m) (List·Memᴰ·head e) q =
-    absurd (d .0 (subst (λ (c : ℕ). c ∈ (y ∷ s)) (q ∙ ap (λ (t : Step). t .source) e) (step-source y s z m)))
-one-target x (y ∷ s) z d (List·Memᴰ·tail m) (List·Memᴰ·tail m′) q = one-target y s z (d .1) m m′ q
-
+-- a cell is the target of one step
 pub one-source : (x : ℕ) (s : List ℕ) (z : ℕ) → Different (s ++ z ∷ []) → {t u : Step} → List·Memᴰ t (steps x s z) → List·Memᴰ u (steps x s z)
     → t .target ≡ u .target → t .source ≡ u .source
-unfolding steps
-one-source x [] z d (List·Memᴰ·head e) (List·Memᴰ·head e′) q = ap (λ (t : Step). t .source) (e ∙ sym e′)
-one-source x [] z d (List·Memᴰ·head e) (List·Memᴰ·tail m) q = absurd (elim m [ ])
-one-source x [] z d (List·Memᴰ·tail m) m′ q = absurd (elim m [ ])
-one-source x (y ∷ s) z d (List·Memᴰ·head e) (List·Memᴰ·head e′) q = ap (λ (t : Step). t .source) (e ∙ sym e′)
-one-source x (y ∷ s) z d (List·Memᴰ·head e) (List·Memᴰ·tail m) q =
-    absurd (d .0 (subst (λ (c : ℕ). c ∈ (s ++ z ∷ [])) (sym q ∙ ap (λ (t : Step). t .target) e) (step-target y s z m)))
-one-source x (y ∷ s) z d (List·Memᴰ·tail m) (List·Memᴰ·head e) q =
-    absurd (d .0 (subst (λ (c : ℕ). c ∈ (s ++ z ∷ [])) (q ∙ ap (λ (t : Step). t .target) e) (step-target y s z m)))
-one-source x (y ∷ s) z d (List·Memᴰ·tail m) (List·Memᴰ·tail m′) q = one-source y s z (d .1) m m′ q
+one-source x s z d m m′ q =
+    ap (λ (t : Step). t .source)
+    (one-image (λ (t : Step). t .target) (steps x s z) (subst Different (sym (targets x s z)) d) m m′ q)
 
 -- the value that a list's sequence asks of word f of cell c
 pub data Value (k : ℕ) (s : List ℕ) : ℕ → ℕ → ℕ → Type 0 where
@@ -77,49 +55,86 @@ pub record Slot (l : Layout) (k : ℕ) (s : List ℕ) (p : Write) : Type 0 where
   pub at : p .at ≡ cellAt l cell + word
   pub value : Value k s cell word (p .value)
 
--- every store that is asked has its slot
-pub slot : (l : Layout) (k : ℕ) (s : List ℕ) → k < l .lists → {p : Write} → List·Memᴰ p (asked l k s) → Slot l k s p
-unfolding asked
-slot l k s h {p} m = ⊎-elim idents (λ m. ⊎-elim forwards (λ m. ⊎-elim backs counts (List·Memᴰ·append-cases (backsAsked l k s) m)) (List·Memᴰ·append-cases (forwardsAsked l k s) m)) (List·Memᴰ·append-cases (identsAsked l k s) m)
+-- a word is of one cell
+pub same-cell : (l : Layout) (c d f g : ℕ) → f < cellWords l c → g < cellWords l d → cellAt l c + f ≡ cellAt l d + g → c ≡ d
+same-cell l c d f g hf hg e = elim (ℕ-discrete c d) [ yes q ↦ q | no n ↦ absurd (cells-apart l c d f g n hf hg e) ]
+
+pub ident-cell : (l : Layout) (c d : ℕ) → identAt l c ≡ identAt l d → c ≡ d
+ident-cell l c d e =
+    same-cell l c d 0 0 (links-words l c 0 (omega arith)) (links-words l d 0 (omega arith)) (sym (ident-word l c) ∙ e ∙ ident-word l d)
+
+-- a word of each of some different cells
+pub cells-once {ℓ} : {A : Type ℓ} (at : ℕ → ℕ) → ((c d : ℕ) → at c ≡ at d → c ≡ d) → (cell value : A → ℕ) (xs : List A)
+    → Different (map cell xs) → Once (map (λ x. write (at (cell x)) (value x)) xs)
+cells-once at one cell value [] d = tt
+cells-once at one cell value (x ∷ xs) d = (
+  λ m.
+      let p = Memᴰ·of-map (λ (p : Write). p .at) (map (λ x. write (at (cell x)) (value x)) xs) m in
+      let y = Memᴰ·of-map (λ x. write (at (cell x)) (value x)) xs (p .1) in
+      d .0 (Memᴰ·cast (one (cell x) (cell (y .0)) (sym (p .2) ∙ ap (λ (p : Write). p .at) (sym (y .2)))) (Memᴰ·map cell (y .1))),
+  cells-once at one cell value xs (d .1),
+)
+
+-- the header and the members of a sequence of different nodes are different cells
+pub ring-cells : (l : Layout) (k : ℕ) (s : List ℕ) → k < l .lists → All (Node l) s → Different s → Different (k ∷ s) × Different (s ++ k ∷ [])
+ring-cells l k s h n d = (
+  (apart, d),
+  different-append s (k ∷ []) d ((λ m. elim m [ ]), tt) (λ x m m′. apart (Memᴰ·cast (sym (List·Memᴰ·eq-of-singleton m′)) m)),
+)
   where
-    idents : List·Memᴰ p (identsAsked l k s) → Slot l k s p
-    idents m =
-        let r = map-in (λ c. write (identAt l c) (identOf k)) (k ∷ s) m in
+    apart : k ∈ s → ⊥
+    apart m = omega (arith, all-in (Node l) s n m .low)
+
+-- every store that is asked has its slot: identifiers are word 0 of their cells, forwards word 1, backs word 2, the count word 3
+module _ (l : Layout) (k : ℕ) (s : List ℕ) (h : k < l .lists) where
+  abbrev SlotAt : ℕ → Write → Type 0
+  SlotAt f p = (x : Slot l k s p) × (x .word ≡ f)
+
+  ident-slot : {p : Write} → List·Memᴰ p (identsAsked l k s) → SlotAt 0 p
+  ident-slot m =
+      let r = Memᴰ·of-map (λ c. write (identAt l c) (identOf k)) (k ∷ s) m in (
         record {
           cell = r .0;
           word = 0;
           within = r .1;
           fits = links-words l (r .0) 0 (omega arith);
-          at = ap (λ (q : Write). q .at) (r .2) ∙ ident-word l (r .0);
-          value = ident refl (ap (λ (q : Write). q .value) (r .2));
-        }
+          at = ap (λ (q : Write). q .at) (sym (r .2)) ∙ ident-word l (r .0);
+          value = ident refl (ap (λ (q : Write). q .value) (sym (r .2)));
+        },
+        refl,
+      )
 
-    forwards : List·Memᴰ p (forwardsAsked l k s) → Slot l k s p
-    forwards m =
-        let r = map-in (λ (t : Step). write (forwardAt l (t .source)) (t .target)) (steps k s k) m in
+  forward-slot : {p : Write} → List·Memᴰ p (forwardsAsked l k s) → SlotAt 1 p
+  forward-slot m =
+      let r = Memᴰ·of-map (λ (t : Step). write (forwardAt l (t .source)) (t .target)) (steps k s k) m in (
         record {
           cell = r .0 .source;
           word = 1;
           within = step-source k s k (r .1);
           fits = links-words l (r .0 .source) 1 (omega arith);
-          at = ap (λ (q : Write). q .at) (r .2);
-          value = forward (r .0) refl (r .1) refl (ap (λ (q : Write). q .value) (r .2));
-        }
+          at = ap (λ (q : Write). q .at) (sym (r .2));
+          value = forward (r .0) refl (r .1) refl (ap (λ (q : Write). q .value) (sym (r .2)));
+        },
+        refl,
+      )
 
-    backs : List·Memᴰ p (backsAsked l k s) → Slot l k s p
-    backs m =
-        let r = map-in (λ (t : Step). write (backAt l (t .target)) (t .source)) (steps k s k) m in
+  back-slot : {p : Write} → List·Memᴰ p (backsAsked l k s) → SlotAt 2 p
+  back-slot m =
+      let r = Memᴰ·of-map (λ (t : Step). write (backAt l (t .target)) (t .source)) (steps k s k) m in (
         record {
           cell = r .0 .target;
           word = 2;
           within = in-front k s (step-target k s k (r .1));
           fits = links-words l (r .0 .target) 2 (omega arith);
-          at = ap (λ (q : Write). q .at) (r .2);
-          value = back (r .0) refl (r .1) refl (ap (λ (q : Write). q .value) (r .2));
-        }
+          at = ap (λ (q : Write). q .at) (sym (r .2));
+          value = back (r .0) refl (r .1) refl (ap (λ (q : Write). q .value) (sym (r .2)));
+        },
+        refl,
+      )
 
-    counts : List·Memᴰ p (countAsked k s) → Slot l k s p
-    counts (List·Memᴰ·head e) =
+  count-slot : {p : Write} → List·Memᴰ p (countAsked k s) → SlotAt 3 p
+  count-slot m =
+      let e = List·Memᴰ·eq-of-singleton m in (
         record {
           cell = k;
           word = 3;
@@ -127,38 +142,57 @@ slot l k s h {p} m = ⊎-elim idents (λ m. ⊎-elim forwards (λ m. ⊎-elim ba
           fits = omega (arith, words-header l k h);
           at = ap (λ (q : Write). q .at) e ∙ count-word l k h;
           value = count refl refl (ap (λ (q : Write). q .value) e);
-        }
-    counts (List·Memᴰ·tail m) = absurd (elim m [ ])
+        },
+        refl,
+      )
 
--- one word, one value
-one-value : (k : ℕ) (s : List ℕ) → Different (k ∷ s) → Different (s ++ k ∷ []) → (c d f g u v : ℕ) → c ≡ d → f ≡ g
-    → Value k s c f u → Value k s d g v → u ≡ v
-one-value k s a b c d f g u v e q (ident x y) (ident x′ y′) = y ∙ sym y′
-one-value k s a b c d f g u v e q (ident x y) (forward t x′ m y′ z′) = absurd (omega arith)
-one-value k s a b c d f g u v e q (ident x y) (back t x′ m y′ z′) = absurd (omega arith)
-one-value k s a b c d f g u v e q (ident x y) (count o′ x′ y′) = absurd (omega arith)
-one-value k s a b c d f g u v e q (forward t x m y z) (ident x′ y′) = absurd (omega arith)
-one-value k s a b c d f g u v e q (forward t x m y z) (forward t′ x′ m′ y′ z′) = z ∙ one-target k s k a m m′ (sym y ∙ e ∙ y′) ∙ sym z′
-one-value k s a b c d f g u v e q (forward t x m y z) (back t′ x′ m′ y′ z′) = absurd (omega arith)
-one-value k s a b c d f g u v e q (forward t x m y z) (count o′ x′ y′) = absurd (omega arith)
-one-value k s a b c d f g u v e q (back t x m y z) (ident x′ y′) = absurd (omega arith)
-one-value k s a b c d f g u v e q (back t x m y z) (forward t′ x′ m′ y′ z′) = absurd (omega arith)
-one-value k s a b c d f g u v e q (back t x m y z) (back t′ x′ m′ y′ z′) = z ∙ one-source k s k b m m′ (sym y ∙ e ∙ y′) ∙ sym z′
-one-value k s a b c d f g u v e q (back t x m y z) (count o′ x′ y′) = absurd (omega arith)
-one-value k s a b c d f g u v e q (count o x y) (ident x′ y′) = absurd (omega arith)
-one-value k s a b c d f g u v e q (count o x y) (forward t x′ m y′ z′) = absurd (omega arith)
-one-value k s a b c d f g u v e q (count o x y) (back t x′ m y′ z′) = absurd (omega arith)
-one-value k s a b c d f g u v e q (count o x y) (count o′ x′ y′) = y ∙ sym y′
+  pub slot : {p : Write} → List·Memᴰ p (asked l k s) → Slot l k s p
+  unfolding asked
+  slot m =
+      ⊎-elim (λ m. ident-slot m .0)
+      (λ m.
+      ⊎-elim (λ m. forward-slot m .0) (λ m. ⊎-elim (λ m. back-slot m .0) (λ m. count-slot m .0) (List·Memᴰ·append-cases (backsAsked l k s) m))
+      (List·Memᴰ·append-cases (forwardsAsked l k s) m))
+      (List·Memᴰ·append-cases (identsAsked l k s) m)
 
-pub slots-agree
-    : (l : Layout) (k : ℕ) (s : List ℕ) → Different (k ∷ s) → Different (s ++ k ∷ []) → {p q : Write} → Slot l k s p → Slot l k s q
-    → p .at ≡ q .at → p .value ≡ q .value
-slots-agree l k s a b {p} {q} x y e = by (ℕ-discrete (x .cell) (y .cell)) (ℕ-discrete (x .word) (y .word))
-  where
-    at : cellAt l (x .cell) + x .word ≡ cellAt l (y .cell) + y .word
-    at = sym (x .at) ∙ e ∙ y .at
+  -- so no word is asked for twice
+  apart : (f g : ℕ) (p q : Write) → (f ≡ g → ⊥) → SlotAt f p → SlotAt g q → p .at ≡ q .at → ⊥
+  apart f g p q n x y e =
+      words-apart l (x .0 .cell) (y .0 .cell) (x .0 .word) (y .0 .word) (λ _ z. n (sym (x .1) ∙ z ∙ y .1)) (x .0 .fits) (y .0 .fits)
+      (sym (x .0 .at) ∙ e ∙ y .0 .at)
 
-    by : Dec (x .cell ≡ y .cell) → Dec (x .word ≡ y .word) → p .value ≡ q .value
-    by (yes c) (yes f) = one-value k s a b (x .cell) (y .cell) (x .word) (y .word) (p .value) (q .value) c f (x .value) (y .value)
-    by (yes c) (no f) = absurd (words-apart l (x .cell) (y .cell) (x .word) (y .word) (λ _ g. f g) (x .fits) (y .fits) at)
-    by (no c) f = absurd (cells-apart l (x .cell) (y .cell) (x .word) (y .word) c (x .fits) (y .fits) at)
+  pub asked-once : All (Node l) s → Different s → Once (asked l k s)
+  unfolding asked
+  asked-once n d =
+      once-append (identsAsked l k s) (forwardsAsked l k s ++ (backsAsked l k s ++ countAsked k s)) idents
+      (once-append (forwardsAsked l k s) (backsAsked l k s ++ countAsked k s) forwards
+      (once-append (backsAsked l k s) (countAsked k s) backs ((λ m. elim m [ ]), tt)
+      (λ p q x y. apart 2 3 p q (λ z. omega arith) (back-slot x) (count-slot y)))
+      (λ p q x y.
+      ⊎-elim (λ y. apart 1 2 p q (λ z. omega arith) (forward-slot x) (back-slot y))
+      (λ y. apart 1 3 p q (λ z. omega arith) (forward-slot x) (count-slot y)) (List·Memᴰ·append-cases (backsAsked l k s) y)))
+      (λ p q x y.
+      ⊎-elim (λ y. apart 0 1 p q (λ z. omega arith) (ident-slot x) (forward-slot y))
+      (λ y.
+      ⊎-elim (λ y. apart 0 2 p q (λ z. omega arith) (ident-slot x) (back-slot y))
+      (λ y. apart 0 3 p q (λ z. omega arith) (ident-slot x) (count-slot y)) (List·Memᴰ·append-cases (backsAsked l k s) y))
+      (List·Memᴰ·append-cases (forwardsAsked l k s) y))
+    where
+      cells : Different (k ∷ s) × Different (s ++ k ∷ [])
+      cells = ring-cells l k s h n d
+
+      at-link : (f : ℕ) → f < 3 → (c d : ℕ) → cellAt l c + f ≡ cellAt l d + f → c ≡ d
+      at-link f g c d = same-cell l c d f f (links-words l c f g) (links-words l d f g)
+
+      idents : Once (identsAsked l k s)
+      idents = cells-once (identAt l) (ident-cell l) (λ c. c) (λ c. identOf k) (k ∷ s) (subst Different (sym (map-id (k ∷ s))) (cells .0))
+
+      forwards : Once (forwardsAsked l k s)
+      forwards =
+          cells-once (forwardAt l) (at-link 1 (omega arith)) (λ (t : Step). t .source) (λ (t : Step). t .target) (steps k s k)
+          (subst Different (sym (sources k s k)) (cells .0))
+
+      backs : Once (backsAsked l k s)
+      backs =
+          cells-once (backAt l) (at-link 2 (omega arith)) (λ (t : Step). t .target) (λ (t : Step). t .source) (steps k s k)
+          (subst Different (sym (targets k s k)) (cells .1))

@@ -1,8 +1,8 @@
 -- What recovery stores.
 use Prim.Native.Nat.{ℕ, zero, suc, _+_, _<_, _≤_}
 use mathlib.Core.Path.{_≡_}
-use mathlib.Core.List.{List, [], _∷_, _++_, List·Memᴰ}
-use mathlib.Core.Bool.{Bool, false, _||_, cond}
+use mathlib.Core.List.{List, [], _∷_, _++_, map, List·Memᴰ}
+use mathlib.Core.Bool.{Bool, true, false, _||_, cond}
 use lib.Dec.{eqb}
 use lib.ListN.{getD}
 use Rattle.sequences.specs.Sequence.{_∈_}
@@ -12,8 +12,8 @@ use Rattle.layout.specs.Words.{firstNode, identAt, opened, afterOpen, ask}
 use Rattle.lists.specs.Lists.{asked}
 use Rattle.recovery.specs.Fits.{wrong, Fit, none, only, several, fitOf, Fits}
 
--- the members of the sequences below n
-unfoldable pub joined : (ℕ → List ℕ) → ℕ → List ℕ
+-- the sequences below n, one behind the other
+unfoldable pub joined {ℓ} : {A : Type ℓ} → (ℕ → List A) → ℕ → List A
 joined s zero = []
 joined s (suc n) = joined s n ++ s n
 
@@ -21,20 +21,30 @@ unfoldable pub isIn : ℕ → List ℕ → Bool
 isIn x [] = false
 isIn x (y ∷ s) = eqb x y || isIn x s
 
--- "then writes 0 to every nonzero identifier of a node in no fitting sequence, lowest cell first": of the n cells from a on
-unfoldable pub clears : Layout → List ℕ → List ℕ → ℕ → ℕ → List Write
-clears l w members a zero = []
-clears l w members a (suc n) =
-    cond (eqb (getD w (identAt l a) 0) 0 || isIn a members) (clears l w members (suc a) n)
-    (write (identAt l a) 0 ∷ clears l w members (suc a) n)
+-- of the n cells from a on, those that are no members
+unfoldable pub outOf : List ℕ → ℕ → ℕ → List ℕ
+outOf members a zero = []
+outOf members a (suc n) = elim (isIn a members) [ true ↦ outOf members (suc a) n | false ↦ a ∷ outOf members (suc a) n ]
 
--- "recovery stores the differing words, list 0 first": of the n lists from k on, with these sequences, and then the clears
-unfoldable pub storesFrom : Layout → List ℕ → (ℕ → List ℕ) → ℕ → ℕ → List Write
-storesFrom l w s k zero = clears l w (joined s (l .lists)) (firstNode l) (l .nodes)
-storesFrom l w s k (suc n) = wrong w (asked l k (s k)) ++ storesFrom l w s (suc k) n
+-- the nodes in no sequence, lowest cell first
+abbrev pub nodesOut : Layout → (ℕ → List ℕ) → List ℕ
+nodesOut l s = outOf (joined s (l .lists)) (firstNode l) (l .nodes)
 
+-- What recovery requires of the words with these sequences, as the stores that would make it so: no word is required twice.
+-- "recovery stores the differing words, list 0 first,
+abbrev pub listsAsked : Layout → (ℕ → List ℕ) → List Write
+listsAsked l s = joined (λ k. asked l k (s k)) (l .lists)
+
+-- then writes 0 to every nonzero identifier of a node in no fitting sequence, lowest cell first."
+abbrev pub clearsAsked : Layout → (ℕ → List ℕ) → List Write
+clearsAsked l s = map (λ c. write (identAt l c) 0) (nodesOut l s)
+
+abbrev pub required : Layout → (ℕ → List ℕ) → List Write
+required l s = listsAsked l s ++ clearsAsked l s
+
+-- "Words already right aren't stored"
 abbrev pub recoverStores : Layout → List ℕ → (ℕ → List ℕ) → List Write
-recoverStores l w s = storesFrom l w s 0 (l .lists)
+recoverStores l w s = wrong w (required l s)
 
 -- "If for every list exactly one sequence fits": that sequence
 abbrev pub onlyOf : Fit → List ℕ

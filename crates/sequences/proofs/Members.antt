@@ -1,7 +1,7 @@
 -- Laws of membership, of `All` and of `Different`.
 use Prim.Native.Nat.{ℕ, zero, suc, _+_, _<_}
-use mathlib.Core.Path.{_≡_, refl, sym, subst}
-use mathlib.Core.List.{List, [], _∷_, _++_, List·Memᴰ, List·Memᴰ·head, List·Memᴰ·tail, List·Memᴰ·append-cases, List·Memᴰ·eq-of-singleton, Memᴰ·append-left, Memᴰ·append-right}
+use mathlib.Core.Path.{_≡_, refl, ap, _∙_, sym, subst}
+use mathlib.Core.List.{List, [], _∷_, _++_, map, List·Memᴰ, List·Memᴰ·head, List·Memᴰ·tail, List·Memᴰ·append-cases, List·Memᴰ·eq-of-singleton, Memᴰ·append-left, Memᴰ·append-right, Memᴰ·cast, Memᴰ·map}
 use mathlib.Core.Logic.{_⊎_, inl, inr, ⊎-elim}
 use native.Mathlib.Decide.{ℕ-discrete}
 use native.Mathlib.Omega.{arith}
@@ -13,10 +13,10 @@ pub all-at {ℓ} : {A : Type ℓ} (P : A → Type 0) (s : List A) {x : A} → Al
 all-at P (y ∷ s) h (List·Memᴰ·head e) = (y, e, h .0)
 all-at P (y ∷ s) h (List·Memᴰ·tail m) = all-at P s (h .1) m
 
-pub all-in : (P : ℕ → Type 0) (s : List ℕ) {x : ℕ} → All P s → x ∈ s → P x
+pub all-in {ℓ} : {A : Type ℓ} (P : A → Type 0) (s : List A) {x : A} → All P s → List·Memᴰ x s → P x
 all-in P s h m = let r = all-at P s h m in subst P (sym (r .1)) (r .2)
 
-pub in-all : (P : ℕ → Type 0) (s : List ℕ) → ((x : ℕ) → x ∈ s → P x) → All P s
+pub in-all {ℓ} : {A : Type ℓ} (P : A → Type 0) (s : List A) → ((x : A) → List·Memᴰ x s → P x) → All P s
 in-all P [] h = tt
 in-all P (x ∷ s) h = (h x (List·Memᴰ·head refl), in-all P s (λ y m. h y (List·Memᴰ·tail m)))
 
@@ -70,6 +70,13 @@ different-append (x ∷ s) t ds dt h = (
   λ m. ⊎-elim (ds .0) (h x (List·Memᴰ·head refl)) (List·Memᴰ·append-cases s m),
   different-append s t (ds .1) dt (λ y m. h y (List·Memᴰ·tail m)),
 )
+
+-- where the images are different, an image is of one member
+pub one-image {ℓ} : {A : Type ℓ} (f : A → ℕ) (s : List A) → Different (map f s) → {x y : A} → List·Memᴰ x s → List·Memᴰ y s → f x ≡ f y → x ≡ y
+one-image f (z ∷ s) d (List·Memᴰ·head e) (List·Memᴰ·head e′) q = e ∙ sym e′
+one-image f (z ∷ s) d (List·Memᴰ·head e) (List·Memᴰ·tail m) q = absurd (d .0 (Memᴰ·cast (ap f (sym e) ∙ q) (Memᴰ·map f m)))
+one-image f (z ∷ s) d (List·Memᴰ·tail m) (List·Memᴰ·head e) q = absurd (d .0 (Memᴰ·cast (ap f (sym e) ∙ sym q) (Memᴰ·map f m)))
+one-image f (z ∷ s) d (List·Memᴰ·tail m) (List·Memᴰ·tail m′) q = one-image f s (d .1) m m′ q
 
 -- a cell in front of a sequence or behind it
 pub in-front : (k : ℕ) (s : List ℕ) {x : ℕ} → x ∈ (s ++ k ∷ []) → x ∈ (k ∷ s)

@@ -1,8 +1,8 @@
 -- Laws of runs of stores.
 use Prim.Native.Nat.{ℕ, suc, zero, _+_, _-_, _≤_, _<_}
 use mathlib.Core.Path.{_≡_, refl, ap, ap₂, _∙_, sym, subst}
-use mathlib.Core.List.{List, [], _∷_, _++_, append-nil}
-use mathlib.Core.Logic.{_⊎_, inl, inr}
+use mathlib.Core.List.{List, [], _∷_, _++_, append-nil, List·Memᴰ, List·Memᴰ·head, List·Memᴰ·tail}
+use mathlib.Core.Logic.{_⊎_, inl, inr, ⊎-elim}
 use mathlib.Core.Bool.{Bool, true, false, cond}
 use native.Mathlib.Decide.{ℕ-discrete, decLt}
 use native.Mathlib.Omega.{arith}
@@ -13,7 +13,7 @@ use lib.ListN.{length, getD, set, take, drop, length-set, length-append, take-ap
 use lib.Seq.{take-suc, take-all, take-take, take-suc-set, length-take-le, set-out, getD-set-same, getD-set-other}
 use borrow.Author.Tests.{lt-ltb, le-ltb, ltb-true, ltb-false}
 use Rattle.sequences.specs.Sequence.{All}
-use Rattle.sequences.proofs.Members.{all-append, all-nth}
+use Rattle.sequences.proofs.Members.{all-in, all-append, all-nth}
 use Rattle.stores.specs.declared.Answer.the-variants as A
 use Rattle.stores.specs.declared.Rows.{Rows}
 use Rattle.stores.specs.Stores.{Write, write, store, run, applied, Spares, Plan, refuse, stores, answerOf, answerNumber, answerStores, planNumber, madeBy, writesOf, inRow, noRows, Planned, Held}
@@ -99,24 +99,32 @@ run-in ps p qs w h n =
     ∙ run-out qs (store (run ps w) p) (p .at) n
     ∙ getD-set-same (run ps w) (p .at) (p .value) 0 (subst (λ (n : ℕ). p .at < n) (sym (length-run ps w)) h)
 
--- a word that stores go to with one value only has that value or the one it had
+-- a word is as before, or has the value of a store that goes to it
+pub run-word : (ps : List Write) (w : List ℕ) (a : ℕ)
+    → (getD (run ps w) a 0 ≡ getD w a 0) ⊎ ((p : Write) × List·Memᴰ p ps × (p .at ≡ a) × (getD (run ps w) a 0 ≡ p .value))
+unfolding run
+run-word [] w a = inl refl
+run-word (p ∷ ps) w a =
+    ⊎-elim here (λ r. inr (r .0, List·Memᴰ·tail (r .1), r .2, r .3)) (run-word ps (store w p) a)
+  where
+    x : List ℕ
+    x = run ps (store w p)
+
+    here : getD x a 0 ≡ getD (store w p) a 0 → (getD x a 0 ≡ getD w a 0) ⊎ ((q : Write) × List·Memᴰ q (p ∷ ps) × (q .at ≡ a) × (getD x a 0 ≡ q .value))
+    here e = by (ℕ-discrete (p .at) a) (decLt (p .at) (length w))
+      where
+        by : Dec (p .at ≡ a) → Dec (p .at < length w)
+            → (getD x a 0 ≡ getD w a 0) ⊎ ((q : Write) × List·Memᴰ q (p ∷ ps) × (q .at ≡ a) × (getD x a 0 ≡ q .value))
+        by (no n) i = inl (e ∙ getD-set-other w (p .at) a (p .value) 0 (λ q. n (sym q)))
+        by (yes q) (no i) = inl (e ∙ ap (λ (y : List ℕ). getD y a 0) (set-out w (p .at) (p .value) (omega arith)))
+        by (yes q) (yes i) =
+            inr (p, List·Memᴰ·head refl, q, e ∙ ap (λ (n : ℕ). getD (store w p) n 0) (sym q) ∙ getD-set-same w (p .at) (p .value) 0 i)
+
+-- so one that stores go to with one value only has that value or the one it had
 pub run-either : (ps : List Write) (w : List ℕ) (a v : ℕ) → All (λ (p : Write). a ≡ p .at → p .value ≡ v) ps
     → (getD (run ps w) a 0 ≡ getD w a 0) ⊎ (getD (run ps w) a 0 ≡ v)
-unfolding run
-run-either [] w a v h = inl refl
-run-either (p ∷ ps) w a v h = by (ℕ-discrete a (p .at)) (run-either ps (store w p) a v (h .1))
-  where
-    by : Dec (a ≡ p .at) → (getD (run ps (store w p)) a 0 ≡ getD (store w p) a 0) ⊎ (getD (run ps (store w p)) a 0 ≡ v)
-        → (getD (run ps (store w p)) a 0 ≡ getD w a 0) ⊎ (getD (run ps (store w p)) a 0 ≡ v)
-    by (no n) (inl e) = inl (e ∙ getD-set-other w (p .at) a (p .value) 0 n)
-    by (no n) (inr e) = inr e
-    by (yes q) (inr e) = inr e
-    by (yes q) (inl e) = inside (decLt (p .at) (length w)) e
-      where
-        inside : Dec (p .at < length w) → getD (run ps (store w p)) a 0 ≡ getD (store w p) a 0
-            → (getD (run ps (store w p)) a 0 ≡ getD w a 0) ⊎ (getD (run ps (store w p)) a 0 ≡ v)
-        inside (yes i) e = inr (e ∙ ap (λ (n : ℕ). getD (store w p) n 0) q ∙ getD-set-same w (p .at) (p .value) 0 i ∙ h .0 q)
-        inside (no i) e = inl (e ∙ ap (λ (x : List ℕ). getD x a 0) (set-out w (p .at) (p .value) (omega arith)))
+run-either ps w a v h =
+    ⊎-elim inl (λ r. inr (r .3 ∙ all-in (λ (p : Write). a ≡ p .at → p .value ≡ v) ps h (r .1) (sym (r .2)))) (run-word ps w a)
 
 -- stores in a row of addresses
 pub row-spares : (a b : ℕ) (vs : List ℕ) → ((j : ℕ) → j < length vs → a ≡ b + j → ⊥) → Spares a (inRow b vs)

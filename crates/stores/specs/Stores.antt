@@ -61,6 +61,12 @@ answerStores (A.Done n) = n
 answerStores (A.Stopped n) = n
 answerStores (A.Refused n) = 0
 
+-- the answer to a call that made n stores before those answered here
+abbrev pub more : ℕ → Answer → Answer
+more n (A.Done k) = A.Done (n + k)
+more n (A.Stopped k) = A.Stopped (n + k)
+more n (A.Refused k) = A.Refused k
+
 -- the number of a plan's refusal, 0 for none, and its stores that an allowance lets through
 abbrev pub planNumber : Plan → ℕ
 planNumber (refuse n) = n
