@@ -10,7 +10,7 @@ ghost use Prim.Native.Nat.{_+_, _≤_};
 ghost use lib.ListN.{length, take};
 ghost use Rattle.stores.specs.Stores.{answerOf};
 ghost use Rattle.byte_form.specs.Bytes.{wordsIn, bytesAfter};
-ghost use Rattle.layout.specs.Words.{Laid};
+ghost use Rattle.layout.specs.Words.{mostWidth, Laid};
 ghost use Rattle.recovery.specs.Plan.{recoverPlan};
 ghost use Rattle.axle_store.specs.Calls.{insertPlan, deletePlan};
 ghost use Rattle.axle.specs.Interface.{recordWords, codeOf, checkCode, lengthCode, formatPlan, wholeCode, wholeBytes, byteFormat, byteInsert, byteDelete, byteRecover};
@@ -105,11 +105,11 @@ fn record_size(rec: &[u8]) -> usize
 }
 
 // The words of a record of n words, at the front.
-fn record_of(rec: &[u8], n: usize) -> [u16; 13]
-    requires { ⌜ (n ≡ length (recordWords (now rec))) × (n ≤ 13) ⌝ }
-    ensures { λ r. ⌜ (13 ≡ length r) × (take n r ≡ recordWords (now (rec .entry))) ⌝ }
+fn record_of(rec: &[u8], n: usize) -> [u16; Layout::MAX_WIDTH]
+    requires { ⌜ (n ≡ length (recordWords (now rec))) × (n ≤ mostWidth) ⌝ }
+    ensures { λ r. ⌜ (mostWidth ≡ length r) × (take n r ≡ recordWords (now (rec .entry))) ⌝ }
 {
-    let mut words = [0u16; 13];
+    let mut words = [0u16; Layout::MAX_WIDTH];
     let mut i: usize = 0;
     while i < n {
         words[i] = byte_form::word(rec, i);

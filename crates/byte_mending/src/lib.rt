@@ -8,7 +8,7 @@ ghost use lib.ListN.{length};
 ghost use Rattle.stores.specs.Stores.{answerOf};
 ghost use Rattle.byte_form.specs.Bytes.{wordsIn, bytesAfter};
 ghost use Rattle.layout.specs.Words.{InRange, Laid, cellCount, sizeOf};
-ghost use Rattle.survey.specs.Survey.{Columns};
+ghost use Rattle.survey.specs.Survey.{short, Columns};
 ghost use Rattle.recovery.specs.Plan.{recoverOf};
 ghost use Rattle.mending.specs.Mending.{listed, Listed, planOf};
 
@@ -53,7 +53,7 @@ fn recover_with(
 
 // The same, with short columns.
 fn recover_small(bytes: &mut [u8], l: Layout, allowance: u16) -> Answer
-    requires { ⌜ Laid l (wordsIn (now bytes)) × (cellCount l ≤ 256) ⌝ }
+    requires { ⌜ Laid l (wordsIn (now bytes)) × (cellCount l ≤ short) ⌝ }
     ensures answer { λ r. ⌜ r ≡ answerOf (recoverOf l (wordsIn (now (bytes .entry)))) allowance ⌝ }
     ensures bytes { λ _. ⌜ now (bytes .exit) ≡ bytesAfter (recoverOf l (wordsIn (now (bytes .entry)))) allowance (now (bytes .entry)) ⌝ }
 {
@@ -97,7 +97,7 @@ pub fn recover_in(bytes: &mut [u8], l: Layout, allowance: u16) -> Answer
     ensures answer { λ r. ⌜ r ≡ answerOf (recoverOf l (wordsIn (now (bytes .entry)))) allowance ⌝ }
     ensures bytes { λ _. ⌜ now (bytes .exit) ≡ bytesAfter (recoverOf l (wordsIn (now (bytes .entry)))) allowance (now (bytes .entry)) ⌝ }
 {
-    if l.cell_count() <= survey::SHORT {
+    if l.cell_count() as usize <= survey::SHORT {
         recover_small(bytes, l, allowance)
     } else {
         recover_large(bytes, l, allowance)

@@ -4,9 +4,9 @@ use mathlib.Core.Path.{_≡_, refl}
 use mathlib.Core.List.{List}
 use native.Mathlib.Omega.{arith}
 use lib.ListN.{getD}
-use Rattle.layout.specs.Words.{openedBy, marked}
+use Rattle.layout.specs.Words.{headWords, openedBy, marked}
 
-pub opened-same : (n : ℕ) (h w : List ℕ) → ((i : ℕ) → i < 8 → getD h i 0 ≡ getD w i 0) → openedBy n h ≡ openedBy n w
+pub opened-same : (n : ℕ) (h w : List ℕ) → ((i : ℕ) → i < headWords → getD h i 0 ≡ getD w i 0) → openedBy n h ≡ openedBy n w
 unfolding openedBy marked
 opened-same n h w e =
     rw (

@@ -9,16 +9,16 @@ ghost use mathlib.Core.Path.{_≡_};
 ghost use Prim.Native.Nat.{ℕ, _+_, _<_, _≤_};
 ghost use lib.ListN.{length, getD, set};
 ghost use Rattle.byte_form.specs.Bytes.{wordsIn};
-ghost use Rattle.layout.specs.Words.{Laid, cellCount, opened, countAt};
-ghost use Rattle.survey.specs.Survey.{Columns, Loaded};
+ghost use Rattle.layout.specs.Words.{mostLists, headWords, linkWords, forwardWord, backWord, Laid, cellCount, opened, countAt};
+ghost use Rattle.survey.specs.Survey.{short, Columns, Loaded};
 ghost use Rattle.requests.specs.Requests.{siteOf, lookOf};
 
 // The first eight words.
-fn head(bytes: &[u8]) -> [u16; 8]
-    requires { ⌜ 8 ≤ length (wordsIn (now bytes)) ⌝ }
-    ensures { λ r. ⌜ (8 ≡ length r) × ((i : ℕ) → i < 8 → getD r i 0 ≡ getD (wordsIn (now (bytes .entry))) i 0) ⌝ }
+fn head(bytes: &[u8]) -> [u16; Layout::HEAD_WORDS]
+    requires { ⌜ headWords ≤ length (wordsIn (now bytes)) ⌝ }
+    ensures { λ r. ⌜ (headWords ≡ length r) × ((i : ℕ) → i < headWords → getD r i 0 ≡ getD (wordsIn (now (bytes .entry))) i 0) ⌝ }
 {
-    let mut r = [0u16; 8];
+    let mut r = [0u16; Layout::HEAD_WORDS];
     let mut i: usize = 0;
     while i < Layout::HEAD_WORDS {
         r[i] = byte_form::word(bytes, i);
@@ -47,8 +47,8 @@ fn load_cell(
     forwards: &mut [u16],
     backs: &mut [u16],
 )
-    requires { ⌜ (a + 2 < length (wordsIn (now bytes))) × (i < length (now idents)) × (i < length (now forwards)) × (i < length (now backs)) ⌝ }
-    ensures { λ _. ⌜ (now (idents .exit) ≡ set (now (idents .entry)) i (getD (wordsIn (now (bytes .entry))) a 0)) × (now (forwards .exit) ≡ set (now (forwards .entry)) i (getD (wordsIn (now (bytes .entry))) (a + 1) 0)) × (now (backs .exit) ≡ set (now (backs .entry)) i (getD (wordsIn (now (bytes .entry))) (a + 2) 0)) ⌝ }
+    requires { ⌜ (a + linkWords ≤ length (wordsIn (now bytes))) × (i < length (now idents)) × (i < length (now forwards)) × (i < length (now backs)) ⌝ }
+    ensures { λ _. ⌜ (now (idents .exit) ≡ set (now (idents .entry)) i (getD (wordsIn (now (bytes .entry))) a 0)) × (now (forwards .exit) ≡ set (now (forwards .entry)) i (getD (wordsIn (now (bytes .entry))) (a + forwardWord) 0)) × (now (backs .exit) ≡ set (now (backs .entry)) i (getD (wordsIn (now (bytes .entry))) (a + backWord) 0)) ⌝ }
 {
     idents[i as usize] = byte_form::word(bytes, a);
     forwards[i as usize] = byte_form::word(bytes, a + Layout::FORWARD);
@@ -72,11 +72,11 @@ pub fn load(bytes: &[u8], l: Layout, idents: &mut [u16], forwards: &mut [u16], b
 }
 
 // The counts of all lists.
-pub fn all_counts(bytes: &[u8], l: Layout) -> [u16; 8]
+pub fn all_counts(bytes: &[u8], l: Layout) -> [u16; Layout::MAX_LISTS]
     requires { ⌜ Laid l (wordsIn (now bytes)) ⌝ }
-    ensures { λ r. ⌜ (8 ≡ length r) × ((k : ℕ) → k < l .lists → getD r k 0 ≡ getD (wordsIn (now (bytes .entry))) (countAt k) 0) ⌝ }
+    ensures { λ r. ⌜ (mostLists ≡ length r) × ((k : ℕ) → k < l .lists → getD r k 0 ≡ getD (wordsIn (now (bytes .entry))) (countAt k) 0) ⌝ }
 {
-    let mut r = [0u16; 8];
+    let mut r = [0u16; Layout::MAX_LISTS];
     let mut k: u16 = 0;
     while k < l.lists {
         r[k as usize] = byte_form::word(bytes, Layout::header(k) + Layout::COUNT);
@@ -103,7 +103,7 @@ fn site_in(
 
 // The same, with short columns.
 fn site_small(bytes: &[u8], l: Layout, q: Request) -> Sited
-    requires { ⌜ Laid l (wordsIn (now bytes)) × (cellCount l ≤ 256) ⌝ }
+    requires { ⌜ Laid l (wordsIn (now bytes)) × (cellCount l ≤ short) ⌝ }
     ensures { λ r. ⌜ r ≡ siteOf l (wordsIn (now (bytes .entry))) q ⌝ }
 {
     let n = l.cell_count() as usize;
@@ -144,7 +144,7 @@ fn site_of(bytes: &[u8], l: Layout, q: Request) -> Sited
     requires { ⌜ Laid l (wordsIn (now bytes)) ⌝ }
     ensures { λ r. ⌜ r ≡ siteOf l (wordsIn (now (bytes .entry))) q ⌝ }
 {
-    if l.cell_count() <= survey::SHORT {
+    if l.cell_count() as usize <= survey::SHORT {
         site_small(bytes, l, q)
     } else {
         site_large(bytes, l, q)

@@ -11,7 +11,7 @@ use Rattle.stores.specs.declared.Answer.{Answer}
 use Rattle.stores.specs.declared.Answer.the-variants as A
 use Rattle.stores.specs.Stores.{Write, applied, Plan, refuse, stores, answerOf, wordsAfter, madeBy, answerStores}
 use Rattle.layout.specs.declared.Layout.{Layout}
-use Rattle.layout.specs.Words.{cellAt, layoutOf}
+use Rattle.layout.specs.Words.{headerWords, linkWords, cellAt, layoutOf}
 use Rattle.edits.specs.Edits.{insertCentral, deleteCentral}
 use Rattle.recovery.specs.Plan.{recoverPlan}
 use Rattle.axle_store.specs.Calls.{insertPlan, deletePlan}
@@ -65,7 +65,7 @@ alter l (altered c f v) w = set w (cellAt l c + f) v
 -- "one of the header's four, or a member's identifier, forward or back": of list j, whose sequence is s
 abbrev pub Allowed : ℕ → List ℕ → Alteration → Type 0
 Allowed j s untouched = Unit {0}
-Allowed j s (altered c f v) = ((c ≡ j) × (f < 4)) ⊎ ((c ∈ s) × (f < 3))
+Allowed j s (altered c f v) = ((c ≡ j) × (f < headerWords)) ⊎ ((c ∈ s) × (f < linkWords))
 
 -- of each of the n lists but list k
 abbrev pub AllowedBut : ℕ → ℕ → (ℕ → List ℕ) → (ℕ → Alteration) → Type 0

@@ -7,7 +7,7 @@ use Rattle.sequences.specs.Sequence.{_∈_, All}
 use Rattle.stores.specs.declared.Answer.{Answer}
 use Rattle.stores.specs.declared.Answer.the-variants as A
 use Rattle.stores.specs.Stores.{run, answerOf, answerStores}
-use Rattle.layout.specs.Words.{Node, cellAt, cellWords, identAt, layoutOf}
+use Rattle.layout.specs.Words.{headWords, Node, cellAt, cellWords, identAt, layoutOf}
 use Rattle.lists.specs.Lists.{Sound, IsList, SameCells}
 use Rattle.edits.specs.Edited.{replaced}
 use Rattle.recovery.specs.Plan.{joined, recoverPlan, Kind, differing}
@@ -29,7 +29,7 @@ pub record Course (w : List ℕ) (s : Sound w) (k : ℕ) (x y ms : List ℕ) (la
   pub named : k < layoutOf w .lists → SameCells (layoutOf w) x z (k ∷ own)
   pub others : (j : ℕ) → j < layoutOf w .lists → (j ≡ k → ⊥) → SameCells (layoutOf w) w z (j ∷ s .lists .sequence j)
   -- "Words 0 to 7 and all nodes in none of these lists are as found, with 0 where the rule above clears."
-  pub head : (a : ℕ) → a < 8 → getD z a 0 ≡ getD y a 0
+  pub head : (a : ℕ) → a < headWords → getD z a 0 ≡ getD y a 0
   pub outside : (c : ℕ) → Node (layoutOf w) c → (c ∈ joined (replaced (s .lists .sequence) k own) (layoutOf w .lists) → ⊥)
       → (getD z (identAt (layoutOf w) c) 0 ≡ 0)
       × ((f : ℕ) → 1 ≤ f → f < cellWords (layoutOf w) c → getD z (cellAt (layoutOf w) c + f) 0 ≡ getD y (cellAt (layoutOf w) c + f) 0)

@@ -15,7 +15,7 @@ use Rattle.stores.proofs.Laws.{run-out, length-run, row-spares}
 use Rattle.layout.specs.declared.Layout.{Layout}
 use Rattle.layout.specs.declared.Opened.{Opened}
 use Rattle.layout.specs.declared.Opened.the-variants as O
-use Rattle.layout.specs.Words.{ask, afterOpen, opened, isNode, Node, layoutOf, nodeAt, recordAt, identAt}
+use Rattle.layout.specs.Words.{headWords, ask, afterOpen, opened, isNode, Node, layoutOf, nodeAt, recordAt, identAt}
 use Rattle.layout.proofs.Laws.{opened-open, is-node}
 use Rattle.layout.proofs.Apart.{cell-behind}
 use Rattle.lists.specs.Lists.{Sound, SoundLists, SameCells}
@@ -113,11 +113,11 @@ member-facts l w k p t e =
     record { list = ltb-true k (l .lists) (a .0); position = ltb-true p (length s) (d .0); site = cc (d .1) }
 
 -- no store goes to words 0 to 7
-node-behind : (l : Layout) (i : ℕ) → 8 ≤ nodeAt l i
+node-behind : (l : Layout) (i : ℕ) → headWords ≤ nodeAt l i
 unfolding nodeAt
 node-behind l i = omega arith
 
-pub insert-head : (l : Layout) (k : ℕ) (t : Site) (words : List ℕ) (a : ℕ) → a < 8 → Spares a (insertWrites l k t words)
+pub insert-head : (l : Layout) (k : ℕ) (t : Site) (words : List ℕ) (a : ℕ) → a < headWords → Spares a (insertWrites l k t words)
 unfolding insertWrites insertLinks
 insert-head l k t words a h =
     all-append (λ (p : Write). a ≡ p .at → ⊥) (inRow (recordAt l (t .cell)) words) (insertLinks l k t)
@@ -138,7 +138,7 @@ insert-head l k t words a h =
       ),
     )
 
-pub delete-head : (l : Layout) (k : ℕ) (t : Site) (a : ℕ) → a < 8 → Spares a (deleteWrites l k t)
+pub delete-head : (l : Layout) (k : ℕ) (t : Site) (a : ℕ) → a < headWords → Spares a (deleteWrites l k t)
 unfolding deleteWrites
 delete-head l k t a h = (
   (λ e. omega (arith, cell-behind l (t .after))),
@@ -153,13 +153,13 @@ delete-head l k t a h = (
 
 -- words whose lists are sound with list k replaced, as an edit of a sound store
 edit
-    : (w : List ℕ) (s : Sound w) (k : ℕ) (t : List ℕ) (ps : List Write) → ((a : ℕ) → a < 8 → Spares a ps)
+    : (w : List ℕ) (s : Sound w) (k : ℕ) (t : List ℕ) (ps : List Write) → ((a : ℕ) → a < headWords → Spares a ps)
     → ((x : SoundLists (layoutOf w) (run ps w)) × (x .sequence ≡ replaced (s .lists .sequence) k t))
     → ((j : ℕ) → j < layoutOf w .lists → (j ≡ k → ⊥) → SameCells (layoutOf w) w (run ps w) (j ∷ s .lists .sequence j))
     → ((x : ℕ) → x ∈ s .lists .sequence k → recordIn (layoutOf w) (run ps w) x ≡ recordIn (layoutOf w) w x)
     → Edited w s k t (run ps w)
 edit w s k t ps head lists others records =
-    let h : (a : ℕ) → a < 8 → getD (run ps w) a 0 ≡ getD w a 0 = λ a g. run-out ps w a (head a g) in
+    let h : (a : ℕ) → a < headWords → getD (run ps w) a 0 ≡ getD w a 0 = λ a g. run-out ps w a (head a g) in
     let y = same-sound w (run ps w) s h (length-run ps w) (lists .0) in
     record {
       sound = y .0;

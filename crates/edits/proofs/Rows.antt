@@ -9,23 +9,23 @@ use lib.Seq.{take-suc, take-all, length-take-le}
 use Rattle.sequences.specs.Sequence.{All}
 use Rattle.sequences.proofs.Members.{all-append, all-nth}
 use Rattle.layout.specs.declared.Layout.{Layout}
-use Rattle.layout.specs.Words.{cellAt, countAt, recordAt, sizeOf}
+use Rattle.layout.specs.Words.{mostWidth, cellAt, countAt, recordAt, sizeOf}
 use Rattle.layout.proofs.Laws.{size-small, cell-fits, header-fits, node-fits}
 use Rattle.stores.specs.declared.Rows.{Rows}
-use Rattle.stores.specs.Stores.{Write, write, inRow, writesIn, noRows, Held}
+use Rattle.stores.specs.Stores.{mostRows, Write, write, inRow, writesIn, noRows, Held}
 use Rattle.stores.proofs.Laws.{length-row, held-none, held-more}
 use Rattle.requests.specs.declared.Site.{Site}
 use Rattle.edits.specs.Edits.{insertLinks, insertWrites, deleteWrites, Placed}
 
 -- the rows hold the stores ps and the first i of the stores qs, and have room for the rest of them
 pub record Filled (n : ℕ) (ps qs : List Write) (i : ℕ) (r : Rows) : Type 0 where
-  pub few : length ps + length qs ≤ 19
+  pub few : length ps + length qs ≤ mostRows
   pub inside : All (λ (p : Write). p .at < n) qs
   pub held : Held n r (ps ++ take i qs)
 
 module _ {n : ℕ} {ps qs : List Write} {i : ℕ} {r : Rows} (f : Filled n ps qs i r) where
   -- there is room for the next of qs
-  pub has-room : i < length qs → r .len < 19
+  pub has-room : i < length qs → r .len < mostRows
   has-room h = omega (arith, f .few, f .held .len, length-append ps (take i qs), length-take-le i qs (omega arith))
 
   -- it is written behind the last
@@ -65,7 +65,7 @@ row-at a (suc i) (v ∷ vs) h = let t = row-at (a + 1) i vs (omega arith) in (om
 
 -- before the first store of a record
 pub record-fill
-    : (n a : ℕ) (vs : List ℕ) → a + length vs ≤ n → length vs ≤ 13
+    : (n a : ℕ) (vs : List ℕ) → a + length vs ≤ n → length vs ≤ mostWidth
     → Filled n [] (inRow a vs) 0 noRows
 record-fill n a vs h m = record { few = omega (arith, length-row a vs); inside = row-inside n a vs h; held = held-none n }
 
@@ -107,7 +107,7 @@ module _ {l : Layout} {k : ℕ} {t : Site} (p : Placed l k t) where
   delete-inside = omega (arith, site-fits)
 
   -- before the first store of an insert's links
-  pub links-fill : (r : Rows) → Held (sizeOf l) r (writesIn r) → r .len ≤ 13 → Filled (sizeOf l) (writesIn r) (insertLinks l k t) 0 r
+  pub links-fill : (r : Rows) → Held (sizeOf l) r (writesIn r) → r .len ≤ mostWidth → Filled (sizeOf l) (writesIn r) (insertLinks l k t) 0 r
   unfolding insertLinks
   links-fill r h g =
       record {

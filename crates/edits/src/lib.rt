@@ -7,7 +7,7 @@ ghost use mathlib.Core.Path.{_≡_};
 ghost use Prim.Native.Nat.{_-_, _≤_};
 ghost use mathlib.Core.List.{_++_};
 ghost use lib.ListN.{length};
-ghost use Rattle.layout.specs.Words.{sizeOf, recordAt};
+ghost use Rattle.layout.specs.Words.{mostWidth, sizeOf, recordAt};
 ghost use Rattle.stores.specs.Stores.{inRow, writesIn, Held};
 ghost use Rattle.edits.specs.Edits.{insertLinks, insertWrites, deleteWrites, Placed};
 
@@ -30,7 +30,7 @@ fn record_rows(l: Layout, k: u16, t: Site, words: &[u16]) -> Rows
 
 // The stores of the new cell, the count and the two links to it, behind those that are there.
 fn link_rows(rows: Rows, l: Layout, k: u16, t: Site) -> Rows
-    requires { ⌜ Placed l k t × Held (sizeOf l) rows (writesIn rows) × (rows .len ≤ 13) ⌝ }
+    requires { ⌜ Placed l k t × Held (sizeOf l) rows (writesIn rows) × (rows .len ≤ mostWidth) ⌝ }
     ensures { λ r. ⌜ Held (sizeOf l) r (writesIn rows ++ insertLinks l k t) ⌝ }
 {
     let n = rows.len;

@@ -8,7 +8,7 @@ use lib.ListN.{length}
 use Rattle.sequences.specs.Sequence.{All}
 use Rattle.sequences.proofs.Trail.{trail-inside}
 use Rattle.layout.specs.declared.Layout.{Layout}
-use Rattle.layout.specs.Words.{InRange, Node, isNode, cellCount, cellAt, sizeOf, identOf}
+use Rattle.layout.specs.Words.{linkWords, identWord, forwardWord, backWord, countWord, InRange, Node, isNode, cellCount, cellAt, sizeOf, identOf}
 use Rattle.layout.proofs.Laws.{cell-header, header-fits, cell-fits}
 use Rattle.lists.specs.Decide.{View}
 use Rattle.lists.proofs.Unique.{all-nodes}
@@ -27,7 +27,7 @@ Inside l c f = (c < cellCount l) × (cellAt l c + f < sizeOf l)
 -- what holds of both candidates' faults holds of those of the candidate that is chosen
 choose-each : {P : ℕ → ℕ → Type 0} {f g : Faults} → Every P f → Every P g → Each P (faultIn (choose f g))
 choose-each {f = F.None} p q = tt
-choose-each {P} {f = F.One c f v} {g} p q = by (eqb f 2) g
+choose-each {P} {f = F.One c f v} {g} p q = by (eqb f backWord) g
   where
     two : (b : Bool) → Each P (faultIn (cond b G.Several (G.Forward (F.One c f v))))
     two true = tt
@@ -36,16 +36,16 @@ choose-each {P} {f = F.One c f v} {g} p q = by (eqb f 2) g
     by : (b : Bool) (g : Faults) → Each P (faultIn (cond b (twoFit (F.One c f v) g) (G.Forward (F.One c f v))))
     by false g = p .each
     by true F.None = p .each
-    by true (F.One d e u) = two (eqb e 1)
+    by true (F.One d e u) = two (eqb e forwardWord)
     by true F.Many = p .each
 choose-each {f = F.Many} {g = F.None} p q = tt
 choose-each {f = F.Many} {g = F.One c f v} p q = q .each
 choose-each {f = F.Many} {g = F.Many} p q = tt
 
 -- what holds of the first three words of every cell holds of the faults of a turn round list k
-module _ (l : Layout) (P : ℕ → ℕ → Type 0) (link : (c f : ℕ) → c < cellCount l → f < 3 → P c f)
-    (v : View) (a b k : ℕ) (ha : a < 3) (hb : b < 3) (hk : k < l .lists) where
-  word-every : (x c f v : ℕ) → c < cellCount l → f < 3 → Every P (fault x c f v)
+module _ (l : Layout) (P : ℕ → ℕ → Type 0) (link : (c f : ℕ) → c < cellCount l → f < linkWords → P c f)
+    (v : View) (a b k : ℕ) (ha : a < linkWords) (hb : b < linkWords) (hk : k < l .lists) where
+  word-every : (x c f v : ℕ) → c < cellCount l → f < linkWords → Every P (fault x c f v)
   word-every x c f v h g = every-fault x c f v (link c f h g)
 
   -- the rest of it
@@ -56,29 +56,29 @@ module _ (l : Layout) (P : ℕ → ℕ → Type 0) (link : (c f : ℕ) → c < c
   turn-every x (y ∷ s) h t =
       let c : y < cellCount l = t .0 .high in
       every-plus (word-every (v .forward x) x a y h ha)
-      (every-plus (word-every (v .ident y) y 0 (identOf k) c (omega arith))
+      (every-plus (word-every (v .ident y) y identWord (identOf k) c (omega arith))
       (every-plus (word-every (v .back y) y b x c hb)
       (turn-every y s c (t .1))))
 
   -- all of it
-  pub round-every : (s : List ℕ) → All (Node l) s → Every P (plus (fault (v .ident k) k 0 (identOf k)) (turnFaults v a b k k s))
-  round-every s t = every-plus (word-every (v .ident k) k 0 (identOf k) (omega arith) (omega arith)) (turn-every k s (omega arith) t)
+  pub round-every : (s : List ℕ) → All (Node l) s → Every P (plus (fault (v .ident k) k identWord (identOf k)) (turnFaults v a b k k s))
+  round-every s t = every-plus (word-every (v .ident k) k identWord (identOf k) (omega arith) (omega arith)) (turn-every k s (omega arith) t)
 
 module _ (l : Layout) (r : InRange l) where
   -- the faults of a walk of list k
-  walk-fits : (v : View) (a b k n : ℕ) → a < 3 → b < 3 → k < l .lists → Every (Inside l) (walkFaults l v a b k n)
+  walk-fits : (v : View) (a b k n : ℕ) → a < linkWords → b < linkWords → k < l .lists → Every (Inside l) (walkFaults l v a b k n)
   unfolding walkFaults faultsOf
   walk-fits v a b k n ha hb hk =
       let s = walked l v k in
       let t = all-nodes l s (trail-inside (v .forward) (isNode l) (l .nodes) (v .forward k)) in
-      let o : cellAt l k + 3 < sizeOf l = omega (arith, cell-header l k hk, header-fits l k hk) in
+      let o : cellAt l k + countWord < sizeOf l = omega (arith, cell-header l k hk, header-fits l k hk) in
       rw (← plus-assoc)
       (every-plus (round-every l (Inside l) (λ c f h g. (h, omega (arith, cell-fits l c r h))) v a b k ha hb hk s t)
-      (every-fault n k 3 (length s) (omega arith, o)))
+      (every-fault n k countWord (length s) (omega arith, o)))
 
   -- so the mend of list k is a word of the store
   pub fit-fits : (v : View) (k n : ℕ) → k < l .lists → FaultFits l (faultIn (fitIn l v k n))
   unfolding fitIn
   fit-fits v k n h =
-      choose-each (walk-fits v 1 2 k n (omega arith) (omega arith) h)
-      (walk-fits (turned v) 2 1 k n (omega arith) (omega arith) h)
+      choose-each (walk-fits v forwardWord backWord k n (omega arith) (omega arith) h)
+      (walk-fits (turned v) backWord forwardWord k n (omega arith) (omega arith) h)

@@ -9,7 +9,7 @@ use lib.ListN.{length}
 use borrow.Author.Tests.{eq-eqb, ne-eqb, eqb-true}
 use Rattle.sequences.specs.Sequence.{_∈_, All}
 use Rattle.layout.specs.declared.Layout.{Layout}
-use Rattle.layout.specs.Words.{Node, identOf}
+use Rattle.layout.specs.Words.{linkWords, identWord, forwardWord, backWord, countWord, Node, identOf}
 use Rattle.lists.specs.Decide.{View}
 use Rattle.fitting.specs.declared.Faults.{Faults}
 use Rattle.fitting.specs.declared.Faults.the-variants as F
@@ -35,52 +35,52 @@ has-right : (c f : ℕ) (g h : Faults) → Has c f h → Has c f (plus g h)
 has-right c f g h p = subst (Has c f) (plus-comm h g) (has-left c f h g p)
 
 -- a turn meets the identifier of each member
-turn-has : (v : View) (a b k x : ℕ) (s : List ℕ) (y : ℕ) → y ∈ s → (v .ident y ≡ identOf k → ⊥) → Has y 0 (turnFaults v a b k x s)
+turn-has : (v : View) (a b k x : ℕ) (s : List ℕ) (y : ℕ) → y ∈ s → (v .ident y ≡ identOf k → ⊥) → Has y identWord (turnFaults v a b k x s)
 unfolding turnFaults
 turn-has v a b k x (z ∷ s) y (List·Memᴰ·head e) n =
-    has-right y 0 (fault (v .forward x) x a z) _
-    (has-left y 0 (fault (v .ident z) z 0 (identOf k)) _
-    (subst (Has y 0) (sym (one-fault (v .ident z) z 0 (identOf k) (λ q. n (ap (v .ident) e ∙ q)))) (e, refl)))
+    has-right y identWord (fault (v .forward x) x a z) _
+    (has-left y identWord (fault (v .ident z) z identWord (identOf k)) _
+    (subst (Has y identWord) (sym (one-fault (v .ident z) z identWord (identOf k) (λ q. n (ap (v .ident) e ∙ q)))) (e, refl)))
 turn-has v a b k x (z ∷ s) y (List·Memᴰ·tail m) n =
-    has-right y 0 (fault (v .forward x) x a z) _
-    (has-right y 0 (fault (v .ident z) z 0 (identOf k)) _
-    (has-right y 0 (fault (v .back z) z b x) (turnFaults v a b k z s) (turn-has v a b k z s y m n)))
+    has-right y identWord (fault (v .forward x) x a z) _
+    (has-right y identWord (fault (v .ident z) z identWord (identOf k)) _
+    (has-right y identWord (fault (v .back z) z b x) (turnFaults v a b k z s) (turn-has v a b k z s y m n)))
 
 -- one fault at most tells the number of members, ..
-counted : (f : Faults) (n k m : ℕ) → Each (λ c g. g < 3) f → Few (plus f (fault n k 3 m)) → lengthBy (plus f (fault n k 3 m)) n ≡ m
+counted : (f : Faults) (n k m : ℕ) → Each (λ c g. g < linkWords) f → Few (plus f (fault n k countWord m)) → lengthBy (plus f (fault n k countWord m)) n ≡ m
 counted f n k m low few = by (eqb n m) refl f low few
   where
-    by : (b : Bool) → eqb n m ≡ b → (f : Faults) → Each (λ c g. g < 3) f → Few (plus f (cond b F.None (F.One k 3 m)))
-        → lengthBy (plus f (cond b F.None (F.One k 3 m))) n ≡ m
+    by : (b : Bool) → eqb n m ≡ b → (f : Faults) → Each (λ c g. g < linkWords) f → Few (plus f (cond b F.None (F.One k countWord m)))
+        → lengthBy (plus f (cond b F.None (F.One k countWord m))) n ≡ m
     by true e F.None low few = eqb-true n m e
-    by true e (F.One c g v) low few = rw (ne-eqb g 3 (λ q. omega (arith, q))) (eqb-true n m e)
+    by true e (F.One c g v) low few = rw (ne-eqb g countWord (λ q. omega (arith, q))) (eqb-true n m e)
     by true e F.Many low few = absurd few
     by false e F.None low few = refl
     by false e (F.One c g v) low few = absurd few
     by false e F.Many low few = absurd few
 
-pub members-number : (l : Layout) (v : View) (k n : ℕ) (s : List ℕ) → k < l .lists → All (Node l) s → Few (faultsOf v 1 2 k n s)
-    → lengthBy (faultsOf v 1 2 k n s) n ≡ length s
+pub members-number : (l : Layout) (v : View) (k n : ℕ) (s : List ℕ) → k < l .lists → All (Node l) s → Few (faultsOf v forwardWord backWord k n s)
+    → lengthBy (faultsOf v forwardWord backWord k n s) n ≡ length s
 unfolding faultsOf
 members-number l v k n s h nodes few =
-    let round = plus (fault (v .ident k) k 0 (identOf k)) (turnFaults v 1 2 k k s) in
-    let e = plus-assoc (fault (v .ident k) k 0 (identOf k)) (turnFaults v 1 2 k k s) (fault n k 3 (length s)) in
+    let round = plus (fault (v .ident k) k identWord (identOf k)) (turnFaults v forwardWord backWord k k s) in
+    let e = plus-assoc (fault (v .ident k) k identWord (identOf k)) (turnFaults v forwardWord backWord k k s) (fault n k countWord (length s)) in
     subst (λ (f : Faults). lengthBy f n ≡ length s) e
-    (counted round n k (length s) (round-every l (λ c g. g < 3) (λ c g _ q. q) v 1 2 k (omega arith) (omega arith) h s nodes .each)
+    (counted round n k (length s) (round-every l (λ c g. g < linkWords) (λ c g _ q. q) v forwardWord backWord k (omega arith) (omega arith) h s nodes .each)
     (subst Few (sym e) few))
 
 -- .. and that all carry an identifier, unless it is one that holds 0
-pub members-carry : (v : View) (k n : ℕ) (s : List ℕ) → Few (faultsOf v 1 2 k n s) → carries (v .ident) (faultsOf v 1 2 k n s) ≡ true
+pub members-carry : (v : View) (k n : ℕ) (s : List ℕ) → Few (faultsOf v forwardWord backWord k n s) → carries (v .ident) (faultsOf v forwardWord backWord k n s) ≡ true
     → (x : ℕ) → x ∈ s → v .ident x ≡ 0 → ⊥
 unfolding faultsOf
-members-carry v k n s few c x m z = by (faultsOf v 1 2 k n s) has few c
+members-carry v k n s few c x m z = by (faultsOf v forwardWord backWord k n s) has few c
   where
-    has : Has x 0 (faultsOf v 1 2 k n s)
+    has : Has x identWord (faultsOf v forwardWord backWord k n s)
     has =
-        has-right x 0 (fault (v .ident k) k 0 (identOf k)) (plus (turnFaults v 1 2 k k s) (fault n k 3 (length s)))
-        (has-left x 0 (turnFaults v 1 2 k k s) (fault n k 3 (length s)) (turn-has v 1 2 k k s x m (λ e. omega (arith, e, z))))
+        has-right x identWord (fault (v .ident k) k identWord (identOf k)) (plus (turnFaults v forwardWord backWord k k s) (fault n k countWord (length s)))
+        (has-left x identWord (turnFaults v forwardWord backWord k k s) (fault n k countWord (length s)) (turn-has v forwardWord backWord k k s x m (λ e. omega (arith, e, z))))
 
-    by : (f : Faults) → Has x 0 f → Few f → carries (v .ident) f ≡ true → ⊥
+    by : (f : Faults) → Has x identWord f → Few f → carries (v .ident) f ≡ true → ⊥
     by F.None p few c = p
     by (F.One d g u) p few c =
         false≢true (rw (eq-eqb g 0 (sym (p .1)), eq-eqb (v .ident d) 0 (ap (v .ident) (sym (p .0)) ∙ z)) at c)

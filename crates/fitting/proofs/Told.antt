@@ -11,7 +11,7 @@ use Rattle.sequences.specs.Sequence.{_∈_, Step, steps}
 use Rattle.sequences.proofs.Reversed.{in-reverse, reverse-in}
 use Rattle.stores.specs.Stores.{Write, write}
 use Rattle.layout.specs.declared.Layout.{Layout}
-use Rattle.layout.specs.Words.{cellAt, identAt, forwardAt, backAt, countAt, identOf}
+use Rattle.layout.specs.Words.{identWord, forwardWord, backWord, countWord, cellAt, identAt, forwardAt, backAt, countAt, identOf}
 use Rattle.lists.specs.Lists.{asked, identsAsked, forwardsAsked, backsAsked, countAsked}
 use Rattle.lists.specs.Decide.{View, viewOf, countIn, sequenceOf}
 use Rattle.lists.proofs.Same.{ident-word, count-word}
@@ -83,7 +83,7 @@ summed-map l w g h r (x ∷ s) =
 
 -- the three kinds of faults of a turn, each by itself
 abbrev pub identFaults : View → ℕ → List ℕ → Faults
-identFaults v k s = sumAll (λ (y : ℕ). fault (v .ident y) y 0 (identOf k)) s
+identFaults v k s = sumAll (λ (y : ℕ). fault (v .ident y) y identWord (identOf k)) s
 
 abbrev pub onwardFaults : View → ℕ → List Step → Faults
 onwardFaults v a ps = sumAll (λ (p : Step). fault (v .forward (p .source)) (p .source) a (p .target)) ps
@@ -98,7 +98,7 @@ turn-sorted
 unfolding turnFaults sumAll steps
 turn-sorted v a b k x [] = rw (plus-none, plus-none)
 turn-sorted v a b k x (y ∷ s) =
-    sorted (fault (v .ident y) y 0 (identOf k)) (fault (v .forward x) x a y) (fault (v .back y) y b x)
+    sorted (fault (v .ident y) y identWord (identOf k)) (fault (v .forward x) x a y) (fault (v .back y) y b x)
     (identFaults v k s) (onwardFaults v a (steps y s k)) (backFaults v b (steps y s k))
     (turnFaults v a b k y s) (turn-sorted v a b k y s)
   where
@@ -114,7 +114,7 @@ turn-sorted v a b k x (y ∷ s) =
 pub faults-sorted
     : (v : View) (a b k n : ℕ) (s : List ℕ)
     → faultsOf v a b k n s
-    ≡ plus (identFaults v k (k ∷ s)) (plus (onwardFaults v a (steps k s k)) (plus (backFaults v b (steps k s k)) (fault n k 3 (length s))))
+    ≡ plus (identFaults v k (k ∷ s)) (plus (onwardFaults v a (steps k s k)) (plus (backFaults v b (steps k s k)) (fault n k countWord (length s))))
 unfolding faultsOf sumAll
 faults-sorted v a b k n s =
     rw (turn-sorted v a b k k s, plus-assoc, plus-assoc, plus-assoc)
@@ -125,41 +125,41 @@ module _ (l : Layout) (w : List ℕ) (k : ℕ) (s : List ℕ) where
   identSum = identFaults (viewOf l w) k (k ∷ s)
 
   abbrev pub onwardSum : Faults
-  onwardSum = onwardFaults (viewOf l w) 1 (steps k s k)
+  onwardSum = onwardFaults (viewOf l w) forwardWord (steps k s k)
 
   abbrev pub backSum : Faults
-  backSum = backFaults (viewOf l w) 2 (steps k s k)
+  backSum = backFaults (viewOf l w) backWord (steps k s k)
 
   abbrev pub countSum : Faults
-  countSum = fault (countIn w k) k 3 (length s)
+  countSum = fault (countIn w k) k countWord (length s)
 
   abbrev pub faultSum : Faults
-  faultSum = faultsOf (viewOf l w) 1 2 k (countIn w k) s
+  faultSum = faultsOf (viewOf l w) forwardWord backWord k (countIn w k) s
 
   -- sorted as they are asked
   pub sum-sorted : faultSum ≡ plus identSum (plus onwardSum (plus backSum countSum))
-  sum-sorted = faults-sorted (viewOf l w) 1 2 k (countIn w k) s
+  sum-sorted = faults-sorted (viewOf l w) forwardWord backWord k (countIn w k) s
 
   -- each kind sums up its wrong words
   pub summed-idents : Summed l identSum (wrong w (identsAsked l k s))
   summed-idents =
-      summed-map l w (λ (c : ℕ). fault (viewOf l w .ident c) c 0 (identOf k)) (λ (c : ℕ). write (identAt l c) (identOf k))
-      (λ c. summed-fault l w c 0 (identOf k) (identAt l c) (ident-word l c)) (k ∷ s)
+      summed-map l w (λ (c : ℕ). fault (viewOf l w .ident c) c identWord (identOf k)) (λ (c : ℕ). write (identAt l c) (identOf k))
+      (λ c. summed-fault l w c identWord (identOf k) (identAt l c) (ident-word l c)) (k ∷ s)
 
   pub summed-onward : Summed l onwardSum (wrong w (forwardsAsked l k s))
   summed-onward =
-      summed-map l w (λ (p : Step). fault (viewOf l w .forward (p .source)) (p .source) 1 (p .target))
+      summed-map l w (λ (p : Step). fault (viewOf l w .forward (p .source)) (p .source) forwardWord (p .target))
       (λ (p : Step). write (forwardAt l (p .source)) (p .target))
-      (λ p. summed-fault l w (p .source) 1 (p .target) (forwardAt l (p .source)) refl) (steps k s k)
+      (λ p. summed-fault l w (p .source) forwardWord (p .target) (forwardAt l (p .source)) refl) (steps k s k)
 
   pub summed-back : Summed l backSum (wrong w (backsAsked l k s))
   summed-back =
-      summed-map l w (λ (p : Step). fault (viewOf l w .back (p .target)) (p .target) 2 (p .source))
+      summed-map l w (λ (p : Step). fault (viewOf l w .back (p .target)) (p .target) backWord (p .source))
       (λ (p : Step). write (backAt l (p .target)) (p .source))
-      (λ p. summed-fault l w (p .target) 2 (p .source) (backAt l (p .target)) refl) (steps k s k)
+      (λ p. summed-fault l w (p .target) backWord (p .source) (backAt l (p .target)) refl) (steps k s k)
 
   pub summed-count : k < l .lists → Summed l countSum (wrong w (countAsked k s))
-  summed-count h = summed-fault l w k 3 (length s) (countAt k) (count-word l k h)
+  summed-count h = summed-fault l w k countWord (length s) (countAt k) (count-word l k h)
 
   -- and all sum up all
   pub summed-forward : k < l .lists → Summed l faultSum (wrong w (asked l k s))
@@ -211,18 +211,18 @@ turned-faults v a b k n t =
   where
     same
         : plus (identFaults v k (k ∷ reverse t))
-        (plus (onwardFaults v a (steps k (reverse t) k)) (plus (backFaults v b (steps k (reverse t) k)) (fault n k 3 (length (reverse t)))))
+        (plus (onwardFaults v a (steps k (reverse t) k)) (plus (backFaults v b (steps k (reverse t) k)) (fault n k countWord (length (reverse t)))))
         ≡ plus (identFaults v k (k ∷ t))
-        (plus (onwardFaults (turned v) b (steps k t k)) (plus (backFaults (turned v) a (steps k t k)) (fault n k 3 (length t))))
+        (plus (onwardFaults (turned v) b (steps k t k)) (plus (backFaults (turned v) a (steps k t k)) (fault n k countWord (length t))))
     same =
         rw (
-          sum-reverse (λ (y : ℕ). fault (v .ident y) y 0 (identOf k)) t,
+          sum-reverse (λ (y : ℕ). fault (v .ident y) y identWord (identOf k)) t,
           sum-steps (λ (p : Step). fault (v .forward (p .source)) (p .source) a (p .target)) k t k,
           sum-steps (λ (p : Step). fault (v .back (p .target)) (p .target) b (p .source)) k t k,
           length-reverse t,
         )
         (ap (plus (identFaults v k (k ∷ t)))
-        (plus-swap (backFaults (turned v) a (steps k t k)) (onwardFaults (turned v) b (steps k t k)) (fault n k 3 (length t))))
+        (plus-swap (backFaults (turned v) a (steps k t k)) (onwardFaults (turned v) b (steps k t k)) (fault n k countWord (length t))))
 
 -- what a sum says of its words: none of them, its mend, or more than one
 summed-none : (l : Layout) (f : Faults) (ps : List Write) → Summed l f ps → length ps ≡ 0 → f ≡ F.None
@@ -254,19 +254,19 @@ few-summed l F.Many ps p e = absurd (omega arith)
 -- the choice between two candidates that are one, and where only one fits
 choose-same : (f : Faults) → Few f → choose f f ≡ G.Forward f
 choose-same F.None h = refl
-choose-same (F.One c f v) h = by (eqb f 2) refl (eqb f 1) refl
+choose-same (F.One c f v) h = by (eqb f backWord) refl (eqb f forwardWord) refl
   where
-    by : (a : Bool) → eqb f 2 ≡ a → (b : Bool) → eqb f 1 ≡ b → choose (F.One c f v) (F.One c f v) ≡ G.Forward (F.One c f v)
-    by true p true q = absurd (omega (arith, eqb-true f 2 p, eqb-true f 1 q))
+    by : (a : Bool) → eqb f backWord ≡ a → (b : Bool) → eqb f forwardWord ≡ b → choose (F.One c f v) (F.One c f v) ≡ G.Forward (F.One c f v)
+    by true p true q = absurd (omega (arith, eqb-true f backWord p, eqb-true f forwardWord q))
     by true p false q = rw (p, q)
     by false p b q = rw p
 choose-same F.Many h = absurd h
 
 choose-first : (f : Faults) → Few f → choose f F.Many ≡ G.Forward f
 choose-first F.None h = refl
-choose-first (F.One c f v) h = by (eqb f 2) refl
+choose-first (F.One c f v) h = by (eqb f backWord) refl
   where
-    by : (a : Bool) → eqb f 2 ≡ a → choose (F.One c f v) F.Many ≡ G.Forward (F.One c f v)
+    by : (a : Bool) → eqb f backWord ≡ a → choose (F.One c f v) F.Many ≡ G.Forward (F.One c f v)
     by true p = rw p
     by false p = rw p
 choose-first F.Many h = absurd h
@@ -310,7 +310,7 @@ module _ (l : Layout) (w : List ℕ) (k : ℕ) (h : k < l .lists) where
   -- with at most one wrong word, a wrong back link is the only fault, and so is a wrong forward link
   back-only
       : (s : List ℕ) → length (wrong w (asked l k s)) ≤ 1 → (length (wrong w (backsAsked l k s)) ≡ 0 → ⊥)
-      → OneOf 2 (faultSum l w k s)
+      → OneOf backWord (faultSum l w k s)
   back-only s f n =
       let i : length (wrong w (identsAsked l k s)) ≡ 0 = omega (arith, wrong-parts l w k s) in
       let o : length (wrong w (forwardsAsked l k s)) ≡ 0 = omega (arith, wrong-parts l w k s) in
@@ -323,15 +323,15 @@ module _ (l : Layout) (w : List ℕ) (k : ℕ) (h : k < l .lists) where
         summed-none l (onwardSum l w k s) _ (summed-onward l w k s) o,
         summed-none l (countSum l w k s) _ (summed-count l w k s h) c,
       ) (plus-none (backSum l w k s)) in
-      subst (OneOf 2) (sym e)
-      (one-summed l 2 (backSum l w k s) (wrong w (backsAsked l k s))
-      (word-sum 2 (λ (p : Step). fault (viewOf l w .back (p .target)) (p .target) 2 (p .source))
-      (λ p. every-fault (viewOf l w .back (p .target)) (p .target) 2 (p .source) refl) (steps k s k))
+      subst (OneOf backWord) (sym e)
+      (one-summed l backWord (backSum l w k s) (wrong w (backsAsked l k s))
+      (word-sum backWord (λ (p : Step). fault (viewOf l w .back (p .target)) (p .target) backWord (p .source))
+      (λ p. every-fault (viewOf l w .back (p .target)) (p .target) backWord (p .source) refl) (steps k s k))
       (summed-back l w k s) n b)
 
   onward-only
       : (s : List ℕ) → length (wrong w (asked l k s)) ≤ 1 → (length (wrong w (forwardsAsked l k s)) ≡ 0 → ⊥)
-      → OneOf 1 (faultSum l w k s)
+      → OneOf forwardWord (faultSum l w k s)
   onward-only s f n =
       let i : length (wrong w (identsAsked l k s)) ≡ 0 = omega (arith, wrong-parts l w k s) in
       let o : length (wrong w (backsAsked l k s)) ≡ 0 = omega (arith, wrong-parts l w k s) in
@@ -344,10 +344,10 @@ module _ (l : Layout) (w : List ℕ) (k : ℕ) (h : k < l .lists) where
         summed-none l (backSum l w k s) _ (summed-back l w k s) o,
         summed-none l (countSum l w k s) _ (summed-count l w k s h) c,
       ) (plus-none (onwardSum l w k s)) in
-      subst (OneOf 1) (sym e)
-      (one-summed l 1 (onwardSum l w k s) (wrong w (forwardsAsked l k s))
-      (word-sum 1 (λ (p : Step). fault (viewOf l w .forward (p .source)) (p .source) 1 (p .target))
-      (λ p. every-fault (viewOf l w .forward (p .source)) (p .source) 1 (p .target) refl) (steps k s k))
+      subst (OneOf forwardWord) (sym e)
+      (one-summed l forwardWord (onwardSum l w k s) (wrong w (forwardsAsked l k s))
+      (word-sum forwardWord (λ (p : Step). fault (viewOf l w .forward (p .source)) (p .source) forwardWord (p .target))
+      (λ p. every-fault (viewOf l w .forward (p .source)) (p .source) forwardWord (p .target) refl) (steps k s k))
       (summed-onward l w k s) n b)
 
   -- a candidate that fits has at most one fault, which its mend mends; one that does not has many
@@ -421,7 +421,7 @@ module _ (l : Layout) (w : List ℕ) (k : ℕ) (h : k < l .lists) where
   unfolding fitIn walkFaults
   fit-told =
       subst (λ (g : Faults). Told l w k (choose (faultSum l w k (sequenceOf l w k)) g))
-      (sym (turned-faults (viewOf l w) 1 2 k (countIn w k) (walked l (turned (viewOf l w)) k))) told-by
+      (sym (turned-faults (viewOf l w) forwardWord backWord k (countIn w k) (walked l (turned (viewOf l w)) k))) told-by
 
 -- the members by the walk that was chosen are those of the sequence that fits
 pub members-told

@@ -10,7 +10,7 @@ use borrow.Author.Tests.{eq-eqb, ne-eqb, not-true}
 use Rattle.sequences.specs.Sequence.{trail}
 use Rattle.sequences.proofs.Trail.{trail-on, trail-out, trail-none}
 use Rattle.layout.specs.declared.Layout.{Layout}
-use Rattle.layout.specs.Words.{isNode, identOf}
+use Rattle.layout.specs.Words.{identWord, backWord, countWord, isNode, identOf}
 use Rattle.lists.specs.Decide.{View}
 use Rattle.fitting.specs.declared.Faults.{Faults}
 use Rattle.fitting.specs.declared.Faults.the-variants as F
@@ -70,7 +70,7 @@ one-fault x c f v h = rw (ne-eqb _ _ h)
 -- where the first candidate decides, it is chosen, whatever the second is
 pub decided-alone : (f g : Faults) → decides f ≡ true → choose f g ≡ G.Forward f
 decided-alone F.None g e = refl
-decided-alone (F.One c w v) g e = rw (not-true (eqb w 2) e)
+decided-alone (F.One c w v) g e = rw (not-true (eqb w backWord) e)
 decided-alone F.Many g e = absurd (false≢true e)
 
 -- the cells that a walk has yet to meet when it comes to y with `left` steps left
@@ -83,12 +83,12 @@ pub record Walking (l : Layout) (v : View) (a b k : ℕ) (f : Faults) (x y left 
   pub few : left ≤ l .nodes
   pub same
       : plus f (turnFaults v a b k x (rest l v left y))
-      ≡ plus (fault (v .ident k) k 0 (identOf k)) (turnFaults v a b k k (walked l v k))
+      ≡ plus (fault (v .ident k) k identWord (identOf k)) (turnFaults v a b k k (walked l v k))
   pub count : length (walked l v k) ≡ l .nodes - left + length (rest l v left y)
 
 -- at the header its identifier is compared
 pub walking-first : (l : Layout) (v : View) (a b k : ℕ) {i : ℕ} {f : Faults} → i ≡ identOf k
-    → f ≡ fault (v .ident k) k 0 i → Walking l v a b k f k (v .forward k) (l .nodes)
+    → f ≡ fault (v .ident k) k identWord i → Walking l v a b k f k (v .forward k) (l .nodes)
 walking-first l v a b k q e = record { link = refl; few = omega arith; same = rw (e, q); count = omega arith }
 
 module _ {l : Layout} {v : View} {a b k : ℕ} {f : Faults} {x y left : ℕ} (w : Walking l v a b k f x y left) where
@@ -100,7 +100,7 @@ module _ {l : Layout} {v : View} {a b k : ℕ} {f : Faults} {x y left : ℕ} (w 
 
   -- its identifier and its link back are compared
   pub walking-next : {i : ℕ} {g h : Faults} → isNode l y ≡ true → 0 < left → i ≡ identOf k
-      → g ≡ plus f (fault (v .ident y) y 0 i) → h ≡ plus g (fault (v .back y) y b x)
+      → g ≡ plus f (fault (v .ident y) y identWord i) → h ≡ plus g (fault (v .back y) y b x)
       → Walking l v a b k h y (v .forward y) (left - 1)
   unfolding turnFaults
   walking-next e p q r s =
@@ -117,13 +117,13 @@ module _ {l : Layout} {v : View} {a b k : ℕ} {f : Faults} {x y left : ℕ} (w 
   walking-many n e = by f e (w .same)
     where
       by : (g : Faults) → areMany g ≡ true
-          → plus g (turnFaults v a b k x (rest l v left y)) ≡ plus (fault (v .ident k) k 0 (identOf k)) (turnFaults v a b k k (walked l v k))
+          → plus g (turnFaults v a b k x (rest l v left y)) ≡ plus (fault (v .ident k) k identWord (identOf k)) (turnFaults v a b k k (walked l v k))
           → g ≡ walkFaults l v a b k n
       by F.None e s = absurd (false≢true e)
       by (F.One c g u) e s = absurd (false≢true e)
       by F.Many e s =
-          ap (λ (g : Faults). plus g (fault n k 3 (length (walked l v k)))) s
-          ∙ plus-assoc (fault (v .ident k) k 0 (identOf k)) (turnFaults v a b k k (walked l v k)) (fault n k 3 (length (walked l v k)))
+          ap (λ (g : Faults). plus g (fault n k countWord (length (walked l v k)))) s
+          ∙ plus-assoc (fault (v .ident k) k identWord (identOf k)) (turnFaults v a b k k (walked l v k)) (fault n k countWord (length (walked l v k)))
 
   -- where no node follows, or no step is left, nothing is left
   pub rest-out : isNode l y ≡ false → rest l v left y ≡ []
@@ -134,7 +134,7 @@ module _ {l : Layout} {v : View} {a b k : ℕ} {f : Faults} {x y left : ℕ} (w 
 
   -- the link onward, the header's link back and the count are compared
   pub walking-done : (n : ℕ) {g h r : Faults} → rest l v left y ≡ [] → g ≡ plus f (fault y x a k)
-      → h ≡ plus g (fault (v .back k) k b x) → r ≡ plus h (fault n k 3 (l .nodes - left)) → r ≡ walkFaults l v a b k n
+      → h ≡ plus g (fault (v .back k) k b x) → r ≡ plus h (fault n k countWord (l .nodes - left)) → r ≡ walkFaults l v a b k n
   unfolding turnFaults faultsOf walkFaults
   walking-done n e p q s =
       let m : l .nodes - left ≡ length (walked l v k) = omega (arith, w .count, ap length e) in

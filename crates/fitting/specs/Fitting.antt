@@ -7,7 +7,7 @@ use lib.ListN.{length}
 use Rattle.sequences.specs.Sequence.{trail}
 use Rattle.stores.specs.Stores.{Write, write}
 use Rattle.layout.specs.declared.Layout.{Layout}
-use Rattle.layout.specs.Words.{isNode, cellAt, identOf, cellCount, sizeOf}
+use Rattle.layout.specs.Words.{identWord, forwardWord, backWord, countWord, isNode, cellAt, identOf, cellCount, sizeOf}
 use Rattle.lists.specs.Decide.{View}
 use Rattle.fitting.specs.declared.Faults.{Faults}
 use Rattle.fitting.specs.declared.Faults.the-variants as F
@@ -37,16 +37,16 @@ unfoldable pub turnFaults : View → ℕ → ℕ → ℕ → ℕ → List ℕ �
 turnFaults v a b k x [] = plus (fault (v .forward x) x a k) (fault (v .back k) k b x)
 turnFaults v a b k x (y ∷ s) =
     plus (fault (v .forward x) x a y)
-    (plus (fault (v .ident y) y 0 (identOf k))
+    (plus (fault (v .ident y) y identWord (identOf k))
     (plus (fault (v .back y) y b x)
     (turnFaults v a b k y s)))
 
 -- all that s asks of list k, whose count is n
 unfoldable pub faultsOf : View → ℕ → ℕ → ℕ → ℕ → List ℕ → Faults
 faultsOf v a b k n s =
-    plus (fault (v .ident k) k 0 (identOf k))
+    plus (fault (v .ident k) k identWord (identOf k))
     (plus (turnFaults v a b k k s)
-    (fault n k 3 (length s)))
+    (fault n k countWord (length s)))
 
 -- the faults of what the links onward lead through
 abbrev pub walked : Layout → View → ℕ → List ℕ
@@ -63,12 +63,12 @@ turned v = record { ident = v .ident; forward = v .back; back = v .forward }
 -- two; otherwise, if both fit, they are one.
 abbrev pub twoFit : Faults → Faults → Fitted
 twoFit f F.None = G.Forward f
-twoFit f (F.One c g v) = cond (eqb g 1) G.Several (G.Forward f)
+twoFit f (F.One c g v) = cond (eqb g forwardWord) G.Several (G.Forward f)
 twoFit f F.Many = G.Forward f
 
 abbrev pub choose : Faults → Faults → Fitted
 choose F.None g = G.Forward F.None
-choose (F.One c f v) g = cond (eqb f 2) (twoFit (F.One c f v) g) (G.Forward (F.One c f v))
+choose (F.One c f v) g = cond (eqb f backWord) (twoFit (F.One c f v) g) (G.Forward (F.One c f v))
 choose F.Many F.None = G.Backward F.None
 choose F.Many (F.One c f v) = G.Backward (F.One c f v)
 choose F.Many F.Many = G.Nothing
@@ -76,11 +76,11 @@ choose F.Many F.Many = G.Nothing
 -- the first candidate alone decides: no fault, or one that is no back link
 abbrev pub decides : Faults → Bool
 decides F.None = true
-decides (F.One c f v) = not (eqb f 2)
+decides (F.One c f v) = not (eqb f backWord)
 decides F.Many = false
 
 unfoldable pub fitIn : Layout → View → ℕ → ℕ → Fitted
-fitIn l v k n = choose (walkFaults l v 1 2 k n) (walkFaults l (turned v) 2 1 k n)
+fitIn l v k n = choose (walkFaults l v forwardWord backWord k n) (walkFaults l (turned v) backWord forwardWord k n)
 
 -- the store that mends a fault
 abbrev pub mendOf : Layout → Faults → List Write
@@ -110,13 +110,13 @@ isBackward (G.Backward f) = true
 -- the number of members, by the faults and the count n: what the count holds, or is to hold
 abbrev pub lengthBy : Faults → ℕ → ℕ
 lengthBy F.None n = n
-lengthBy (F.One c f v) n = cond (eqb f 3) v n
+lengthBy (F.One c f v) n = cond (eqb f countWord) v n
 lengthBy F.Many n = n
 
 -- whether every member carries an identifier: the wrong word is none that holds 0
 abbrev pub carries : (ℕ → ℕ) → Faults → Bool
 carries ident F.None = true
-carries ident (F.One c f v) = cond (eqb f 0) (not (eqb (ident c) 0)) true
+carries ident (F.One c f v) = cond (eqb f identWord) (not (eqb (ident c) 0)) true
 carries ident F.Many = true
 
 -- the members of a list, by the walk that was chosen

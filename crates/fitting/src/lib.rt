@@ -8,6 +8,15 @@ ghost use lib.ListN.{length, getD};
 ghost use Rattle.survey.specs.Survey.{columns, Columns};
 ghost use Rattle.fitting.specs.Fitting.{plus, fault, areMany, walkFaults, decides, lengthBy, carries, choose, fitIn, numberOf, faultIn, isBackward, Each};
 
+// The words of a cell, as a fault names them.
+const IDENTIFIER: u16 = Layout::IDENTIFIER as u16;
+
+const FORWARD: u16 = Layout::FORWARD as u16;
+
+const BACK: u16 = Layout::BACK as u16;
+
+const COUNT: u16 = Layout::COUNT as u16;
+
 // The wrong words of a sequence: word f of cell c is to hold v.
 pub enum Faults {
     None,
@@ -56,7 +65,7 @@ impl Faults {
     {
         match self {
             Faults::None => true,
-            Faults::One(_, w, _) => w != 2,
+            Faults::One(_, w, _) => w != BACK,
             Faults::Many => false,
         }
     }
@@ -67,7 +76,7 @@ impl Faults {
     {
         match self {
             Faults::None => n,
-            Faults::One(_, w, v) => { if w == 3 { v } else { n } }
+            Faults::One(_, w, v) => { if w == COUNT { v } else { n } }
             Faults::Many => n,
         }
     }
@@ -79,7 +88,7 @@ impl Faults {
     {
         match self {
             Faults::None => true,
-            Faults::One(c, w, _) => w != 0 || idents[c as usize] != 0,
+            Faults::One(c, w, _) => w != IDENTIFIER || idents[c as usize] != 0,
             Faults::Many => true,
         }
     }
@@ -138,7 +147,7 @@ fn walk(
     ensures { λ r. ⌜ r ≡ walkFaults l (columns (now (idents .entry)) (now (onward .entry)) (now (back .entry))) a b k n ⌝ }
 {
     let id = Layout::ident(k);
-    let mut faults = Faults::None.and(idents[k as usize], k, 0, id);
+    let mut faults = Faults::None.and(idents[k as usize], k, IDENTIFIER, id);
     let mut x = k;
     let mut y = onward[k as usize];
     let mut left = l.nodes;
@@ -146,7 +155,7 @@ fn walk(
         if !l.is_node(y) {
             break;
         }
-        faults = faults.and(idents[y as usize], y, 0, id);
+        faults = faults.and(idents[y as usize], y, IDENTIFIER, id);
         faults = faults.and(back[y as usize], y, b, x);
         if faults.are_many() {
             return faults;
@@ -157,7 +166,7 @@ fn walk(
     }
     faults = faults.and(y, x, a, k);
     faults = faults.and(back[k as usize], k, b, x);
-    faults.and(n, k, 3, l.nodes - left)
+    faults.and(n, k, COUNT, l.nodes - left)
 }
 
 // Of the two candidates, which fit, where the first does not decide alone.
@@ -170,7 +179,7 @@ fn choice(f: Faults, g: Faults) -> Fitted
         Faults::One(_, _, _) => match g {
             Faults::None => Fitted::Forward(f),
             Faults::One(_, w, _) => {
-                if w == 1 {
+                if w == FORWARD {
                     Fitted::Several
                 } else {
                     Fitted::Forward(f)
@@ -191,9 +200,9 @@ pub fn fit(idents: &[u16], forwards: &[u16], backs: &[u16], n: u16, l: Layout, k
     requires { ⌜ Columns l (now idents) (now forwards) (now backs) × (k < l .lists) ⌝ }
     ensures { λ r. ⌜ r ≡ fitIn l (columns (now (idents .entry)) (now (forwards .entry)) (now (backs .entry))) k n ⌝ }
 {
-    let f = walk(idents, forwards, backs, n, l, k, 1, 2);
+    let f = walk(idents, forwards, backs, n, l, k, FORWARD, BACK);
     if f.decide() {
         return Fitted::Forward(f);
     }
-    choice(f, walk(idents, backs, forwards, n, l, k, 2, 1))
+    choice(f, walk(idents, backs, forwards, n, l, k, BACK, FORWARD))
 }

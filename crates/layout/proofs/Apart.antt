@@ -8,7 +8,7 @@ use native.Mathlib.Nat.{mul-le-mul-left, mul-suc}
 use lib.Dec.{ltb}
 use borrow.Author.Tests.{lt-ltb, le-ltb, ltb-true, ltb-false}
 use Rattle.layout.specs.declared.Layout.{Layout}
-use Rattle.layout.specs.Words.{headerWords, headerAt, firstNode, cellCount, nodeWords, nodeAt, cellAt, cellWords, sizeOf}
+use Rattle.layout.specs.Words.{headWords, headerWords, linkWords, headerAt, firstNode, cellCount, nodeWords, nodeAt, cellAt, cellWords, sizeOf}
 use Rattle.layout.proofs.Laws.{cell-header, cell-node, header-fits, node-fits}
 
 pub words-header : (l : Layout) (i : ℕ) → i < firstNode l → cellWords l i ≡ headerWords
@@ -71,7 +71,7 @@ words-apart l i j f g n hf hg e = by (ℕ-discrete i j)
     by (no q) = cells-apart l i j f g q hf hg e
 
 -- a cell has its links, and lies within the store
-pub links-words : (l : Layout) (i f : ℕ) → f < 3 → f < cellWords l i
+pub links-words : (l : Layout) (i f : ℕ) → f < linkWords → f < cellWords l i
 links-words l i f h = by (ltb i (firstNode l)) refl
   where
     by : (b : Bool) → ltb i (firstNode l) ≡ b → f < cellWords l i
@@ -90,10 +90,10 @@ word-fits l i f h k = by (ltb i (firstNode l)) refl
         omega (arith, words-node l i m, cell-node l i m, node-fits l i (record { low = m; high = h }))
 
 -- the cells stand behind words 0 to 7
-pub cell-behind : (l : Layout) (i : ℕ) → 8 ≤ cellAt l i
+pub cell-behind : (l : Layout) (i : ℕ) → headWords ≤ cellAt l i
 unfolding nodeAt
 cell-behind l i = by (ltb i (firstNode l)) refl
   where
-    by : (b : Bool) → ltb i (firstNode l) ≡ b → 8 ≤ cellAt l i
+    by : (b : Bool) → ltb i (firstNode l) ≡ b → headWords ≤ cellAt l i
     by true q = omega (arith, cell-header l i (ltb-true i (firstNode l) q))
     by false q = omega (arith, cell-node l i (ltb-false i (firstNode l) q))

@@ -12,7 +12,7 @@ use borrow.Author.Tests.{lt-ltb, le-ltb, le-leb, eq-eqb, ltb-true, ltb-false, le
 use Rattle.layout.specs.declared.Layout.{Layout}
 use Rattle.layout.specs.declared.Opened.{Opened}
 use Rattle.layout.specs.declared.Opened.the-variants.{Open, Refused}
-use Rattle.layout.specs.Words.{headWords, headerWords, headerAt, firstNode, cellCount, Node, isNode, nodeWords, nodeAt, cellAt, sizeOf, identOf, marked, layoutOf, InRange, between, inRange, openedBy, opened, head, emptyHeaders, formatted}
+use Rattle.layout.specs.Words.{mostLists, mostNodes, mostWidth, headWords, headerWords, linkWords, identWord, countWord, headerAt, firstNode, cellCount, Node, isNode, nodeWords, nodeAt, cellAt, sizeOf, identOf, marked, layoutOf, InRange, between, inRange, openedBy, opened, head, emptyHeaders, formatted}
 
 -- a test b that a call answered by r, where the code asked `!r`: it held, or it did not
 pub answered-no : {r b : Bool} → r ≡ b → not r ≡ true → b ≡ false
@@ -22,9 +22,9 @@ pub answered-yes : {r b : Bool} → r ≡ b → not r ≡ false → b ≡ true
 answered-yes {r} e h = sym e ∙ not-false r h
 
 -- the words of n nodes are far fewer than a `usize` can count
-pub product-fits : (p n : ℕ) → p < 65536 → n < 65536 → (3 + p) * n ≤ 65538 * 65535
+pub product-fits : (p n : ℕ) → p < 65536 → n < 65536 → (linkWords + p) * n ≤ (linkWords + 65535) * 65535
 product-fits p n hp hn =
-    let a : 3 + p ≤ 65538 = omega arith in
+    let a : linkWords + p ≤ linkWords + 65535 = omega arith in
     let b : n ≤ 65535 = omega arith in
     mul-le-mul a b
 
@@ -54,8 +54,8 @@ header-fits l k h = omega arith
 pub size-most : (l : Layout) → InRange l → sizeOf l ≤ 32040
 unfolding sizeOf
 size-most l r =
-    let a : nodeWords l ≤ 16 = omega arith in
-    let b : l .nodes ≤ 2000 = r .nodes in
+    let a : nodeWords l ≤ linkWords + mostWidth = omega arith in
+    let b : l .nodes ≤ mostNodes = r .nodes in
     omega (arith, mul-le-mul a b)
 
 -- so a word's number fits a `u16`
@@ -63,10 +63,10 @@ pub size-small : (l : Layout) → InRange l → sizeOf l ≤ 65536
 size-small l r = omega (arith, size-most l r)
 
 -- the first three words of a cell stand within the store
-pub cell-fits : (l : Layout) (i : ℕ) → InRange l → i < cellCount l → cellAt l i + 3 ≤ sizeOf l
+pub cell-fits : (l : Layout) (i : ℕ) → InRange l → i < cellCount l → cellAt l i + linkWords ≤ sizeOf l
 cell-fits l i r h = split (ltb i (firstNode l)) refl
   where
-    split : (b : Bool) → ltb i (firstNode l) ≡ b → cellAt l i + 3 ≤ sizeOf l
+    split : (b : Bool) → ltb i (firstNode l) ≡ b → cellAt l i + linkWords ≤ sizeOf l
     split true e =
         let k : i < firstNode l = ltb-true i (firstNode l) e in
         omega (arith, cell-header l i k, header-fits l i k)
@@ -97,20 +97,20 @@ between-is a b x h k = rw (le-leb a x h, le-leb x b k)
 pub in-range : (l : Layout) → inRange l ≡ true → InRange l
 unfolding inRange
 in-range l e =
-    let t = and-eq-true-iff (between 1 8 (l .lists)) (between 1 2000 (l .nodes) && between 1 13 (l .width)) .0 e in
-    let u = and-eq-true-iff (between 1 2000 (l .nodes)) (between 1 13 (l .width)) .0 (t .1) in
-    let a = is-between 1 8 (l .lists) (t .0) in
-    let b = is-between 1 2000 (l .nodes) (u .0) in
-    let c = is-between 1 13 (l .width) (u .1) in
+    let t = and-eq-true-iff (between 1 mostLists (l .lists)) (between 1 mostNodes (l .nodes) && between 1 mostWidth (l .width)) .0 e in
+    let u = and-eq-true-iff (between 1 mostNodes (l .nodes)) (between 1 mostWidth (l .width)) .0 (t .1) in
+    let a = is-between 1 mostLists (l .lists) (t .0) in
+    let b = is-between 1 mostNodes (l .nodes) (u .0) in
+    let c = is-between 1 mostWidth (l .width) (u .1) in
     record { someLists = a .0; lists = a .1; someNodes = b .0; nodes = b .1; someWidth = c .0; width = c .1 }
 
 pub range-in : (l : Layout) → InRange l → inRange l ≡ true
 unfolding inRange
 range-in l r =
     rw (
-      between-is 1 8 (l .lists) (r .someLists) (r .lists),
-      between-is 1 2000 (l .nodes) (r .someNodes) (r .nodes),
-      between-is 1 13 (l .width) (r .someWidth) (r .width),
+      between-is 1 mostLists (l .lists) (r .someLists) (r .lists),
+      between-is 1 mostNodes (l .nodes) (r .someNodes) (r .nodes),
+      between-is 1 mostWidth (l .width) (r .someWidth) (r .width),
     )
 
 -- a question that did not refuse was answered yes
@@ -145,8 +145,8 @@ open-opened w m r e =
 abbrev pub emptyHeader : ℕ → List ℕ
 emptyHeader k = identOf k ∷ k ∷ k ∷ 0 ∷ []
 
--- n headers have 4 words each
-length-headers : (k n : ℕ) → length (emptyHeaders k n) ≡ 4 * n
+-- the words of n headers
+length-headers : (k n : ℕ) → length (emptyHeaders k n) ≡ headerWords * n
 unfolding emptyHeaders
 length-headers k zero = refl
 length-headers k (suc n) = omega (arith, length-headers (suc k) n)
@@ -159,15 +159,16 @@ behind : (xs ys : List ℕ) (n j : ℕ) → n ≡ length xs + j → getD (xs ++ 
 behind xs ys n j e = rw e (getD-append-add xs ys j 0)
 
 -- word j of header b, the m-th of those from k on
-headers-at : (rest : List ℕ) (k n m b j : ℕ) → b ≡ k + m → m < n → j < 4 → getD (emptyHeaders k n ++ rest) (4 * m + j) 0 ≡ getD (emptyHeader b) j 0
+headers-at : (rest : List ℕ) (k n m b j : ℕ) → b ≡ k + m → m < n → j < headerWords
+    → getD (emptyHeaders k n ++ rest) (headerWords * m + j) 0 ≡ getD (emptyHeader b) j 0
 unfolding emptyHeaders
 headers-at rest k zero m b j e h g = absurd (omega arith)
 headers-at rest k (suc n) zero b j e h g =
     let q : k ≡ b = omega arith in
-    front (emptyHeader k) (emptyHeaders (suc k) n ++ rest) (4 * 0 + j) j (omega arith) g
+    front (emptyHeader k) (emptyHeaders (suc k) n ++ rest) (headerWords * 0 + j) j (omega arith) g
     ∙ ap (λ (x : ℕ). getD (emptyHeader x) j 0) q
 headers-at rest k (suc n) (suc m) b j e h g =
-    behind (emptyHeader k) (emptyHeaders (suc k) n ++ rest) (4 * suc m + j) (4 * m + j) (omega arith)
+    behind (emptyHeader k) (emptyHeaders (suc k) n ++ rest) (headerWords * suc m + j) (headerWords * m + j) (omega arith)
     ∙ headers-at rest (suc k) n m b j (omega arith) (omega arith) g
 
 -- every word of n zeros is 0, and so is every one past their end
@@ -195,10 +196,10 @@ length-formatted l =
     )
 
 -- what a formatted store holds: its headers
-pub formatted-header : (l : Layout) (k j : ℕ) → k < l .lists → j < 4 → getD (formatted l) (headerAt k + j) 0 ≡ getD (identOf k ∷ k ∷ k ∷ 0 ∷ []) j 0
+pub formatted-header : (l : Layout) (k j : ℕ) → k < l .lists → j < headerWords → getD (formatted l) (headerAt k + j) 0 ≡ getD (identOf k ∷ k ∷ k ∷ 0 ∷ []) j 0
 unfolding formatted
 formatted-header l k j h g =
-    behind (head l) (headersOf l ++ nodesOf l) (headerAt k + j) (4 * k + j) (omega arith)
+    behind (head l) (headersOf l ++ nodesOf l) (headerAt k + j) (headerWords * k + j) (omega arith)
     ∙ headers-at (nodesOf l) 0 (l .lists) k k j (omega arith) h g
 
 -- and 0 behind them
@@ -206,18 +207,21 @@ pub formatted-node : (l : Layout) (a : ℕ) → headWords + headerWords * l .lis
 unfolding formatted
 formatted-node l a h =
     let n : ℕ = a - (headWords + headerWords * l .lists) in
-    behind (head l) (headersOf l ++ nodesOf l) a (4 * l .lists + n) (omega arith)
-    ∙ (behind (headersOf l) (nodesOf l) (4 * l .lists + n) n (omega (arith, length-headers 0 (l .lists)))
+    behind (head l) (headersOf l ++ nodesOf l) a (headerWords * l .lists + n) (omega arith)
+    ∙ (behind (headersOf l) (nodesOf l) (headerWords * l .lists + n) n (omega (arith, length-headers 0 (l .lists)))
     ∙ zeros (nodeWords l * l .nodes) n)
 
 -- the word of a header by its place in the store
-pub formatted-at : (l : Layout) (i : ℕ) → 8 ≤ i → i - 8 < 4 * l .lists → getD (formatted l) i 0 ≡ getD (emptyHeader ((i - 8) / 4)) ((i - 8) % 4) 0
+pub formatted-at : (l : Layout) (i : ℕ) → headWords ≤ i → i - headWords < headerWords * l .lists
+    → getD (formatted l) i 0 ≡ getD (emptyHeader ((i - headWords) / headerWords)) ((i - headWords) % headerWords) 0
 formatted-at l i h g =
-    let e : i ≡ headerAt ((i - 8) / 4) + (i - 8) % 4 = omega arith in
-    ap (λ (n : ℕ). getD (formatted l) n 0) e ∙ formatted-header l ((i - 8) / 4) ((i - 8) % 4) (omega arith) (omega arith)
+    let k = (i - headWords) / headerWords in
+    let j = (i - headWords) % headerWords in
+    let e : i ≡ headerAt k + j = omega arith in
+    ap (λ (n : ℕ). getD (formatted l) n 0) e ∙ formatted-header l k j (omega arith) (omega arith)
 
 -- forward and back of an empty list lead to its header
-pub empty-link : (k j : ℕ) → j < 4 → (j ≡ 0 → ⊥) → (j ≡ 3 → ⊥) → getD (emptyHeader k) j 0 ≡ k
+pub empty-link : (k j : ℕ) → j < headerWords → (j ≡ identWord → ⊥) → (j ≡ countWord → ⊥) → getD (emptyHeader k) j 0 ≡ k
 empty-link k zero h a b = absurd (a refl)
 empty-link k (suc zero) h a b = refl
 empty-link k (suc (suc zero)) h a b = refl

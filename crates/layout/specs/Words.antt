@@ -9,6 +9,19 @@ use Rattle.layout.specs.declared.Layout.{Layout}
 use Rattle.layout.specs.declared.Opened.{Opened}
 use Rattle.layout.specs.declared.Opened.the-variants.{Open, Refused}
 
+-- the bounds of L, N and P, and the most cells
+abbrev pub mostLists : ℕ
+mostLists = 8
+
+abbrev pub mostNodes : ℕ
+mostNodes = 2000
+
+abbrev pub mostWidth : ℕ
+mostWidth = 13
+
+abbrev pub mostCells : ℕ
+mostCells = mostLists + mostNodes
+
 -- "Header k begins at word 8 + 4k: identifier, forward, back, count."
 abbrev pub headWords : ℕ
 headWords = 8
@@ -51,17 +64,30 @@ cellAt l i = cond (ltb i (firstNode l)) (headerAt i) (nodeAt l i)
 unfoldable pub cellWords : Layout → ℕ → ℕ
 cellWords l i = cond (ltb i (firstNode l)) headerWords (nodeWords l)
 
+-- which word of a cell each is: the identifier is the first
+abbrev pub identWord : ℕ
+identWord = 0
+
+abbrev pub forwardWord : ℕ
+forwardWord = 1
+
+abbrev pub backWord : ℕ
+backWord = 2
+
+abbrev pub countWord : ℕ
+countWord = 3
+
 abbrev pub identAt : Layout → ℕ → ℕ
 identAt l i = cellAt l i
 
 abbrev pub forwardAt : Layout → ℕ → ℕ
-forwardAt l i = cellAt l i + 1
+forwardAt l i = cellAt l i + forwardWord
 
 abbrev pub backAt : Layout → ℕ → ℕ
-backAt l i = cellAt l i + 2
+backAt l i = cellAt l i + backWord
 
 abbrev pub countAt : ℕ → ℕ
-countAt k = headerAt k + 3
+countAt k = headerAt k + countWord
 
 abbrev pub recordAt : Layout → ℕ → ℕ
 recordAt l i = nodeAt l i + linkWords
@@ -86,17 +112,17 @@ layoutOf w = record { lists = getD w 4 0; nodes = getD w 5 0; width = getD w 6 0
 
 pub record InRange (l : Layout) : Type 0 where
   pub someLists : 1 ≤ l .lists
-  pub lists : l .lists ≤ 8
+  pub lists : l .lists ≤ mostLists
   pub someNodes : 1 ≤ l .nodes
-  pub nodes : l .nodes ≤ 2000
+  pub nodes : l .nodes ≤ mostNodes
   pub someWidth : 1 ≤ l .width
-  pub width : l .width ≤ 13
+  pub width : l .width ≤ mostWidth
 
 abbrev pub between : ℕ → ℕ → ℕ → Bool
 between a b x = leb a x && leb x b
 
 unfoldable pub inRange : Layout → Bool
-inRange l = between 1 8 (l .lists) && (between 1 2000 (l .nodes) && between 1 13 (l .width))
+inRange l = between 1 mostLists (l .lists) && (between 1 mostNodes (l .nodes) && between 1 mostWidth (l .width))
 
 -- a question: on yes what follows, on no its refusal
 abbrev pub ask {ℓ} : {A : Type ℓ} → Bool → A → A → A

@@ -8,7 +8,7 @@
 ghost use mathlib.Core.Path.{_≡_};
 ghost use Prim.Native.Nat.{_+_, _*_, _-_, _<_, _≤_};
 ghost use lib.ListN.{getD};
-ghost use Rattle.layout.specs.Words.{firstNode, cellCount, isNode, headerAt, nodeAt, cellAt, sizeOf, identOf, between, inRange, InRange, marked, openedBy, opened, formatted};
+ghost use Rattle.layout.specs.Words.{mostLists, headWords, firstNode, cellCount, isNode, headerAt, nodeAt, cellAt, sizeOf, identOf, between, inRange, InRange, marked, openedBy, opened, formatted};
 
 // L, N and P of a store.
 pub struct Layout {
@@ -24,7 +24,7 @@ pub enum Opened {
 }
 
 impl Layout {
-    // Words 0 to 3 and 7.
+    // Words 0 to 2, the version in word 3, and word 7.
     pub const MARK_0: u16 = 82;
 
     pub const MARK_1: u16 = 66;
@@ -35,12 +35,25 @@ impl Layout {
 
     pub const SPARE: u16 = 0;
 
-    // The largest L, N and P; the least of each is 1.
-    pub const MAX_LISTS: u16 = 8;
+    // Where the version, L, N, P and the spare word stand.
+    pub const VERSION_AT: usize = 3;
 
-    pub const MAX_NODES: u16 = 2000;
+    pub const LISTS_AT: usize = 4;
 
-    pub const MAX_WIDTH: u16 = 13;
+    pub const NODES_AT: usize = 5;
+
+    pub const WIDTH_AT: usize = 6;
+
+    pub const SPARE_AT: usize = 7;
+
+    // The largest L, N and P, the least of each is 1; and the most cells.
+    pub const MAX_LISTS: usize = 8;
+
+    pub const MAX_NODES: usize = 2000;
+
+    pub const MAX_WIDTH: usize = 13;
+
+    pub const MAX_CELLS: usize = Layout::MAX_LISTS + Layout::MAX_NODES;
 
     // The words in front of the headers, of a header, and of a cell in front of a node's record.
     pub const HEAD_WORDS: usize = 8;
@@ -49,7 +62,14 @@ impl Layout {
 
     pub const LINK_WORDS: usize = 3;
 
-    // The words of a cell: the identifier is the first.
+    // The most words of a store.
+    pub const MAX_WORDS: usize = Layout::HEAD_WORDS
+        + Layout::HEADER_WORDS * Layout::MAX_LISTS
+        + (Layout::LINK_WORDS + Layout::MAX_WIDTH) * Layout::MAX_NODES;
+
+    // The words of a cell.
+    pub const IDENTIFIER: usize = 0;
+
     pub const FORWARD: usize = 1;
 
     pub const BACK: usize = 2;
@@ -58,9 +78,6 @@ impl Layout {
 
     // The identifier of list 0.
     pub const IDENT: u16 = 42400;
-
-    // The most cells that a store has.
-    pub const MAX_CELLS: usize = 2008;
 
     // Are L, N and P in range?
     pub fn in_range(self) -> bool
@@ -103,7 +120,7 @@ impl Layout {
 
     // The identifier of list k.
     pub fn ident(k: u16) -> u16
-        requires { ⌜ k ≤ 8 ⌝ }
+        requires { ⌜ k ≤ mostLists ⌝ }
         ensures { λ r. ⌜ r ≡ identOf k ⌝ }
     {
         Layout::IDENT + k
@@ -149,17 +166,17 @@ impl Layout {
 
     // Word i of the first eight.
     fn head_word(self, i: usize) -> u16
-        requires { ⌜ i < 8 ⌝ }
+        requires { ⌜ i < headWords ⌝ }
         ensures { λ r. ⌜ r ≡ getD (formatted self) i 0 ⌝ }
     {
         match i {
             0 => Layout::MARK_0,
             1 => Layout::MARK_1,
             2 => Layout::MARK_2,
-            3 => Layout::VERSION,
-            4 => self.lists,
-            5 => self.nodes,
-            6 => self.width,
+            Layout::VERSION_AT => Layout::VERSION,
+            Layout::LISTS_AT => self.lists,
+            Layout::NODES_AT => self.nodes,
+            Layout::WIDTH_AT => self.width,
             _ => Layout::SPARE,
         }
     }
@@ -179,25 +196,25 @@ impl Layout {
         let k = (at / Layout::HEADER_WORDS) as u16;
         let field = at % Layout::HEADER_WORDS;
         match field {
-            0 => Layout::ident(k),
-            3 => 0,
+            Layout::IDENTIFIER => Layout::ident(k),
+            Layout::COUNT => 0,
             _ => k,
         }
     }
 }
 
 // Is x at least 1 and at most max?
-fn within(x: u16, max: u16) -> bool
+fn within(x: u16, max: usize) -> bool
     ensures { λ r. ⌜ r ≡ between 1 max x ⌝ }
 {
     if x < 1 {
         return false;
     }
-    x <= max
+    x as usize <= max
 }
 
 // Do words 0 to 3 and 7 stand as laid out?
-fn is_marked(head: [u16; 8]) -> bool
+fn is_marked(head: [u16; Layout::HEAD_WORDS]) -> bool
     ensures { λ r. ⌜ r ≡ marked head ⌝ }
 {
     if head[0] != Layout::MARK_0 {
@@ -209,14 +226,14 @@ fn is_marked(head: [u16; 8]) -> bool
     if head[2] != Layout::MARK_2 {
         return false;
     }
-    if head[3] != Layout::VERSION {
+    if head[Layout::VERSION_AT] != Layout::VERSION {
         return false;
     }
-    head[7] == Layout::SPARE
+    head[Layout::SPARE_AT] == Layout::SPARE
 }
 
 // Questions 1 to 4 of a store of n words that begins with the words of head.
-pub fn open_with(n: usize, head: [u16; 8]) -> Opened
+pub fn open_with(n: usize, head: [u16; Layout::HEAD_WORDS]) -> Opened
     ensures { λ r. ⌜ r ≡ openedBy n head ⌝ }
 {
     if n < Layout::HEAD_WORDS {
@@ -226,9 +243,9 @@ pub fn open_with(n: usize, head: [u16; 8]) -> Opened
         return Opened::Refused(2);
     }
     let l = Layout {
-        lists: head[4],
-        nodes: head[5],
-        width: head[6],
+        lists: head[Layout::LISTS_AT],
+        nodes: head[Layout::NODES_AT],
+        width: head[Layout::WIDTH_AT],
     };
     if !l.in_range() {
         return Opened::Refused(3);

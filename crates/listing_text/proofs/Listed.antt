@@ -12,7 +12,7 @@ use borrow.Author.Tests.{le-leb, lt-leb, eq-eqb, ne-eqb, eqb-true}
 use Rattle.sequences.proofs.Trail.{trail-length}
 use Rattle.layout.specs.declared.Layout.{Layout}
 use Rattle.layout.specs.declared.Opened.the-variants as O
-use Rattle.layout.specs.Words.{ask, InRange, firstNode, isNode, recordAt, opened}
+use Rattle.layout.specs.Words.{mostWidth, ask, InRange, firstNode, isNode, recordAt, opened}
 use Rattle.lists.specs.Decide.{View, viewOf, countIn, sequenceIn, soundIn, allHold, members, used, soundOf}
 use Rattle.survey.specs.Survey.{columns, Loaded}
 use Rattle.survey.proofs.Laws.{loaded-view, sound-loaded, before-cell, members-more, used-length}
@@ -20,7 +20,7 @@ use Rattle.requests.specs.Requests.{siteIn, lookOf}
 use Rattle.edits.specs.Edited.{recordIn}
 use Rattle.byte_form.specs.Bytes.{wordsIn}
 use Rattle.writing.specs.Text.{codes, decimal, overwritten, Wrote, Room, spaced}
-use Rattle.listing_text.specs.Listing.{recordLine, recordLines, listLine, listLines, listsFrom, refusedLine, soundLines, listedBy, listedOf, listingOf, byteListing, longest}
+use Rattle.listing_text.specs.Listing.{recordLine, recordLines, listLine, listLines, listsFrom, refusedLine, soundLines, listedBy, listedOf, listingOf, mostBytes, byteListing, longest}
 use Rattle.writing.proofs.Writing.{decimal-short, wrote-over}
 
 -- the cases of a listing
@@ -70,7 +70,7 @@ spaced-short (x ∷ row) h =
     )
 
 -- a line of a record, of a list, and of a refusal
-record-short : (p c : ℕ) (rec : List ℕ) → p < 65536 → c < 65536 → Small rec → length rec ≤ 13 → length (recordLine p c rec) ≤ 90
+record-short : (p c : ℕ) (rec : List ℕ) → p < 65536 → c < 65536 → Small rec → length rec ≤ mostWidth → length (recordLine p c rec) ≤ 90
 unfolding recordLine spaced
 record-short p c rec hp hc hr hn =
     omega (
@@ -181,14 +181,14 @@ module _ (l : Layout) (w : List ℕ) (r : InRange l) (small : (i : ℕ) → getD
 
 -- the cases of a listing of bytes
 module _ (bytes : List ℕ) where
-  pub bytes-long : 64080 < length bytes → byteListing bytes ≡ refusedLine 4
+  pub bytes-long : mostBytes < length bytes → byteListing bytes ≡ refusedLine 4
   unfolding byteListing
-  bytes-long h = rw (lt-leb (length bytes) 64080 h)
+  bytes-long h = rw (lt-leb (length bytes) mostBytes h)
 
-  pub bytes-odd : length bytes ≤ 64080 → (length bytes % 2 ≡ 0 → ⊥) → byteListing bytes ≡ refusedLine 4
+  pub bytes-odd : length bytes ≤ mostBytes → (length bytes % 2 ≡ 0 → ⊥) → byteListing bytes ≡ refusedLine 4
   unfolding byteListing
-  bytes-odd h e = rw (le-leb (length bytes) 64080 h, ne-eqb (length bytes % 2) 0 e)
+  bytes-odd h e = rw (le-leb (length bytes) mostBytes h, ne-eqb (length bytes % 2) 0 e)
 
-  pub bytes-even : length bytes ≤ 64080 → length bytes % 2 ≡ 0 → byteListing bytes ≡ listingOf (wordsIn bytes)
+  pub bytes-even : length bytes ≤ mostBytes → length bytes % 2 ≡ 0 → byteListing bytes ≡ listingOf (wordsIn bytes)
   unfolding byteListing
-  bytes-even h e = rw (le-leb (length bytes) 64080 h, eq-eqb (length bytes % 2) 0 e)
+  bytes-even h e = rw (le-leb (length bytes) mostBytes h, eq-eqb (length bytes % 2) 0 e)

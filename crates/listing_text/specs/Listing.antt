@@ -4,7 +4,7 @@ use mathlib.Core.List.{List, [], _∷_, _++_}
 use lib.Dec.{eqb, leb}
 use lib.ListN.{length, getD}
 use Rattle.layout.specs.declared.Layout.{Layout}
-use Rattle.layout.specs.Words.{ask}
+use Rattle.layout.specs.Words.{mostLists, mostNodes, ask}
 use Rattle.lists.specs.Decide.{View, viewOf, countIn, sequenceIn, soundIn, sequenceOf}
 use Rattle.requests.specs.declared.Request.the-variants.{Check}
 use Rattle.requests.specs.Requests.{lookOf, withLook, Closed}
@@ -66,7 +66,7 @@ listedOf l w = listedBy l w (viewOf l w) (countIn w)
 
 -- no listing is longer: 8 lines of at most 23 characters, 2,000 of at most 90, and one of 6
 abbrev pub longest : ℕ
-longest = 8 * 23 + 2000 * 90 + 6
+longest = mostLists * 23 + mostNodes * 90 + 6
 
 -- a forward column in which the links of each list lead round as many members as it counts
 abbrev pub AllClosed : Layout → List ℕ → List ℕ → Type 0

@@ -15,17 +15,11 @@ ghost use Rattle.writing.specs.Text.{overwritten, Wrote, Room};
 ghost use Rattle.byte_form.specs.Bytes.{wordsIn};
 ghost use Rattle.listing_text.specs.Listing.{recordLine, recordLines, listLine, listLines, listsFrom, refusedLine, listedBy, listedOf, listingOf, mostBytes, byteListing, longest, AllClosed};
 
-// The most words and bytes of a store.
-pub const MAX_WORDS: usize = Layout::HEAD_WORDS
-    + Layout::HEADER_WORDS * (Layout::MAX_LISTS as usize)
-    + (Layout::LINK_WORDS + Layout::MAX_WIDTH as usize) * (Layout::MAX_NODES as usize);
-
-pub const MAX_BYTES: usize = 2 * MAX_WORDS;
+// The most bytes of a store.
+pub const MAX_BYTES: usize = 2 * Layout::MAX_WORDS;
 
 // The most bytes of a listing: a line for each list and each record, and the last.
-pub const LONGEST: usize = 23 * (Layout::MAX_LISTS as usize)
-    + 90 * (Layout::MAX_NODES as usize)
-    + 6;
+pub const LONGEST: usize = 23 * Layout::MAX_LISTS + 90 * Layout::MAX_NODES + 6;
 
 // The line of the record at position p, in cell c.
 fn record_line(out: &mut [u8], n: usize, p: u16, c: u16, rec: &[u16]) -> usize
@@ -114,7 +108,7 @@ fn all_lists(
     n: usize,
     words: &[u16],
     forwards: &[u16],
-    counts: [u16; 8],
+    counts: [u16; Layout::MAX_LISTS],
     l: Layout,
 ) -> usize
     requires { ⌜ Laid l (now words) × AllClosed l (now forwards) counts × Room n (listsFrom l (now words) (sequenceBy l (now forwards)) 0 (l .lists)) ⌝ }
@@ -136,7 +130,7 @@ fn listing_by(
     idents: &[u16],
     forwards: &[u16],
     backs: &[u16],
-    counts: [u16; 8],
+    counts: [u16; Layout::MAX_LISTS],
     l: Layout,
 ) -> usize
     requires { ⌜ Laid l (now words) × Columns l (now idents) (now forwards) (now backs) × Room 0 (listedBy l (now words) (columns (now idents) (now forwards) (now backs)) (λ k. getD counts k 0)) ⌝ }
@@ -228,10 +222,10 @@ fn listing_through(bytes: &[u8], words: &mut [u16], out: &mut [u8]) -> usize
 }
 
 // Room for the words of any store.
-fn most_words() -> [u16; MAX_WORDS]
+fn most_words() -> [u16; Layout::MAX_WORDS]
     ensures { λ r. ⌜ mostBytes ≡ 2 * length r ⌝ }
 {
-    [0; MAX_WORDS]
+    [0; Layout::MAX_WORDS]
 }
 
 // The listing of a store in byte form.

@@ -7,13 +7,13 @@ use native.Mathlib.Nat.{add-zero}
 use lib.ListN.{getD}
 use Rattle.sequences.specs.Sequence.{steps}
 use Rattle.layout.specs.declared.Layout.{Layout}
-use Rattle.layout.specs.Words.{headWords, headerWords, nodeAt, cellAt, InRange, marked, layoutOf, identOf, formatted}
+use Rattle.layout.specs.Words.{headWords, headerWords, forwardWord, backWord, countWord, nodeAt, cellAt, InRange, marked, layoutOf, identOf, formatted}
 use Rattle.layout.proofs.Laws.{cell-header, cell-node, length-formatted, formatted-header, formatted-node}
 use Rattle.lists.specs.Lists.{IsList, SoundLists, Sound}
 use Rattle.lists.proofs.Agree.{holds-agrees}
 
 -- word j of a cell that is a header
-header-word : (l : Layout) (k j : ℕ) → k < l .lists → j < 4 → getD (formatted l) (cellAt l k + j) 0 ≡ getD (identOf k ∷ k ∷ k ∷ 0 ∷ []) j 0
+header-word : (l : Layout) (k j : ℕ) → k < l .lists → j < headerWords → getD (formatted l) (cellAt l k + j) 0 ≡ getD (identOf k ∷ k ∷ k ∷ 0 ∷ []) j 0
 header-word l k j h g = rw (cell-header l k h) (formatted-header l k j h g)
 
 pub formatted-list : (l : Layout) (k : ℕ) → k < l .lists → IsList l (formatted l) k []
@@ -28,10 +28,10 @@ formatted-list l k h =
             turn =
                 record {
                   idents = tt;
-                  forwards = (header-word l k 1 h (omega arith), tt);
-                  backs = (header-word l k 2 h (omega arith), tt);
+                  forwards = (header-word l k forwardWord h (omega arith), tt);
+                  backs = (header-word l k backWord h (omega arith), tt);
                 };
-            count = formatted-header l k 3 h (omega arith);
+            count = formatted-header l k countWord h (omega arith);
           });
     }
 

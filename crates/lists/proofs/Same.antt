@@ -9,7 +9,7 @@ use Rattle.sequences.specs.Sequence.{_∈_, All, Different}
 use Rattle.sequences.proofs.Members.{all-in, in-all, different-append, in-front}
 use Rattle.sequences.proofs.Splice.{forward-same, backward-same}
 use Rattle.layout.specs.declared.Layout.{Layout}
-use Rattle.layout.specs.Words.{cellCount, Node, InRange, marked, layoutOf, sizeOf, openedBy, opened, cellAt, identAt, countAt, identOf}
+use Rattle.layout.specs.Words.{headWords, forwardWord, backWord, countWord, cellCount, Node, InRange, marked, layoutOf, sizeOf, openedBy, opened, cellAt, identAt, countAt, identOf}
 use Rattle.layout.proofs.Laws.{cell-header}
 use Rattle.layout.proofs.Apart.{links-words, words-header}
 use Rattle.lists.specs.Lists.{IsList, SoundLists, Sound, SameCells}
@@ -21,8 +21,8 @@ use Rattle.lists.proofs.Unique.{member-ident}
 pub ident-word : (l : Layout) (i : ℕ) → identAt l i ≡ cellAt l i + 0
 ident-word l i = sym (add-zero (cellAt l i))
 
-pub count-word : (l : Layout) (k : ℕ) → k < l .lists → countAt k ≡ cellAt l k + 3
-count-word l k h = ap (λ (a : ℕ). a + 3) (sym (cell-header l k h))
+pub count-word : (l : Layout) (k : ℕ) → k < l .lists → countAt k ≡ cellAt l k + countWord
+count-word l k h = ap (λ (a : ℕ). a + countWord) (sym (cell-header l k h))
 
 -- a list's header is none of its nodes
 pub header-apart : (l : Layout) (k : ℕ) (s : List ℕ) → k < l .lists → All (Node l) s → k ∈ s → ⊥
@@ -64,14 +64,14 @@ module _ (l : Layout) (w : List ℕ) (k : ℕ) (h : k < l .lists) (s : List ℕ)
                         (λ x m. ident x (List·Memᴰ·tail m) ∙ all-in (λ c. getD w (identAt l c) 0 ≡ identOf k) s (a .turn .idents) m);
                     forwards =
                         forward-same (viewOf l w .forward) (viewOf l w′ .forward) k s k
-                        (λ y m. q y 1 m (links-words l y 1 (omega arith))) (a .turn .forwards);
+                        (λ y m. q y forwardWord m (links-words l y forwardWord (omega arith))) (a .turn .forwards);
                     backs =
                         backward-same (viewOf l w .back) (viewOf l w′ .back) k s k
-                        (λ y m. q y 2 (in-front k s m) (links-words l y 2 (omega arith))) (a .turn .backs);
+                        (λ y m. q y backWord (in-front k s m) (links-words l y backWord (omega arith))) (a .turn .backs);
                   };
               count =
                   ap (λ (n : ℕ). getD w′ n 0) (count-word l k h)
-                  ∙ q k 3 (List·Memᴰ·head refl) (omega (arith, words-header l k h))
+                  ∙ q k countWord (List·Memᴰ·head refl) (omega (arith, words-header l k h))
                   ∙ ap (λ (n : ℕ). getD w n 0) (sym (count-word l k h))
                   ∙ a .count;
             });
@@ -93,28 +93,28 @@ lists-apart l w j k s t hj hk n i i′ x y (List·Memᴰ·head e) (List·Memᴰ�
 lists-apart l w j k s t hj hk n i i′ x y (List·Memᴰ·tail m) (List·Memᴰ·head e) q =
     omega (arith, all-in (Node l) s (i .nodes) m .low)
 lists-apart l w j k s t hj hk n i i′ x y (List·Memᴰ·tail m) (List·Memᴰ·tail m′) q =
-    let e : 42400 + j ≡ 42400 + k =
+    let e : identOf j ≡ identOf k =
     sym (member-ident l w j s x i m) ∙ ap (λ (c : ℕ). getD w (identAt l c) 0) q ∙ member-ident l w k t y i′ m′ in
     n (omega arith)
 
 -- words that have the same first eight have the same mark and layout
-pub same-marked : (w w′ : List ℕ) → ((a : ℕ) → a < 8 → getD w′ a 0 ≡ getD w a 0) → marked w′ ≡ marked w
+pub same-marked : (w w′ : List ℕ) → ((a : ℕ) → a < headWords → getD w′ a 0 ≡ getD w a 0) → marked w′ ≡ marked w
 unfolding marked
 same-marked w w′ h =
     rw (h 0 (omega arith), h 1 (omega arith), h 2 (omega arith), h 3 (omega arith), h 7 (omega arith))
 
-pub same-layout : (w w′ : List ℕ) → ((a : ℕ) → a < 8 → getD w′ a 0 ≡ getD w a 0) → layoutOf w′ ≡ layoutOf w
+pub same-layout : (w w′ : List ℕ) → ((a : ℕ) → a < headWords → getD w′ a 0 ≡ getD w a 0) → layoutOf w′ ≡ layoutOf w
 same-layout w w′ h =
     λ i. record { lists = h 4 (omega arith) i; nodes = h 5 (omega arith) i; width = h 6 (omega arith) i }
 
 -- and, if they are as many, are opened alike
-pub same-opened : (w w′ : List ℕ) → ((a : ℕ) → a < 8 → getD w′ a 0 ≡ getD w a 0) → length w′ ≡ length w → opened w′ ≡ opened w
+pub same-opened : (w w′ : List ℕ) → ((a : ℕ) → a < headWords → getD w′ a 0 ≡ getD w a 0) → length w′ ≡ length w → opened w′ ≡ opened w
 unfolding openedBy
 same-opened w w′ h e = rw (same-marked w w′ h, same-layout w w′ h, e)
 
 -- sound words, other words with the same first eight and the same length, and sound lists there: these are sound too
 pub same-sound
-    : (w w′ : List ℕ) → Sound w → ((a : ℕ) → a < 8 → getD w′ a 0 ≡ getD w a 0) → length w′ ≡ length w
+    : (w w′ : List ℕ) → Sound w → ((a : ℕ) → a < headWords → getD w′ a 0 ≡ getD w a 0) → length w′ ≡ length w
     → (x : SoundLists (layoutOf w) w′) → (y : Sound w′) × (y .lists .sequence ≡ x .sequence)
 same-sound w w′ s h e x = (
   record {

@@ -77,5 +77,5 @@ member-ident l w k s x i m = all-in (λ c. getD w (identAt l c) 0 ≡ identOf k)
 pub lists-disjoint
     : (l : Layout) (w : List ℕ) (j k : ℕ) (s t : List ℕ) (x : ℕ) → IsList l w j s → IsList l w k t → x ∈ s → x ∈ t → j ≡ k
 lists-disjoint l w j k s t x i i′ m m′ =
-    let e : 42400 + j ≡ 42400 + k = sym (member-ident l w j s x i m) ∙ member-ident l w k t x i′ m′ in
+    let e : identOf j ≡ identOf k = sym (member-ident l w j s x i m) ∙ member-ident l w k t x i′ m′ in
     omega arith

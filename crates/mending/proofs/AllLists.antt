@@ -12,7 +12,7 @@ use borrow.Author.Tests.{eq-eqb, ne-eqb}
 use Rattle.stores.specs.declared.Rows.{Rows}
 use Rattle.stores.specs.Stores.{writesIn, Held}
 use Rattle.layout.specs.declared.Layout.{Layout}
-use Rattle.layout.specs.Words.{InRange, sizeOf}
+use Rattle.layout.specs.Words.{mostLists, InRange, sizeOf}
 use Rattle.lists.specs.Decide.{View}
 use Rattle.fitting.specs.declared.Faults.{Faults}
 use Rattle.fitting.specs.declared.Faults.the-variants as F
@@ -44,12 +44,12 @@ pub record Found (l : Layout) (v : View) (count : ℕ → ℕ) (m : ℕ) (a : Bo
   pub mends : writesIn rows ++ mendsIn l v count k (l .lists - k) ≡ mendsIn l v count 0 (l .lists)
   pub held : Held (sizeOf l) rows (writesIn rows)
   pub few : rows .len ≤ k
-  pub size : length back ≡ 8
+  pub size : length back ≡ mostLists
   pub ways : (j : ℕ) → j < k → getD back j false ≡ isBackward (fitIn l v j (count j))
 
 module _ (l : Layout) (r : InRange l) (v : View) (count : ℕ → ℕ) where
   -- before list 0
-  pub found-none : (back : List Bool) (rows : Rows) → length back ≡ 8 → Held (sizeOf l) rows [] → Found l v count 0 true back rows 0
+  pub found-none : (back : List Bool) (rows : Rows) → length back ≡ mostLists → Held (sizeOf l) rows [] → Found l v count 0 true back rows 0
   unfolding total
   found-none back rows e h =
       let z : l .lists - 0 ≡ l .lists = omega arith in

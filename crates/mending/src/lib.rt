@@ -30,7 +30,7 @@ pub struct Mends {
     pub refusal: u16,
     pub members: u32,
     pub carried: bool,
-    pub back: [bool; 8],
+    pub back: [bool; Layout::MAX_LISTS],
     pub rows: Rows,
 }
 
@@ -65,13 +65,19 @@ fn mend_of(l: Layout, f: Faults) -> Mend
 }
 
 // The mends of all lists, from list 0 on: does a sequence fit, and only one?
-fn all_mends(idents: &[u16], forwards: &[u16], backs: &[u16], counts: [u16; 8], l: Layout) -> Mends
+fn all_mends(
+    idents: &[u16],
+    forwards: &[u16],
+    backs: &[u16],
+    counts: [u16; Layout::MAX_LISTS],
+    l: Layout,
+) -> Mends
     requires { ⌜ Columns l (now idents) (now forwards) (now backs) ⌝ }
     ensures { λ r. ⌜ MendsOf l (columns (now (idents .entry)) (now (forwards .entry)) (now (backs .entry))) (λ k. getD counts k 0) r ⌝ }
 {
     let mut members: u32 = 0;
     let mut carried = true;
-    let mut back = [false; 8];
+    let mut back = [false; Layout::MAX_LISTS];
     let mut at = [0u16; Rows::MOST];
     let mut values = [0u16; Rows::MOST];
     let mut len: usize = 0;
@@ -126,7 +132,13 @@ fn erase(idents: &mut [u16], links: &[u16], l: Layout, k: u16)
 }
 
 // The identifiers with 0 at every member of every list, each by the links that it goes by.
-fn erase_all(idents: &mut [u16], forwards: &[u16], backs: &[u16], back: [bool; 8], l: Layout)
+fn erase_all(
+    idents: &mut [u16],
+    forwards: &[u16],
+    backs: &[u16],
+    back: [bool; Layout::MAX_LISTS],
+    l: Layout,
+)
     requires { ⌜ Columns l (now idents) (now forwards) (now backs) ⌝ }
     ensures { λ _. ⌜ now (idents .exit) ≡ erasedFrom l (columns (now (idents .entry)) (now (forwards .entry)) (now (backs .entry))) (λ k. getD back k false) 0 (l .lists) (now (idents .entry)) ⌝ }
 {
@@ -190,7 +202,7 @@ pub fn plan(
     idents: &mut [u16],
     forwards: &mut [u16],
     backs: &mut [u16],
-    counts: [u16; 8],
+    counts: [u16; Layout::MAX_LISTS],
     l: Layout,
 ) -> Finding
     requires { ⌜ Columns l (now idents) (now forwards) (now backs) ⌝ }

@@ -14,7 +14,7 @@ use borrow.Author.Tests.{lt-ltb, le-ltb}
 use Rattle.layout.specs.declared.Layout.{Layout}
 use Rattle.layout.specs.declared.Opened.{Opened}
 use Rattle.layout.specs.declared.Opened.the-variants as O
-use Rattle.layout.specs.Words.{layoutOf, opened}
+use Rattle.layout.specs.Words.{mostNodes, layoutOf, opened}
 use Rattle.lists.specs.Lists.{Sound}
 use Rattle.lists.specs.Decide.{soundOf, sequenceOf}
 use Rattle.lists.proofs.Unique.{nodes-few, list-sequence}
@@ -65,7 +65,7 @@ module _ (w : List ℕ) (s : Sound w) (k : ℕ) (h : k < layoutOf w .lists) wher
   abbrev recordOf : ℕ → List ℕ
   recordOf = recordIn (layoutOf w) w
 
-  few : length members ≤ 2000
+  few : length members ≤ mostNodes
   few =
       let i = s .lists .lists k h in
       omega (arith, nodes-few (layoutOf w) members (i .nodes) (i .different), s .inRange .nodes)

@@ -145,7 +145,7 @@ pub fn site_by(
     idents: &[u16],
     forwards: &[u16],
     backs: &[u16],
-    counts: [u16; 8],
+    counts: [u16; Layout::MAX_LISTS],
     l: Layout,
     q: Request,
 ) -> Sited

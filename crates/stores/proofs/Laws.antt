@@ -16,7 +16,7 @@ use Rattle.sequences.specs.Sequence.{All}
 use Rattle.sequences.proofs.Members.{all-in, all-append, all-nth}
 use Rattle.stores.specs.declared.Answer.the-variants as A
 use Rattle.stores.specs.declared.Rows.{Rows}
-use Rattle.stores.specs.Stores.{Write, write, store, run, applied, Spares, Plan, refuse, stores, answerOf, answerNumber, answerStores, planNumber, madeBy, writesOf, inRow, noRows, Planned, Held}
+use Rattle.stores.specs.Stores.{Write, write, store, run, applied, Spares, Plan, refuse, stores, answerOf, answerNumber, answerStores, planNumber, madeBy, writesOf, inRow, mostRows, noRows, Planned, Held}
 
 -- stores in a row one after the other
 pub run-append : (ps qs : List Write) (w : List ℕ) → run (ps ++ qs) w ≡ run qs (run ps w)
@@ -173,7 +173,7 @@ unfolding writesOf
 held-none n = record { at = refl; values = refl; len = refl; few = omega arith; same = refl; inside = tt }
 
 pub held-more
-    : (n : ℕ) (at vs : List ℕ) (len a v : ℕ) (ps : List Write) → len < 19 → Held n (record { at = at; values = vs; len = len }) ps → a < n
+    : (n : ℕ) (at vs : List ℕ) (len a v : ℕ) (ps : List Write) → len < mostRows → Held n (record { at = at; values = vs; len = len }) ps → a < n
     → Held n (record { at = set at len a; values = set vs len v; len = len + 1 }) (ps ++ write a v ∷ [])
 held-more n at vs len a v ps few h g =
     record {
@@ -199,7 +199,7 @@ take-set (x ∷ xs) (suc i) v = ap (λ (t : List ℕ). x ∷ t) (take-set xs i v
 
 -- one store more, or none
 pub held-maybe
-    : (n : ℕ) (at vs : List ℕ) (len a v m : ℕ) (ps qs : List Write) → len < 19 → Held n (record { at = at; values = vs; len = len }) ps
+    : (n : ℕ) (at vs : List ℕ) (len a v m : ℕ) (ps qs : List Write) → len < mostRows → Held n (record { at = at; values = vs; len = len }) ps
     → m ≤ 1 → take m (write a v ∷ []) ≡ qs → All (λ (p : Write). p .at < n) qs
     → Held n (record { at = set at len a; values = set vs len v; len = len + m }) (ps ++ qs)
 held-maybe n at vs len a v zero ps qs few h one e i =

@@ -6,6 +6,7 @@ use mathlib.Core.Bool.{cond}
 use lib.Dec.{ltb}
 use lib.ListN.{length, getD, set, take, replicate}
 use Rattle.sequences.specs.Sequence.{All}
+use Rattle.layout.specs.Words.{mostWidth}
 use Rattle.stores.specs.declared.Answer.{Answer}
 use Rattle.stores.specs.declared.Rows.{Rows}
 use Rattle.stores.specs.declared.Answer.the-variants as A
@@ -92,19 +93,22 @@ pub record Planned (n : ℕ) (at values : List ℕ) : Type 0 where
   pub rows : length at ≡ length values
   pub inside : (i : ℕ) → i < length at → getD at i 0 < n
 
--- a short list of stores, kept in two arrays of 19 words
+-- a short list of stores, kept in two arrays: "P + 6 stores" of the longest record have room
+abbrev pub mostRows : ℕ
+mostRows = mostWidth + 6
+
 abbrev pub writesIn : Rows → List Write
 writesIn r = writesOf (take (r .len) (r .at)) (take (r .len) (r .values))
 
 -- no store
 abbrev pub noRows : Rows
-noRows = record { at = replicate 19 0; values = replicate 19 0; len = 0 }
+noRows = record { at = replicate mostRows 0; values = replicate mostRows 0; len = 0 }
 
 -- the stores ps are in the rows, and go to words below n
 pub record Held (n : ℕ) (r : Rows) (ps : List Write) : Type 0 where
-  pub at : length (r .at) ≡ 19
-  pub values : length (r .values) ≡ 19
+  pub at : length (r .at) ≡ mostRows
+  pub values : length (r .values) ≡ mostRows
   pub len : r .len ≡ length ps
-  pub few : length ps ≤ 19
+  pub few : length ps ≤ mostRows
   pub same : writesIn r ≡ ps
   pub inside : All (λ (p : Write). p .at < n) ps

@@ -1,6 +1,7 @@
 // Word stores under an allowance. A call that changes a store is planned whole before its first store; the plan is a row of
 // addresses and a row of values. A step makes one of the stores; a run makes the first of them, up to the allowance, so what a
 // cut leaves is what a smaller allowance leaves.
+use layout::Layout;
 ghost use mathlib.Core.Path.{_≡_};
 ghost use Prim.Native.Nat.{_+_, _<_};
 ghost use lib.ListN.{length, getD};
@@ -64,7 +65,7 @@ pub fn run(words: &mut [u16], at: &[u16], values: &[u16], allowance: u16) -> Ans
     Answer::Done(i)
 }
 
-// A short list of stores: at most 19, as many as an insert of the longest record makes.
+// A short list of stores: at most as many as an insert of the longest record makes.
 pub struct Rows {
     pub at: [u16; Rows::MOST],
     pub values: [u16; Rows::MOST],
@@ -72,7 +73,7 @@ pub struct Rows {
 }
 
 impl Rows {
-    pub const MOST: usize = 19;
+    pub const MOST: usize = Layout::MAX_WIDTH + 6;
 }
 
 // Makes the stores of the rows, up to the allowance.

@@ -15,12 +15,12 @@ use Rattle.sequences.specs.Sequence.{trail}
 use Rattle.sequences.proofs.Members.{all-in, at-in}
 use Rattle.sequences.proofs.Trail.{trail-on, trail-out, trail-none, trail-length, trail-inside, trail-link}
 use Rattle.layout.specs.declared.Layout.{Layout}
-use Rattle.layout.specs.Words.{firstNode, cellCount, isNode, nodeWords, nodeAt, cellAt, identOf, sizeOf, InRange, Laid}
+use Rattle.layout.specs.Words.{mostCells, firstNode, cellCount, isNode, nodeWords, nodeAt, cellAt, identOf, sizeOf, InRange, Laid}
 use Rattle.layout.proofs.Laws.{cell-node, is-node}
 use Rattle.lists.specs.Decide.{View, viewOf, countIn, sequenceIn, turn, holds, allHold, members, used, soundIn, soundOf}
 use Rattle.lists.proofs.Decided.{all-hold-at}
 use Rattle.survey.specs.declared.Round.the-variants.{Members, Broken}
-use Rattle.survey.specs.Survey.{columns, Loaded, ringIn}
+use Rattle.survey.specs.Survey.{short, columns, Loaded, ringIn}
 
 -- a part `&w[a..]`, as the borrow checker has it
 abbrev pub partFrom : List ℕ → ℕ → List ℕ
@@ -40,11 +40,11 @@ pub part-first : (w : List ℕ) (a : ℕ) → getD (partFrom w a) 0 0 ≡ getD w
 part-first w a = part-at w a 0 ∙ ap (λ (n : ℕ). getD w n 0) (add-zero a)
 
 -- the part of a column with one entry for each cell
-pub column-part : (l : Layout) (n : ℕ) (xs : List ℕ) → InRange l → n ≡ cellCount l → 2008 ≡ length xs
+pub column-part : (l : Layout) (n : ℕ) (xs : List ℕ) → InRange l → n ≡ cellCount l → mostCells ≡ length xs
     → n ≡ length (take n xs)
 column-part l n xs r e h = sym (length-take-le n xs (omega arith))
 
-pub short-part : (l : Layout) (n : ℕ) (xs : List ℕ) → cellCount l ≤ 256 → n ≡ cellCount l → 256 ≡ length xs
+pub short-part : (l : Layout) (n : ℕ) (xs : List ℕ) → cellCount l ≤ short → n ≡ cellCount l → short ≡ length xs
     → n ≡ length (take n xs)
 short-part l n xs r e h = sym (length-take-le n xs (omega arith))
 

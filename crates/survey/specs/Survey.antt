@@ -11,6 +11,10 @@ use Rattle.lists.specs.Decide.{View, sequenceIn, turn}
 use Rattle.survey.specs.declared.Round.{Round}
 use Rattle.survey.specs.declared.Round.the-variants.{Members, Broken}
 
+-- the most cells that a short column is for
+abbrev pub short : ℕ
+short = 256
+
 -- columns as a view of the cells
 abbrev pub columns : List ℕ → List ℕ → List ℕ → View
 columns idents forwards backs =

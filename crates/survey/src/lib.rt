@@ -6,9 +6,9 @@ ghost use mathlib.Core.Path.{_≡_};
 ghost use Prim.Native.Nat.{ℕ, _<_, _≤_};
 ghost use mathlib.Core.List.{_∷_};
 ghost use lib.ListN.{length, getD};
-ghost use Rattle.layout.specs.Words.{Laid, InRange, cellCount, firstNode, countAt};
+ghost use Rattle.layout.specs.Words.{mostLists, mostCells, linkWords, identWord, forwardWord, backWord, Laid, InRange, cellCount, firstNode, countAt};
 ghost use Rattle.lists.specs.Decide.{sequenceIn, used, soundIn};
-ghost use Rattle.survey.specs.Survey.{columns, Columns, Loaded, ringIn};
+ghost use Rattle.survey.specs.Survey.{short, columns, Columns, Loaded, ringIn};
 
 // A turn round a list: the number of its members, or something on the way is wrong.
 pub enum Round {
@@ -25,31 +25,31 @@ struct Links {
 
 // The cell that the part begins with.
 fn links_of(part: &[u16]) -> Links
-    requires { ⌜ 2 < length (now part) ⌝ }
-    ensures { λ r. ⌜ (r .ident ≡ getD (now (part .entry)) 0 0) × (r .forward ≡ getD (now (part .entry)) 1 0) × (r .back ≡ getD (now (part .entry)) 2 0) ⌝ }
+    requires { ⌜ linkWords ≤ length (now part) ⌝ }
+    ensures { λ r. ⌜ (r .ident ≡ getD (now (part .entry)) identWord 0) × (r .forward ≡ getD (now (part .entry)) forwardWord 0) × (r .back ≡ getD (now (part .entry)) backWord 0) ⌝ }
 {
     Links {
-        ident: part[0],
+        ident: part[Layout::IDENTIFIER],
         forward: part[Layout::FORWARD],
         back: part[Layout::BACK],
     }
 }
 
 // A column, of which a part is used.
-pub fn column() -> [u16; 2008]
-    ensures { λ r. ⌜ 2008 ≡ length r ⌝ }
+pub fn column() -> [u16; Layout::MAX_CELLS]
+    ensures { λ r. ⌜ mostCells ≡ length r ⌝ }
 {
-    [0; 2008]
+    [0; Layout::MAX_CELLS]
 }
 
 // The most cells of a store that a short column is for.
-pub const SHORT: u16 = 256;
+pub const SHORT: usize = 256;
 
 // A short column: a small store does not pay for setting a whole one to 0.
-pub fn short_column() -> [u16; 256]
-    ensures { λ r. ⌜ 256 ≡ length r ⌝ }
+pub fn short_column() -> [u16; SHORT]
+    ensures { λ r. ⌜ short ≡ length r ⌝ }
 {
-    [0; 256]
+    [0; SHORT]
 }
 
 // Reads each cell into the columns.
@@ -78,11 +78,11 @@ fn count(words: &[u16], l: Layout, k: u16) -> u16
 }
 
 // The counts of all lists.
-pub fn all_counts(words: &[u16], l: Layout) -> [u16; 8]
+pub fn all_counts(words: &[u16], l: Layout) -> [u16; Layout::MAX_LISTS]
     requires { ⌜ Laid l (now words) ⌝ }
-    ensures { λ r. ⌜ (8 ≡ length r) × ((k : ℕ) → k < l .lists → getD r k 0 ≡ getD (now (words .entry)) (countAt k) 0) ⌝ }
+    ensures { λ r. ⌜ (mostLists ≡ length r) × ((k : ℕ) → k < l .lists → getD r k 0 ≡ getD (now (words .entry)) (countAt k) 0) ⌝ }
 {
-    let mut r = [0u16; 8];
+    let mut r = [0u16; Layout::MAX_LISTS];
     let mut k: u16 = 0;
     while k < l.lists {
         r[k as usize] = count(words, l, k);
@@ -144,7 +144,13 @@ pub fn used_nodes(idents: &[u16], l: Layout) -> u16
 }
 
 // Are the lists sound?
-pub fn sound(idents: &[u16], forwards: &[u16], backs: &[u16], counts: [u16; 8], l: Layout) -> bool
+pub fn sound(
+    idents: &[u16],
+    forwards: &[u16],
+    backs: &[u16],
+    counts: [u16; Layout::MAX_LISTS],
+    l: Layout,
+) -> bool
     requires { ⌜ Columns l (now idents) (now forwards) (now backs) ⌝ }
     ensures { λ r. ⌜ r ≡ soundIn l (columns (now (idents .entry)) (now (forwards .entry)) (now (backs .entry))) (λ k. getD counts k 0) ⌝ }
 {

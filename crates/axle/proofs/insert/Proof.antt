@@ -7,6 +7,7 @@ use lib.ListN.{length}
 use lib.Seq.{length-take-le}
 use Rattle.stores.specs.Stores.{stores}
 use Rattle.byte_form.specs.Bytes.{wordsIn}
+use Rattle.layout.specs.Words.{mostWidth}
 use Rattle.requests.specs.declared.Looked.the-variants as K
 use Rattle.requests.specs.declared.Request.the-variants.{Gap}
 use Rattle.requests.specs.Requests.{lookOf}
@@ -42,7 +43,7 @@ found c =
     ∙ sym (c .before .before .before .look .ensures)
     ∙ c .before .l .given .1
 
-short : (c : tie.After-known-told2) → c .before .before .before .before .before .record-size .result ≤ 13
+short : (c : tie.After-known-told2) → c .before .before .before .before .before .record-size .result ≤ mostWidth
 short c =
     let a = c .before .before .before .before .before .before .before .before .args in
     let g = gap-placed (wordsIn (a .bytes .now)) (a .list) (a .position) _ _ (a .start) (length (recordWords (a .rec .now))) (found c) in

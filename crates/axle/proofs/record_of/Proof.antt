@@ -5,6 +5,7 @@ use native.Mathlib.Omega.{arith}
 use lib.ListN.{length, set, take, length-set}
 use lib.Seq.{take-all}
 use Rattle.stores.proofs.Laws.{copied-more}
+use Rattle.layout.specs.Words.{mostWidth}
 use Rattle.axle.specs.Interface.{recordWords}
 use Rattle.axle.proofs.Laws.{record-inside}
 use Rattle.axle.proofs.record_of.Statement.{statement}
@@ -12,7 +13,7 @@ use Rattle.axle.proofs.record_of.Tie as tie
 
 abbrev Inv-loop : tie.InvT-loop
 Inv-loop rec n words₀ i₀ words i =
-    (i ≤ n) × (n ≡ length (recordWords rec)) × (n ≤ 13) × (length words ≡ 13) × (take i words ≡ take i (recordWords rec))
+    (i ≤ n) × (n ≡ length (recordWords rec)) × (n ≤ mostWidth) × (length words ≡ mostWidth) × (take i words ≡ take i (recordWords rec))
 
 abbrev μ-loop : tie.MeasureT-loop
 μ-loop rec n words₀ i₀ words i = n - i

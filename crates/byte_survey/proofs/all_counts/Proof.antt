@@ -4,7 +4,7 @@ use mathlib.Core.Path.{_≡_, refl, ap, sym, _∙_}
 use native.Mathlib.Omega.{arith}
 use lib.ListN.{length, getD, length-set}
 use Rattle.byte_form.specs.Bytes.{wordsIn}
-use Rattle.layout.specs.Words.{Laid}
+use Rattle.layout.specs.Words.{mostLists, Laid}
 use Rattle.layout.proofs.Laws.{header-fits}
 use Rattle.lists.specs.Decide.{countIn}
 use Rattle.survey.proofs.Laws.{Filled, filled-more}
@@ -12,7 +12,7 @@ use Rattle.byte_survey.proofs.all_counts.Statement.{statement}
 use Rattle.byte_survey.proofs.all_counts.Tie as tie
 
 abbrev Inv-loop : tie.InvT-loop
-Inv-loop bytes l r₀ k₀ r k = (Laid l (wordsIn bytes)) × (k ≤ l .lists) × (length r ≡ 8) × Filled (countIn (wordsIn bytes)) r k
+Inv-loop bytes l r₀ k₀ r k = (Laid l (wordsIn bytes)) × (k ≤ l .lists) × (length r ≡ mostLists) × Filled (countIn (wordsIn bytes)) r k
 
 abbrev μ-loop : tie.MeasureT-loop
 μ-loop bytes l r₀ k₀ r k = l .lists - k

@@ -4,15 +4,16 @@ use mathlib.Core.Path.{_≡_, refl, sym, _∙_}
 use native.Mathlib.Omega.{arith}
 use lib.ListN.{length, getD, length-set}
 use Rattle.byte_form.specs.Bytes.{wordsIn}
+use Rattle.layout.specs.Words.{headWords}
 use Rattle.survey.proofs.Laws.{Filled, filled-more}
 use Rattle.byte_survey.proofs.head.Statement.{statement}
 use Rattle.byte_survey.proofs.head.Tie as tie
 
 abbrev Inv-loop : tie.InvT-loop
-Inv-loop bytes r₀ i₀ r i = (i ≤ 8) × (length r ≡ 8) × Filled (λ j. getD (wordsIn bytes) j 0) r i
+Inv-loop bytes r₀ i₀ r i = (i ≤ headWords) × (length r ≡ headWords) × Filled (λ j. getD (wordsIn bytes) j 0) r i
 
 abbrev μ-loop : tie.MeasureT-loop
-μ-loop bytes r₀ i₀ r i = 8 - i
+μ-loop bytes r₀ i₀ r i = headWords - i
 
 loop-holds : tie.Need-loop-holds Inv-loop μ-loop
 loop-holds c = (omega arith, refl, λ j h. absurd (omega arith))

@@ -6,7 +6,7 @@ use native.Mathlib.Omega.{arith}
 use lib.ListN.{length, getD, set, length-set}
 use Rattle.byte_form.specs.Bytes.{wordsIn}
 use Rattle.layout.specs.declared.Layout.{Layout}
-use Rattle.layout.specs.Words.{Laid, firstNode, cellCount, cellAt}
+use Rattle.layout.specs.Words.{linkWords, forwardWord, backWord, Laid, firstNode, cellCount, cellAt}
 use Rattle.layout.proofs.Laws.{cell-header, cell-node, cell-fits}
 use Rattle.lists.specs.Decide.{viewOf}
 use Rattle.survey.proofs.Laws.{Filled, filled-more, loaded-all}
@@ -30,21 +30,21 @@ Read w l idents forwards backs i =
 
 -- cell i stands within the words, and the columns have an entry for it
 inside : (w : List ℕ) (l : Layout) (idents forwards backs : List ℕ) (i a : ℕ) → Read w l idents forwards backs i → i < cellCount l
-    → a ≡ cellAt l i → (a + 2 < length w) × (i < length idents) × (i < length forwards) × (i < length backs)
+    → a ≡ cellAt l i → (a + linkWords ≤ length w) × (i < length idents) × (i < length forwards) × (i < length backs)
 inside w l idents forwards backs i a r h q =
     (omega (arith, cell-fits l i (r .0 .inRange) h, r .0 .exact), omega arith, omega arith, omega arith)
 
 -- and then it is read too
 read-more : (w : List ℕ) (l : Layout) (idents forwards backs x y z : List ℕ) (i a : ℕ) → Read w l idents forwards backs i → i < cellCount l
-    → a ≡ cellAt l i → (x ≡ set idents i (getD w a 0)) × (y ≡ set forwards i (getD w (a + 1) 0)) × (z ≡ set backs i (getD w (a + 2) 0))
+    → a ≡ cellAt l i → (x ≡ set idents i (getD w a 0)) × (y ≡ set forwards i (getD w (a + forwardWord) 0)) × (z ≡ set backs i (getD w (a + backWord) 0))
     → Read w l x y z (i + 1)
 read-more w l idents forwards backs x y z i a r h q e =
     let v = viewOf l w in (
       r .0,
       omega arith,
       column-more l (v .ident) idents x i _ h (r .2) (ap (λ (n : ℕ). getD w n 0) q) (e .0),
-      column-more l (v .forward) forwards y i _ h (r .3) (ap (λ (n : ℕ). getD w (n + 1) 0) q) (e .1),
-      column-more l (v .back) backs z i _ h (r .4) (ap (λ (n : ℕ). getD w (n + 2) 0) q) (e .2),
+      column-more l (v .forward) forwards y i _ h (r .3) (ap (λ (n : ℕ). getD w (n + forwardWord) 0) q) (e .1),
+      column-more l (v .back) backs z i _ h (r .4) (ap (λ (n : ℕ). getD w (n + backWord) 0) q) (e .2),
     )
 
 abbrev Inv-loop : tie.InvT-loop

@@ -1,12 +1,12 @@
 -- `record_rows` writes the stores of the record's words: after i turns the rows hold the first i of them.
-use Prim.Native.Nat.{ℕ, _+_, _-_, _≤_}
+use Prim.Native.Nat.{ℕ, _+_, _-_, _≤_, _<_}
 use mathlib.Core.Path.{_≡_, refl, subst}
 use mathlib.Core.List.{[]}
 use native.Mathlib.Omega.{arith}
 use lib.ListN.{length}
 use Rattle.layout.specs.Words.{sizeOf}
 use Rattle.stores.specs.declared.Rows.{Rows}
-use Rattle.stores.specs.Stores.{Held, inRow}
+use Rattle.stores.specs.Stores.{mostRows, Held, inRow}
 use Rattle.stores.proofs.Laws.{length-row}
 use Rattle.edits.proofs.Rows.{Filled, has-room, written, all-written, record-fits, record-fill, row-at}
 use Rattle.edits.proofs.record_rows.Statement.{statement}
@@ -35,9 +35,9 @@ holds : (c : tie.At-loop Inv-loop μ-loop) →
     Filled (sizeOf (n .before .before .args .l)) [] (inRow (n .node .result + 3) (n .before .before .args .words .now)) (c .loop .i) (rows c)
 holds c = c .loop .inv .1 _ (fits (c .before) .0)
 
--- the arrays have 19 entries, and there is room for one more store
+-- the arrays have all their entries, and there is room for one more store
 room : (c : tie.In-loop Inv-loop μ-loop) →
-    (c .before .loop .i ≤ 18) × (length (c .before .loop .at) ≡ 19) × (length (c .before .loop .values) ≡ 19)
+    (c .before .loop .i < mostRows) × (length (c .before .loop .at) ≡ mostRows) × (length (c .before .loop .values) ≡ mostRows)
 room c =
     let n = c .before .before in
     let h = holds (c .before) in

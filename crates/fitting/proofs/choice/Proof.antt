@@ -4,6 +4,7 @@ use mathlib.Core.Path.{_≡_}
 use lib.Dec.{eqb}
 use borrow.Author.Needs.{needs}
 use borrow.Author.Tests.{eq-eqb, ne-eqb, not-false}
+use Rattle.layout.specs.Words.{backWord}
 use Rattle.fitting.proofs.choice.Statement.{statement}
 use Rattle.fitting.proofs.choice.Tie as tie
 
@@ -38,7 +39,7 @@ returns : tie.Need-returns
 returns c = rw (c .enum-told .given .1)
 
 -- the one fault does not decide: it is a back link
-back-link : (c : tie.After-enum-told2) → eqb (c .enum-told2 .given .0 .1 .0) 2 ≡ true
+back-link : (c : tie.After-enum-told2) → eqb (c .enum-told2 .given .0 .1 .0) backWord ≡ true
 back-link c = not-false _ (rw (c .enum-told2 .given .1) at (c .before .before .pre))
 
 returns-2 : tie.Need-returns-2

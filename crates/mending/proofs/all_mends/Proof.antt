@@ -4,7 +4,7 @@ use mathlib.Core.Path.{_≡_, refl, ap, sym, subst, _∙_}
 use native.Mathlib.Omega.{arith}
 use lib.ListN.{length, getD}
 use Rattle.stores.specs.declared.Rows.{Rows}
-use Rattle.stores.specs.Stores.{writesIn}
+use Rattle.stores.specs.Stores.{mostRows, writesIn}
 use Rattle.stores.proofs.Laws.{held-none, held-maybe}
 use Rattle.layout.specs.Words.{sizeOf}
 use Rattle.lists.specs.Decide.{View}
@@ -49,9 +49,9 @@ fault-inside c =
     subst (FaultFits (s .args .l)) (sym (c .fault .ensures ∙ ap faultIn (f .fit .ensures)))
     (fit-fits (s .args .l) (s .pre .inRange) (view s) (t .loop .k) (count s (t .loop .k)) (omega arith))
 
--- the rows have 19 entries, and hold no more stores than lists were looked at
+-- the rows have all their entries, and hold no more stores than lists were looked at
 room : (c : tie.At-loop Inv-loop μ-loop) →
-    (c .loop .len ≤ c .loop .k) × (length (c .loop .at) ≡ 19) × (length (c .loop .values) ≡ 19)
+    (c .loop .len ≤ c .loop .k) × (length (c .loop .at) ≡ mostRows) × (length (c .loop .values) ≡ mostRows)
 room c = let h = c .loop .inv .0 in (h .few, h .held .at, h .held .values)
 
 loop-holds : tie.Need-loop-holds Inv-loop μ-loop

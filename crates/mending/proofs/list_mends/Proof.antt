@@ -3,14 +3,14 @@ use Prim.Native.Nat.{ℕ, _-_, _≤_}
 use mathlib.Core.Path.{_≡_, refl, ap₂, subst, _∙_}
 use native.Mathlib.Omega.{arith}
 use lib.ListN.{length, take, length-set}
-use Rattle.stores.specs.Stores.{writesOf}
+use Rattle.stores.specs.Stores.{mostRows, writesOf}
 use Rattle.stores.proofs.Laws.{copied-more}
 use Rattle.mending.proofs.list_mends.Statement.{statement}
 use Rattle.mending.proofs.list_mends.Tie as tie
 
 abbrev Inv-loop : tie.InvT-loop
 Inv-loop at₀ values₀ n from with i₀ at values i =
-    (i ≤ n) × (n ≤ 19) × (length from ≡ 19) × (length with ≡ 19) × (n ≤ length at₀) × (n ≤ length values₀)
+    (i ≤ n) × (n ≤ mostRows) × (length from ≡ mostRows) × (length with ≡ mostRows) × (n ≤ length at₀) × (n ≤ length values₀)
     × (length at ≡ length at₀) × (length values ≡ length values₀) × (take i at ≡ take i from) × (take i values ≡ take i with)
 
 abbrev μ-loop : tie.MeasureT-loop

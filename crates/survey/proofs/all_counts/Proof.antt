@@ -3,7 +3,7 @@ use Prim.Native.Nat.{_-_, _≤_}
 use mathlib.Core.Path.{_≡_, refl, sym}
 use native.Mathlib.Omega.{arith}
 use lib.ListN.{length, length-set}
-use Rattle.layout.specs.Words.{Laid}
+use Rattle.layout.specs.Words.{mostLists, Laid}
 use Rattle.lists.specs.Decide.{countIn}
 use Rattle.survey.proofs.Laws.{Filled, filled-more}
 use Rattle.survey.proofs.all_counts.Statement.{statement}
@@ -11,7 +11,7 @@ use Rattle.survey.proofs.all_counts.Tie as tie
 
 abbrev Inv-loop : tie.InvT-loop
 Inv-loop words l r₀ k₀ r k =
-    (Laid l words) × (k ≤ l .lists) × (length r ≡ 8) × Filled (countIn words) r k
+    (Laid l words) × (k ≤ l .lists) × (length r ≡ mostLists) × Filled (countIn words) r k
 
 abbrev μ-loop : tie.MeasureT-loop
 μ-loop words l r₀ k₀ r k = l .lists - k

@@ -5,7 +5,7 @@ use mathlib.Core.Bool.{true}
 use native.Mathlib.Omega.{arith}
 use lib.ListN.{length, getD}
 use Rattle.layout.specs.declared.Layout.{Layout}
-use Rattle.layout.specs.Words.{firstNode}
+use Rattle.layout.specs.Words.{mostNodes, firstNode}
 use Rattle.lists.specs.Decide.{View, allHold, members}
 use Rattle.survey.specs.declared.Round.the-variants.{Members, Broken}
 use Rattle.survey.specs.Survey.{columns, Columns, ringIn}
@@ -19,7 +19,7 @@ Inv-loop idents forwards backs l counts total₀ k₀ total k =
     let v = columns idents forwards backs in
     Columns l idents forwards backs × (k ≤ l .lists)
     × (allHold l v (λ j. getD counts j 0) k ≡ true)
-    × (total ≡ length (members l v k)) × (total ≤ k * 2000)
+    × (total ≡ length (members l v k)) × (total ≤ k * mostNodes)
 
 abbrev μ-loop : tie.MeasureT-loop
 μ-loop idents forwards backs l counts total₀ k₀ total k = l .lists - k
