@@ -12,7 +12,7 @@ use Rattle.sequences.proofs.Reversed.{in-reverse, reverse-in}
 use Rattle.stores.specs.Stores.{Write, write}
 use Rattle.layout.specs.declared.Layout.{Layout}
 use Rattle.layout.specs.Words.{identWord, forwardWord, backWord, countWord, cellAt, identAt, forwardAt, backAt, countAt, identOf}
-use Rattle.lists.specs.Lists.{asked, identsAsked, forwardsAsked, backsAsked, countAsked}
+use Rattle.lists.specs.Lists.{asked, identsAsked, forwardsAsked, backsAsked, countAsked, othersAsked}
 use Rattle.lists.specs.Decide.{View, viewOf, countIn, sequenceOf}
 use Rattle.lists.proofs.Same.{ident-word, count-word}
 use Rattle.recovery.specs.Fits.{wrong, backwardOf, fewWrong, same, none, only, several, fitting, fitOf}
@@ -165,11 +165,11 @@ module _ (l : Layout) (w : List ℕ) (k : ℕ) (s : List ℕ) where
   pub summed-forward : k < l .lists → Summed l faultSum (wrong w (asked l k s))
   unfolding asked
   summed-forward h =
-      subst (λ (f : Faults). Summed l f (wrong w (asked l k s))) (sym sum-sorted)
-      (both identSum (plus onwardSum (plus backSum countSum))
-      (identsAsked l k s) (forwardsAsked l k s ++ (backsAsked l k s ++ countAsked k s)) summed-idents
-      (both onwardSum (plus backSum countSum) (forwardsAsked l k s) (backsAsked l k s ++ countAsked k s) summed-onward
-      (both backSum countSum (backsAsked l k s) (countAsked k s) summed-back (summed-count h))))
+      subst (λ (f : Faults). Summed l f (wrong w (asked l k s)))
+      (plus-assoc identSum (plus onwardSum backSum) countSum ∙ ap (plus identSum) (plus-assoc onwardSum backSum countSum) ∙ sym sum-sorted)
+      (both (plus identSum (plus onwardSum backSum)) countSum (othersAsked l k s) (countAsked k s)
+      (both identSum (plus onwardSum backSum) (identsAsked l k s) (forwardsAsked l k s ++ backsAsked l k s) summed-idents
+      (both onwardSum backSum (forwardsAsked l k s) (backsAsked l k s) summed-onward summed-back)) (summed-count h))
     where
       both : (f g : Faults) (ps qs : List Write) → Summed l f (wrong w ps) → Summed l g (wrong w qs)
           → Summed l (plus f g) (wrong w (ps ++ qs))

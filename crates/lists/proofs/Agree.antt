@@ -1,7 +1,7 @@
 -- A turn round a list that finds everything right is agreement with all that is asked.
 use Prim.Native.Nat.{ℕ}
 use mathlib.Core.Path.{_≡_}
-use mathlib.Core.List.{List, [], _∷_, map}
+use mathlib.Core.List.{List, [], _∷_, _++_, map}
 use mathlib.Core.Bool.{Bool, true, _&&_, and-eq-true-iff}
 use lib.Dec.{eqb}
 use lib.ListN.{length, getD}
@@ -11,7 +11,7 @@ use Rattle.sequences.proofs.Members.{all-append, append-all}
 use Rattle.stores.specs.Stores.{Write, write}
 use Rattle.layout.specs.declared.Layout.{Layout}
 use Rattle.layout.specs.Words.{identAt, forwardAt, backAt, identOf}
-use Rattle.lists.specs.Lists.{asked, Agrees}
+use Rattle.lists.specs.Lists.{identsAsked, forwardsAsked, backsAsked, countAsked, othersAsked, asked, Agrees}
 use Rattle.lists.specs.Decide.{View, viewOf, countIn, turn, holds}
 
 -- what holds of every image
@@ -82,9 +82,9 @@ module _ (l : Layout) (w : List ℕ) (k : ℕ) (s : List ℕ) where
   pub agrees-holds : Agrees w (asked l k s) → Holds (viewOf l w) k (countIn w k) s
   unfolding asked
   agrees-holds h =
-      let a = append-all Right (map (λ c. write (identAt l c) (identOf k)) (k ∷ s)) _ h in
-      let b = append-all Right (map (λ (p : Step). write (forwardAt l (p .source)) (p .target)) (steps k s k)) _ (a .1) in
-      let c = append-all Right (map (λ (p : Step). write (backAt l (p .target)) (p .source)) (steps k s k)) _ (b .1) in
+      let o = append-all Right (othersAsked l k s) (countAsked k s) h in
+      let a = append-all Right (identsAsked l k s) (forwardsAsked l k s ++ backsAsked l k s) (o .0) in
+      let b = append-all Right (forwardsAsked l k s) (backsAsked l k s) (a .1) in
       let i = all-map Right (λ c. write (identAt l c) (identOf k)) (k ∷ s) (a .0) in
       record {
         ident = i .0;
@@ -92,18 +92,18 @@ module _ (l : Layout) (w : List ℕ) (k : ℕ) (s : List ℕ) where
             record {
               idents = i .1;
               forwards = all-map Right (λ (p : Step). write (forwardAt l (p .source)) (p .target)) (steps k s k) (b .0);
-              backs = all-map Right (λ (p : Step). write (backAt l (p .target)) (p .source)) (steps k s k) (c .0);
+              backs = all-map Right (λ (p : Step). write (backAt l (p .target)) (p .source)) (steps k s k) (b .1);
             };
-        count = c .1 .0;
+        count = o .1 .0;
       }
 
   pub holds-agrees : Holds (viewOf l w) k (countIn w k) s → Agrees w (asked l k s)
   unfolding asked
   holds-agrees h =
-      all-append Right (map (λ c. write (identAt l c) (identOf k)) (k ∷ s)) _
+      all-append Right (othersAsked l k s) (countAsked k s)
+      (all-append Right (identsAsked l k s) (forwardsAsked l k s ++ backsAsked l k s)
       (map-all Right (λ c. write (identAt l c) (identOf k)) (k ∷ s) (h .ident, h .turn .idents))
-      (all-append Right (map (λ (p : Step). write (forwardAt l (p .source)) (p .target)) (steps k s k)) _
+      (all-append Right (forwardsAsked l k s) (backsAsked l k s)
       (map-all Right (λ (p : Step). write (forwardAt l (p .source)) (p .target)) (steps k s k) (h .turn .forwards))
-      (all-append Right (map (λ (p : Step). write (backAt l (p .target)) (p .source)) (steps k s k)) _
-      (map-all Right (λ (p : Step). write (backAt l (p .target)) (p .source)) (steps k s k) (h .turn .backs))
-      (h .count, tt)))
+      (map-all Right (λ (p : Step). write (backAt l (p .target)) (p .source)) (steps k s k) (h .turn .backs))))
+      (h .count, tt)

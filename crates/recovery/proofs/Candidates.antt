@@ -16,7 +16,7 @@ use Rattle.sequences.proofs.Reversed.{all-reverse, backs-trail, backs-different
 use Rattle.stores.specs.Stores.{write}
 use Rattle.layout.specs.declared.Layout.{Layout}
 use Rattle.layout.specs.Words.{Node, isNode, identOf, identAt, forwardAt, backAt}
-use Rattle.lists.specs.Lists.{asked, identsAsked, forwardsAsked, backsAsked, countAsked}
+use Rattle.lists.specs.Lists.{asked, identsAsked, forwardsAsked, backsAsked, countAsked, othersAsked}
 use Rattle.lists.specs.Decide.{viewOf, countIn, sequenceOf}
 use Rattle.lists.proofs.Agree.{all-map, map-all}
 use Rattle.lists.proofs.Unique.{header-out, nodes-few, all-nodes, nodes-all}
@@ -47,15 +47,18 @@ sequence-dec s t = by (same s t) refl
 
 -- the four kinds of words that are asked, counted
 module _ (l : Layout) (w : List ℕ) (k : ℕ) (s : List ℕ) where
+  pub wrong-others
+      : length (wrong w (othersAsked l k s))
+      ≡ length (wrong w (identsAsked l k s)) + (length (wrong w (forwardsAsked l k s)) + length (wrong w (backsAsked l k s)))
+  wrong-others =
+      wrong-length w (identsAsked l k s) (forwardsAsked l k s ++ backsAsked l k s)
+      ∙ ap (λ (n : ℕ). length (wrong w (identsAsked l k s)) + n) (wrong-length w (forwardsAsked l k s) (backsAsked l k s))
+
   pub wrong-parts
       : length (wrong w (asked l k s))
       ≡ length (wrong w (identsAsked l k s)) + (length (wrong w (forwardsAsked l k s)) + (length (wrong w (backsAsked l k s)) + length (wrong w (countAsked k s))))
   unfolding asked
-  wrong-parts =
-      wrong-length w (identsAsked l k s) (forwardsAsked l k s ++ (backsAsked l k s ++ countAsked k s))
-      ∙ ap (λ (n : ℕ). length (wrong w (identsAsked l k s)) + n)
-      (wrong-length w (forwardsAsked l k s) (backsAsked l k s ++ countAsked k s)
-      ∙ ap (λ (n : ℕ). length (wrong w (forwardsAsked l k s)) + n) (wrong-length w (backsAsked l k s) (countAsked k s)))
+  wrong-parts = omega (arith, wrong-length w (othersAsked l k s) (countAsked k s), wrong-others)
 
   -- all links of a kind are right
   pub right-forward : length (wrong w (forwardsAsked l k s)) ≡ 0 → Forward (viewOf l w .forward) k s k

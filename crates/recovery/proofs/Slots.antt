@@ -12,7 +12,7 @@ use Rattle.stores.specs.Stores.{Write, write}
 use Rattle.layout.specs.declared.Layout.{Layout}
 use Rattle.layout.specs.Words.{Node, cellAt, cellWords, identAt, forwardAt, backAt, identOf}
 use Rattle.layout.proofs.Apart.{words-apart, cells-apart, links-words, words-header}
-use Rattle.lists.specs.Lists.{asked, identsAsked, forwardsAsked, backsAsked, countAsked}
+use Rattle.lists.specs.Lists.{asked, identsAsked, forwardsAsked, backsAsked, countAsked, othersAsked}
 use Rattle.lists.proofs.Same.{ident-word, count-word}
 use Rattle.recovery.proofs.Required.{Once, once-append}
 
@@ -149,11 +149,11 @@ module _ (l : Layout) (k : ℕ) (s : List ℕ) (h : k < l .lists) where
   pub slot : {p : Write} → List·Memᴰ p (asked l k s) → Slot l k s p
   unfolding asked
   slot m =
-      ⊎-elim (λ m. ident-slot m .0)
+      ⊎-elim
       (λ m.
-      ⊎-elim (λ m. forward-slot m .0) (λ m. ⊎-elim (λ m. back-slot m .0) (λ m. count-slot m .0) (List·Memᴰ·append-cases (backsAsked l k s) m))
-      (List·Memᴰ·append-cases (forwardsAsked l k s) m))
-      (List·Memᴰ·append-cases (identsAsked l k s) m)
+      ⊎-elim (λ m. ident-slot m .0) (λ m. ⊎-elim (λ m. forward-slot m .0) (λ m. back-slot m .0) (List·Memᴰ·append-cases (forwardsAsked l k s) m))
+      (List·Memᴰ·append-cases (identsAsked l k s) m))
+      (λ m. count-slot m .0) (List·Memᴰ·append-cases (othersAsked l k s) m)
 
   -- so no word is asked for twice
   apart : (f g : ℕ) (p q : Write) → (f ≡ g → ⊥) → SlotAt f p → SlotAt g q → p .at ≡ q .at → ⊥
@@ -164,19 +164,20 @@ module _ (l : Layout) (k : ℕ) (s : List ℕ) (h : k < l .lists) where
   pub asked-once : All (Node l) s → Different s → Once (asked l k s)
   unfolding asked
   asked-once n d =
-      once-append (identsAsked l k s) (forwardsAsked l k s ++ (backsAsked l k s ++ countAsked k s)) idents
-      (once-append (forwardsAsked l k s) (backsAsked l k s ++ countAsked k s) forwards
-      (once-append (backsAsked l k s) (countAsked k s) backs ((λ m. elim m [ ]), tt)
-      (λ p q x y. apart 2 3 p q (λ z. omega arith) (back-slot x) (count-slot y)))
-      (λ p q x y.
-      ⊎-elim (λ y. apart 1 2 p q (λ z. omega arith) (forward-slot x) (back-slot y))
-      (λ y. apart 1 3 p q (λ z. omega arith) (forward-slot x) (count-slot y)) (List·Memᴰ·append-cases (backsAsked l k s) y)))
+      once-append (othersAsked l k s) (countAsked k s)
+      (once-append (identsAsked l k s) (forwardsAsked l k s ++ backsAsked l k s) idents
+      (once-append (forwardsAsked l k s) (backsAsked l k s) forwards backs
+      (λ p q x y. apart 1 2 p q (λ z. omega arith) (forward-slot x) (back-slot y)))
       (λ p q x y.
       ⊎-elim (λ y. apart 0 1 p q (λ z. omega arith) (ident-slot x) (forward-slot y))
-      (λ y.
-      ⊎-elim (λ y. apart 0 2 p q (λ z. omega arith) (ident-slot x) (back-slot y))
-      (λ y. apart 0 3 p q (λ z. omega arith) (ident-slot x) (count-slot y)) (List·Memᴰ·append-cases (backsAsked l k s) y))
-      (List·Memᴰ·append-cases (forwardsAsked l k s) y))
+      (λ y. apart 0 2 p q (λ z. omega arith) (ident-slot x) (back-slot y)) (List·Memᴰ·append-cases (forwardsAsked l k s) y)))
+      ((λ m. elim m [ ]), tt)
+      (λ p q x y.
+      ⊎-elim (λ x. apart 0 3 p q (λ z. omega arith) (ident-slot x) (count-slot y))
+      (λ x.
+      ⊎-elim (λ x. apart 1 3 p q (λ z. omega arith) (forward-slot x) (count-slot y))
+      (λ x. apart 2 3 p q (λ z. omega arith) (back-slot x) (count-slot y)) (List·Memᴰ·append-cases (forwardsAsked l k s) x))
+      (List·Memᴰ·append-cases (identsAsked l k s) x))
     where
       cells : Different (k ∷ s) × Different (s ++ k ∷ [])
       cells = ring-cells l k s h n d

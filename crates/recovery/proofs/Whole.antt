@@ -82,7 +82,7 @@ clear-none l w s h =
     in-all (Right w) (clearsAsked l s) (λ p m. let c = in-clears l s m in subst (Right w) (c .3) (h (c .0) (c .1) (c .2)))
 
 -- a sound store holds all that its sequences require
-sound-agrees : (l : Layout) (w : List ℕ) (x : SoundLists l w) → Agrees w (required l (x .sequence))
+pub sound-agrees : (l : Layout) (w : List ℕ) (x : SoundLists l w) → Agrees w (required l (x .sequence))
 sound-agrees l w x =
     all-append (Right w) (listsAsked l (x .sequence)) (clearsAsked l (x .sequence))
     (in-all (Right w) (listsAsked l (x .sequence))
