@@ -21,6 +21,8 @@ pub struct Results {
 
 /// What is said of the results, whatever they are: kept by hand.
 const LIMITS: &str = include_str!("../limits.md");
+/// The same work on other engines: written by bench/beside/run.
+const BESIDE: &str = include_str!("../beside.md");
 
 fn nanoseconds(n: f64) -> String {
     if n < 100.0 {
@@ -136,6 +138,8 @@ What each call uses of a stack of its own, on the largest store (8, 2000, 13), f
 ## Code size
 
 The archive `libaxle.a` has {code} bytes of code and {constants} bytes of constants.
+
+{beside}
 ",
             machine = self.machine(),
             table = self.table(),
@@ -143,6 +147,7 @@ The archive `libaxle.a` has {code} bytes of code and {constants} bytes of consta
             growth = self.growth(),
             limits = LIMITS.trim(),
             stack = self.stack(),
+            beside = BESIDE.trim(),
         )
     }
 }
