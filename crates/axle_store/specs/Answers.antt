@@ -1,4 +1,5 @@
--- The number of each answer, and its values by case.
+-- "For every answer that is an enum, a definition states this paper's number and values for each of the enum's cases, and the promises
+-- use that definition." That of insert, delete and recover is in crate stores.
 use Prim.Native.Nat.{ℕ}
 use mathlib.Core.List.{List}
 use Rattle.layout.specs.declared.Layout.{Layout}

@@ -25,6 +25,7 @@ formatAnswer l w =
     (ask (eqb (length w) (sizeOf l)) (F.Refused 4)
     F.Done)
 
+-- its number, 0 for done
 unfoldable pub formatNumber : Layout → List ℕ → ℕ
 formatNumber l w =
     ask (inRange l) 3
@@ -43,6 +44,7 @@ lookNumber x = withLook x (λ n. n) (λ l t. 0)
 unfoldable pub checkAnswer : List ℕ → Checked
 checkAnswer w = withLook (lookOf w Check) C.Refused (λ l t. C.Sound)
 
+-- its number, 0 for sound
 unfoldable pub checkNumber : List ℕ → ℕ
 checkNumber w = lookNumber (lookOf w Check)
 
@@ -50,10 +52,10 @@ checkNumber w = lookNumber (lookOf w Check)
 unfoldable pub lengthAnswer : List ℕ → ℕ → Counted
 lengthAnswer w k = withLook (lookOf w (Whole k)) L.Refused (λ l t. L.Length (t .count))
 
+-- its number, 0 for none, and the length, 0 if refused
 unfoldable pub lengthNumber : List ℕ → ℕ → ℕ
 lengthNumber w k = lookNumber (lookOf w (Whole k))
 
--- the length, 0 if refused
 unfoldable pub lengthValue : List ℕ → ℕ → ℕ
 lengthValue w k = withLook (lookOf w (Whole k)) (λ n. 0) (λ l t. t .count)
 
