@@ -10,7 +10,7 @@ ghost use Prim.Native.Nat.{_+_, _≤_};
 ghost use lib.ListN.{length, take};
 ghost use Rattle.stores.specs.Stores.{answerOf};
 ghost use Rattle.byte_form.specs.Bytes.{wordsIn, bytesAfter};
-ghost use Rattle.layout.specs.Words.{mostWidth, Laid};
+ghost use Rattle.layout.specs.Words.{mostWidth, layoutFor, Laid};
 ghost use Rattle.recovery.specs.Plan.{recoverPlan};
 ghost use Rattle.axle_store.specs.Calls.{insertPlan, deletePlan};
 ghost use Rattle.axle.specs.Interface.{recordWords, codeOf, checkCode, lengthCode, formatPlan, wholeCode, wholeBytes, byteFormat, byteInsert, byteDelete, byteRecover};
@@ -32,7 +32,7 @@ fn fill(bytes: &mut [u8], l: Layout)
     ensures { λ _. ⌜ now (bytes .exit) ≡ wholeBytes (formatPlan l (wordsIn (now (bytes .entry)))) (now (bytes .entry)) ⌝ }
 {
     let mut i: usize = 0;
-    while i < Layout::header(l.lists) {
+    while i < l.nodes_at() {
         byte_form::put(bytes, i, l.initial(i));
         i += 1;
     }
@@ -45,13 +45,14 @@ fn fill(bytes: &mut [u8], l: Layout)
 // Writes a store of empty lists.
 #[no_mangle]
 pub extern "C" fn axle_format(store: &mut [u8], lists: u16, nodes: u16, record_words: u16) -> u32
-    ensures answer { λ r. ⌜ r ≡ wholeCode (byteFormat (record { lists = lists; nodes = nodes; width = record_words }) (now (store .entry))) ⌝ }
-    ensures bytes { λ _. ⌜ now (store .exit) ≡ wholeBytes (byteFormat (record { lists = lists; nodes = nodes; width = record_words }) (now (store .entry))) (now (store .entry)) ⌝ }
+    ensures answer { λ r. ⌜ r ≡ wholeCode (byteFormat (layoutFor lists nodes record_words) (now (store .entry))) ⌝ }
+    ensures bytes { λ _. ⌜ now (store .exit) ≡ wholeBytes (byteFormat (layoutFor lists nodes record_words) (now (store .entry))) (now (store .entry)) ⌝ }
 {
     if store.len() % 2 != 0 {
         return 4;
     }
     let l = Layout {
+        version: Layout::NEWEST,
         lists,
         nodes,
         width: record_words,

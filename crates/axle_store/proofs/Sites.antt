@@ -8,7 +8,7 @@ use Rattle.sequences.specs.Sequence.{_∈_, All}
 use Rattle.sequences.proofs.Members.{all-in, at-in, in-front}
 use Rattle.sequences.proofs.Trail.{trail-inside, trail-length}
 use Rattle.layout.specs.declared.Layout.{Layout}
-use Rattle.layout.specs.Words.{Node, isNode, cellCount, sizeOf, recordAt}
+use Rattle.layout.specs.Words.{tailWords, Node, isNode, cellCount, sizeOf, recordAt}
 use Rattle.layout.proofs.Laws.{opened-open, node-fits}
 use Rattle.lists.specs.Decide.{viewOf, sequenceOf}
 use Rattle.lists.proofs.Unique.{all-nodes}
@@ -58,7 +58,7 @@ module _ (w : List ℕ) (k p : ℕ) (l : Layout) (t : Site) where
         o .3,
       )
 
-  pub gap-placed : (c m : ℕ) → lookOf w (Gap k p c m) ≡ K.At l t → Placed l k t × (m ≡ l .width) × (length w ≡ sizeOf l)
+  pub gap-placed : (c m : ℕ) → lookOf w (Gap k p c m) ≡ K.At l t → Placed l k t × (m ≡ tailWords l) × (length w ≡ sizeOf l)
   gap-placed c m e =
       let a = looked w (Gap k p c m) l t e in
       let o = opened-open w l (a .0) in

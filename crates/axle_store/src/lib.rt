@@ -9,7 +9,7 @@ ghost use mathlib.Core.Path.{_≡_};
 ghost use Prim.Native.Nat.{_+_, _*_};
 ghost use lib.ListN.{length};
 ghost use Rattle.stores.specs.Stores.{answerOf, wordsAfter, answerNumber, answerStores, planNumber, madeBy};
-ghost use Rattle.layout.specs.Words.{InRange, sizeOf, formatted};
+ghost use Rattle.layout.specs.Words.{InRange, sizeOf, layoutFor, formatted};
 ghost use Rattle.recovery.specs.Plan.{recoverPlan};
 ghost use Rattle.axle_store.specs.Answers.{checkedNumber, formattedNumber, countedNumber, countedLength};
 ghost use Rattle.axle_store.specs.Calls.{formatAnswer, formatNumber, formatWords, checkAnswer, checkNumber, lengthAnswer, lengthNumber, lengthValue, readNumber, readWords, readStart, insertPlan, deletePlan};
@@ -88,11 +88,12 @@ fn fill(words: &mut [u16], l: Layout)
 
 // Writes a store of empty lists.
 pub fn format(words: &mut [u16], lists: u16, nodes: u16, width: u16) -> Formatted
-    ensures answer { λ r. ⌜ r ≡ formatAnswer (record { lists = lists; nodes = nodes; width = width }) (now (words .entry)) ⌝ }
-    ensures words { λ _. ⌜ now (words .exit) ≡ formatWords (record { lists = lists; nodes = nodes; width = width }) (now (words .entry)) ⌝ }
-    ensures number { λ r. ⌜ formattedNumber r ≡ formatNumber (record { lists = lists; nodes = nodes; width = width }) (now (words .entry)) ⌝ }
+    ensures answer { λ r. ⌜ r ≡ formatAnswer (layoutFor lists nodes width) (now (words .entry)) ⌝ }
+    ensures words { λ _. ⌜ now (words .exit) ≡ formatWords (layoutFor lists nodes width) (now (words .entry)) ⌝ }
+    ensures number { λ r. ⌜ formattedNumber r ≡ formatNumber (layoutFor lists nodes width) (now (words .entry)) ⌝ }
 {
     let l = Layout {
+        version: Layout::NEWEST,
         lists,
         nodes,
         width,

@@ -35,7 +35,8 @@ pub fn open(bytes: &[u8]) -> Opened
     if n < Layout::HEAD_WORDS {
         return Opened::Refused(1);
     }
-    layout::open_with(n, head(bytes))
+    let h = head(bytes);
+    layout::open_with(n, &h)
 }
 
 // Reads cell i, which begins at word a, into the columns.
@@ -62,7 +63,7 @@ pub fn load(bytes: &[u8], l: Layout, idents: &mut [u16], forwards: &mut [u16], b
 {
     let mut i: u16 = 0;
     while i < l.first_node() {
-        load_cell(bytes, Layout::header(i), i, idents, forwards, backs);
+        load_cell(bytes, l.header(i), i, idents, forwards, backs);
         i += 1;
     }
     while i < l.cell_count() {
@@ -74,12 +75,12 @@ pub fn load(bytes: &[u8], l: Layout, idents: &mut [u16], forwards: &mut [u16], b
 // The counts of all lists.
 pub fn all_counts(bytes: &[u8], l: Layout) -> [u16; Layout::MAX_LISTS]
     requires { ⌜ Laid l (wordsIn (now bytes)) ⌝ }
-    ensures { λ r. ⌜ (mostLists ≡ length r) × ((k : ℕ) → k < l .lists → getD r k 0 ≡ getD (wordsIn (now (bytes .entry))) (countAt k) 0) ⌝ }
+    ensures { λ r. ⌜ (mostLists ≡ length r) × ((k : ℕ) → k < l .lists → getD r k 0 ≡ getD (wordsIn (now (bytes .entry))) (countAt l k) 0) ⌝ }
 {
     let mut r = [0u16; Layout::MAX_LISTS];
     let mut k: u16 = 0;
     while k < l.lists {
-        r[k as usize] = byte_form::word(bytes, Layout::header(k) + Layout::COUNT);
+        r[k as usize] = byte_form::word(bytes, l.header(k) + Layout::COUNT);
         k += 1;
     }
     r

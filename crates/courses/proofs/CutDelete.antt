@@ -67,7 +67,7 @@ module _ (l : Layout) (w : List ℕ) (exact : length w ≡ sizeOf l) (s : SoundL
   back-one : (x : ℕ) → getD One (backAt l x) 0 ≡ getD (run full w) (backAt l x) 0
   unfolding run deleteWrites
   back-one x =
-      sym (run-out (write (forwardAt l (site .before)) (site .after) ∷ write (countAt k) (length S - 1) ∷ write (identAt l c) 0 ∷ []) One (backAt l x) (
+      sym (run-out (write (forwardAt l (site .before)) (site .after) ∷ write (countAt l k) (length S - 1) ∷ write (identAt l c) 0 ∷ []) One (backAt l x) (
         (λ e. words-apart l x (site .before) 2 1 (λ _ b. omega arith) (links-words l x 2 (omega arith)) (links-words l (site .before) 1 (omega arith)) e),
         (
           (λ e. words-apart l x k 2 3 (λ _ b. omega arith) (links-words l x 2 (omega arith)) (omega (arith, words-header l k hk)) (e ∙ count-word l k hk)),
@@ -92,7 +92,7 @@ module _ (l : Layout) (w : List ℕ) (exact : length w ≡ sizeOf l) (s : SoundL
             omega (arith, e, count-one, agrees-holds l w k S (own .agrees) .count, D.counted l w exact s k hk p hp));
       }
     where
-      count-one : countIn One k ≡ countIn w k
+      count-one : countIn l One k ≡ countIn l w k
       count-one =
           ap (λ (n : ℕ). getD One n 0) (count-word l k hk)
           ∙ kept-one k 3 (List·Memᴰ·head refl) (omega (arith, words-header l k hk)) (λ t. omega (arith, t .1))
@@ -111,7 +111,7 @@ module _ (l : Layout) (w : List ℕ) (exact : length w ≡ sizeOf l) (s : SoundL
 
   -- later stores go to the count and to the identifier of the cell that has left the list
   kept-late : (x f : ℕ) → x ∈ (k ∷ deleteAt p S) → f < cellWords l x → ((x ≡ k) × (f ≡ 3) → ⊥)
-      → Spares (cellAt l x + f) (write (countAt k) (length S - 1) ∷ write (identAt l c) 0 ∷ [])
+      → Spares (cellAt l x + f) (write (countAt l k) (length S - 1) ∷ write (identAt l c) 0 ∷ [])
   kept-late x f q g n = (
     (λ e. words-apart l x k f 3 (λ a b. n (a, b)) g (omega (arith, words-header l k hk)) (e ∙ count-word l k hk)),
     ((λ e. words-apart l x c f 0 (λ a _. D.not-cell l w exact s k hk p hp x q a) g (links-words l c 0 (omega arith)) (e ∙ ident-word l c)), tt),
@@ -121,7 +121,7 @@ module _ (l : Layout) (w : List ℕ) (exact : length w ≡ sizeOf l) (s : SoundL
       → getD (applied full 2 w) (cellAt l x + f) 0 ≡ getD (run full w) (cellAt l x + f) 0
   unfolding run deleteWrites
   after-two x f q g n =
-      sym (run-out (write (countAt k) (length S - 1) ∷ write (identAt l c) 0 ∷ [])
+      sym (run-out (write (countAt l k) (length S - 1) ∷ write (identAt l c) 0 ∷ [])
       (set One (forwardAt l (site .before)) (site .after)) (cellAt l x + f) (kept-late x f q g n))
 
   after-three : (x f : ℕ) → x ∈ (k ∷ deleteAt p S) → f < cellWords l x → ((x ≡ k) × (f ≡ 3) → ⊥)
@@ -129,7 +129,7 @@ module _ (l : Layout) (w : List ℕ) (exact : length w ≡ sizeOf l) (s : SoundL
   unfolding run deleteWrites
   after-three x f q g n =
       sym (run-out (write (identAt l c) 0 ∷ [])
-      (set (set One (forwardAt l (site .before)) (site .after)) (countAt k) (length S - 1)) (cellAt l x + f) (kept-late x f q g n .1))
+      (set (set One (forwardAt l (site .before)) (site .after)) (countAt l k) (length S - 1)) (cellAt l x + f) (kept-late x f q g n .1))
 
   delete-from-central : (m : ℕ) → deleteCentral ≤ m → Own l (applied full m w) k (deleteAt p S)
   delete-from-central m h =

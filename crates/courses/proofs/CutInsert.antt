@@ -17,7 +17,7 @@ use Rattle.sequences.proofs.Splice.{backward-same}
 use Rattle.stores.specs.Stores.{Write, write, store, run, applied, Spares, inRow}
 use Rattle.stores.proofs.Laws.{run-append, length-run, run-out, run-either, applied-none, applied-all, row-spares}
 use Rattle.layout.specs.declared.Layout.{Layout}
-use Rattle.layout.specs.Words.{Node, cellCount, sizeOf, cellAt, cellWords, identAt, forwardAt, backAt, recordAt, identOf}
+use Rattle.layout.specs.Words.{tailWords, Node, cellCount, sizeOf, cellAt, cellWords, identAt, forwardAt, backAt, recordAt, identOf}
 use Rattle.layout.proofs.Apart.{words-apart, links-words, words-header, words-node}
 use Rattle.lists.specs.Lists.{IsList, SoundLists, SameCells}
 use Rattle.lists.specs.Decide.{viewOf, countIn}
@@ -42,7 +42,7 @@ spares-only a v (x ∷ ps) h = ((λ e. absurd (h .0 e)), spares-only a v ps (h .
 
 module _ (l : Layout) (w : List ℕ) (exact : length w ≡ sizeOf l) (s : SoundLists l w) (k : ℕ) (hk : k < l .lists)
     (p : ℕ) (hp : p ≤ length (s .sequence k)) (i : ℕ) (hi : Node l i) (free : getD w (identAt l i) 0 ≡ 0)
-    (words : List ℕ) (size : length words ≡ l .width) where
+    (words : List ℕ) (size : length words ≡ tailWords l) where
   abbrev S : List ℕ
   S = s .sequence k
 
@@ -83,7 +83,7 @@ module _ (l : Layout) (w : List ℕ) (exact : length w ≡ sizeOf l) (s : SoundL
   unfolding A
   split = first-central l w exact k site hk ha hb hi ca cb words size
 
-  A-length : length A ≡ l .width + 4
+  A-length : length A ≡ tailWords l + 4
   unfolding A
   A-length = first-length l w exact k site hk ha hb hi ca cb words size
 
@@ -91,7 +91,7 @@ module _ (l : Layout) (w : List ℕ) (exact : length w ≡ sizeOf l) (s : SoundL
   unfolding A
   A-spares = first-spares l w exact k site hk ha hb hi ca cb words size
 
-  full-length : length full ≡ l .width + 6
+  full-length : length full ≡ tailWords l + 6
   full-length = omega (arith, A-length, ap length split ∙ length-append A B)
 
   -- before the central store the links are the old ones, and only the count may be wrong
@@ -157,7 +157,7 @@ module _ (l : Layout) (w : List ℕ) (exact : length w ≡ sizeOf l) (s : SoundL
             ));
       }
     where
-      count-central : countIn Central k ≡ countIn (run full w) k
+      count-central : countIn l Central k ≡ countIn l (run full w) k
       count-central =
           ap (λ (n : ℕ). getD Central n 0) (count-word l k hk)
           ∙ kept-central k 3 (List·Memᴰ·head refl) (omega (arith, words-header l k hk)) (λ t. omega (arith, t .1))
@@ -165,20 +165,20 @@ module _ (l : Layout) (w : List ℕ) (exact : length w ≡ sizeOf l) (s : SoundL
 
   -- from it on the new sequence's forward links are right; the last store brings the back link
   insert-from-central : (m : ℕ) → insertCentral l ≤ m → Own l (applied full m w) k (insertAt p i S)
-  insert-from-central m h = by (ℕ-discrete m (l .width + 5))
+  insert-from-central m h = by (ℕ-discrete m (tailWords l + 5))
     where
-      whole : l .width + 6 ≤ m → applied full m w ≡ run full w
+      whole : tailWords l + 6 ≤ m → applied full m w ≡ run full w
       whole g = applied-all full m w (omega (arith, full-length))
 
-      central : m ≡ l .width + 5 → applied full m w ≡ Central
+      central : m ≡ tailWords l + 5 → applied full m w ≡ Central
       central e =
           ap (λ (ps : List Write). run ps w)
           (ap (λ (n : ℕ). take n full) (e ∙ n-is) ∙ ap (take (length A + 1)) split ∙ take-append-add A _ 1)
         where
-          n-is : l .width + 5 ≡ length A + 1
+          n-is : tailWords l + 5 ≡ length A + 1
           n-is = omega (arith, A-length)
 
-      by : Dec (m ≡ l .width + 5) → Own l (applied full m w) k (insertAt p i S)
+      by : Dec (m ≡ tailWords l + 5) → Own l (applied full m w) k (insertAt p i S)
       by (no n) =
           subst (λ (y : List ℕ). Own l y k (insertAt p i S)) (sym (whole (omega arith)))
           (settled l (run full w) (run full w) k hk (insertAt p i S) new untouched (λ c f a b n. refl) (λ c t. t) (λ c t. t))
@@ -285,14 +285,14 @@ module _ (l : Layout) (w : List ℕ) (exact : length w ≡ sizeOf l) (s : SoundL
           ))
 
   -- wherever it is cut
-  pub insert-cut : (m : ℕ) → (own : List ℕ) × Cut l w s k own (applied full (dueOf (insertCentral l) (l .width + 6) m) w) (applied full m w)
+  pub insert-cut : (m : ℕ) → (own : List ℕ) × Cut l w s k own (applied full (dueOf (insertCentral l) (tailWords l + 6) m) w) (applied full m w)
   insert-cut m = by (ltb m (insertCentral l)) refl
     where
-      by : (b : Bool) → ltb m (insertCentral l) ≡ b → (own : List ℕ) × Cut l w s k own (applied full (cond b 0 (l .width + 6)) w) (applied full m w)
+      by : (b : Bool) → ltb m (insertCentral l) ≡ b → (own : List ℕ) × Cut l w s k own (applied full (cond b 0 (tailWords l + 6)) w) (applied full m w)
       by true e =
           (S, subst (λ (x : List ℕ). Cut l w s k S x (applied full m w)) (sym (applied-none full w)) (insert-cut-before m (ltb-true m (insertCentral l) e)))
       by false e = (
         insertAt p i S,
-        subst (λ (x : List ℕ). Cut l w s k (insertAt p i S) x (applied full m w)) (sym (applied-all full (l .width + 6) w (omega (arith, full-length))))
+        subst (λ (x : List ℕ). Cut l w s k (insertAt p i S) x (applied full m w)) (sym (applied-all full (tailWords l + 6) w (omega (arith, full-length))))
             (insert-cut-after m (ltb-false m (insertCentral l) e)),
       )

@@ -31,13 +31,13 @@ pub same-links
     → (c f : ℕ) → c ∈ (j ∷ s) → (f < 3) ⊎ ((c ≡ j) × (f ≡ 3)) → getD x (cellAt l c + f) 0 ≡ getD w (cellAt l c + f) 0
 same-links l w x j h s i i′ c f m k = by k
   where
-    a : Holds (viewOf l w) j (countIn w j) s
+    a : Holds (viewOf l w) j (countIn l w j) s
     a = agrees-holds l w j s (i .agrees)
 
-    b : Holds (viewOf l x) j (countIn x j) s
+    b : Holds (viewOf l x) j (countIn l x j) s
     b = agrees-holds l x j s (i′ .agrees)
 
-    id-of : (u : List ℕ) → Holds (viewOf l u) j (countIn u j) s → c ∈ (j ∷ s) → getD u (identAt l c) 0 ≡ identOf j
+    id-of : (u : List ℕ) → Holds (viewOf l u) j (countIn l u j) s → c ∈ (j ∷ s) → getD u (identAt l c) 0 ≡ identOf j
     id-of u q (List·Memᴰ·head e) = ap (λ (d : ℕ). getD u (identAt l d) 0) e ∙ q .ident
     id-of u q (List·Memᴰ·tail t) = all-in (λ d. getD u (identAt l d) 0 ≡ identOf j) s (q .turn .idents) t
 
@@ -47,19 +47,19 @@ same-links l w x j h s i i′ c f m k = by k
         ∙ sym (ap (λ (n : ℕ). getD w (cellAt l c + n) 0) e ∙ ap (λ (n : ℕ). getD w n 0) (sym (ident-word l c)) ∙ id-of w a m)
     word (no z) (yes e) g =
         let t = step-from j s j c m in
-        let link : (u : List ℕ) → Holds (viewOf l u) j (countIn u j) s → getD u (cellAt l c + 1) 0 ≡ t .0 .target =
+        let link : (u : List ℕ) → Holds (viewOf l u) j (countIn l u j) s → getD u (cellAt l c + 1) 0 ≡ t .0 .target =
         λ u q. ap (λ (d : ℕ). getD u (cellAt l d + 1) 0) (sym (t .2))
         ∙ step-at (λ (p : Step). viewOf l u .forward (p .source) ≡ p .target) (steps j s j) (q .turn .forwards) (t .1) in
         ap (λ (n : ℕ). getD x (cellAt l c + n) 0) e ∙ link x b ∙ sym (ap (λ (n : ℕ). getD w (cellAt l c + n) 0) e ∙ link w a)
     word (no z) (no y) g =
         let e : f ≡ 2 = omega arith in
         let t = step-to j s j c (in-behind j s m) in
-        let link : (u : List ℕ) → Holds (viewOf l u) j (countIn u j) s → getD u (cellAt l c + 2) 0 ≡ t .0 .source =
+        let link : (u : List ℕ) → Holds (viewOf l u) j (countIn l u j) s → getD u (cellAt l c + 2) 0 ≡ t .0 .source =
         λ u q. ap (λ (d : ℕ). getD u (cellAt l d + 2) 0) (sym (t .2))
         ∙ step-at (λ (p : Step). viewOf l u .back (p .target) ≡ p .source) (steps j s j) (q .turn .backs) (t .1) in
         ap (λ (n : ℕ). getD x (cellAt l c + n) 0) e ∙ link x b ∙ sym (ap (λ (n : ℕ). getD w (cellAt l c + n) 0) e ∙ link w a)
 
-    counted : (u : List ℕ) → Holds (viewOf l u) j (countIn u j) s → c ≡ j → f ≡ 3 → getD u (cellAt l c + f) 0 ≡ length s
+    counted : (u : List ℕ) → Holds (viewOf l u) j (countIn l u j) s → c ≡ j → f ≡ 3 → getD u (cellAt l c + f) 0 ≡ length s
     counted u q e g =
         ap (λ (n : ℕ). getD u (cellAt l c + n) 0) g ∙ ap (λ (d : ℕ). getD u (cellAt l d + 3) 0) e
         ∙ ap (λ (n : ℕ). getD u n 0) (sym (count-word l j h)) ∙ q .count

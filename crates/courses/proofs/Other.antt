@@ -78,7 +78,7 @@ same-map (x ∷ s) = ap (λ (t : List ℕ). x ∷ t) (same-map s)
 -- a list of which all words but one are as a sound list has them
 module _ (l : Layout) (w y : List ℕ) (j : ℕ) (h : j < l .lists) (s : List ℕ) (i : IsList l w j s) (alt : Alteration)
     (kept : (c f : ℕ) → c ∈ (j ∷ s) → f < cellWords l c → (Touches alt c f → ⊥) → getD y (cellAt l c + f) 0 ≡ getD w (cellAt l c + f) 0) where
-  right : Holds (viewOf l w) j (countIn w j) s
+  right : Holds (viewOf l w) j (countIn l w j) s
   right = agrees-holds l w j s (i .agrees)
 
   cells : Different (j ∷ s) × Different (s ++ j ∷ [])
@@ -146,18 +146,18 @@ module _ (l : Layout) (w y : List ℕ) (j : ℕ) (h : j < l .lists) (s : List �
       kept (t .target) 2 (in-front j s (step-target j s j m)) (links-words l (t .target) 2 (omega arith)) (n (t .target))
       ∙ step-at (λ (u : Step). viewOf l w .back (u .target) ≡ u .source) (steps j s j) (right .turn .backs) m))
 
-  count-few : length (wrong y (countAsked j s)) ≤ 1
+  count-few : length (wrong y (countAsked l j s)) ≤ 1
   unfolding wrong
-  count-few = by (eqb (getD y (countAt j) 0) (length s)) refl
+  count-few = by (eqb (getD y (countAt l j) 0) (length s)) refl
     where
-      by : (b : Bool) → eqb (getD y (countAt j) 0) (length s) ≡ b → length (wrong y (countAsked j s)) ≤ 1
-      by true e = omega (arith, ap length (wrong-right y (write (countAt j) (length s)) [] (eqb-true _ _ e)))
-      by false e = omega (arith, ap length (wrong-wrong y (write (countAt j) (length s)) [] (eqb-false _ _ e)))
+      by : (b : Bool) → eqb (getD y (countAt l j) 0) (length s) ≡ b → length (wrong y (countAsked l j s)) ≤ 1
+      by true e = omega (arith, ap length (wrong-right y (write (countAt l j) (length s)) [] (eqb-true _ _ e)))
+      by false e = omega (arith, ap length (wrong-wrong y (write (countAt l j) (length s)) [] (eqb-false _ _ e)))
 
-  count-right : Spared 3 → length (wrong y (countAsked j s)) ≡ 0
+  count-right : Spared 3 → length (wrong y (countAsked l j s)) ≡ 0
   unfolding wrong
   count-right n =
-      ap length (wrong-right y (write (countAt j) (length s)) []
+      ap length (wrong-right y (write (countAt l j) (length s)) []
       (ap (λ (b : ℕ). getD y b 0) (count-word l j h)
       ∙ kept j 3 (List·Memᴰ·head refl) (omega (arith, words-header l j h)) (n j)
       ∙ ap (λ (b : ℕ). getD w b 0) (sym (count-word l j h)) ∙ right .count))

@@ -30,7 +30,7 @@ pub record Own (l : Layout) (y : List ℕ) (k : ℕ) (s : List ℕ) : Type 0 whe
   pub nodes : All (Node l) other
   pub within : (c : ℕ) → c ∈ other → c ∈ s
   pub back : Backward (viewOf l y .back) k other k
-  pub told : (other ≡ s) ⊎ (countIn y k ≡ length other → ⊥)
+  pub told : (other ≡ s) ⊎ (countIn l y k ≡ length other → ⊥)
 
 pub own-unique : (l : Layout) (y : List ℕ) (k : ℕ) → k < l .lists → (s : List ℕ) → Own l y k s → (r : List ℕ) → Fits l y k r → r ≡ s
 own-unique l y k h s o r f = by (sequence-dec r s) (candidates l y k h r f) (o .told)
@@ -44,7 +44,7 @@ own-unique l y k h s o r f = by (sequence-dec r s) (candidates l y k h r f) (o .
         (nodes-few l (o .other) (o .nodes)
         (backs-different (viewOf l y .back) (isNode l) k (o .other) k (nodes-all l (o .other) (o .nodes)) (header-out l k h) (o .back)))
 
-    by : Dec (r ≡ s) → (sequenceOf l y k ≡ r) ⊎ (backwardOf l y k ≡ r) → (o .other ≡ s) ⊎ (countIn y k ≡ length (o .other) → ⊥) → r ≡ s
+    by : Dec (r ≡ s) → (sequenceOf l y k ≡ r) ⊎ (backwardOf l y k ≡ r) → (o .other ≡ s) ⊎ (countIn l y k ≡ length (o .other) → ⊥) → r ≡ s
     by (yes e) c t = e
     by (no n) (inl e) t = sym e ∙ ahead
     by (no n) (inr e) (inl t) = sym e ∙ behind ∙ t
@@ -71,7 +71,7 @@ own-same l y x k h s o a =
     among c (List·Memᴰ·head e) = List·Memᴰ·head e
     among c (List·Memᴰ·tail m) = List·Memᴰ·tail (o .within c m)
 
-    count : countIn x k ≡ countIn y k
+    count : countIn l x k ≡ countIn l y k
     count =
         ap (λ (n : ℕ). getD x n 0) (count-word l k h) ∙ a k 3 (List·Memᴰ·head refl) (omega (arith, words-header l k h))
         ∙ ap (λ (n : ℕ). getD y n 0) (sym (count-word l k h))

@@ -11,7 +11,7 @@ use Rattle.stores.specs.declared.Answer.{Answer}
 use Rattle.stores.specs.declared.Answer.the-variants as A
 use Rattle.stores.specs.Stores.{Write, applied, Plan, refuse, stores, answerOf, wordsAfter, madeBy, answerStores}
 use Rattle.layout.specs.declared.Layout.{Layout}
-use Rattle.layout.specs.Words.{headerWords, linkWords, cellAt, layoutOf}
+use Rattle.layout.specs.Words.{headerWords, linkWords, tailWords, cellAt, layoutOf}
 use Rattle.edits.specs.Edits.{insertCentral, deleteCentral}
 use Rattle.recovery.specs.Plan.{recoverPlan}
 use Rattle.axle_store.specs.Calls.{insertPlan, deletePlan}
@@ -44,7 +44,7 @@ dueOf central all m = cond (ltb m central) 0 all
 
 -- Insert has "P + 6 stores. The central one is .. number P + 5." "Delete stores four words", of which the second is.
 abbrev pub due : Layout → Edit → ℕ → ℕ
-due l (insert k p c words) = dueOf (insertCentral l) (l .width + 6)
+due l (insert k p c words) = dueOf (insertCentral l) (tailWords l + 6)
 due l (delete k p) = dueOf deleteCentral 4
 
 -- "Its old words are those in the sound store, its new words those with every store of the insert or delete made. In the final

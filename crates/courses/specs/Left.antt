@@ -4,7 +4,7 @@ use mathlib.Core.Path.{_≡_}
 use mathlib.Core.List.{List, [], _∷_, _++_}
 use lib.ListN.{length, getD}
 use Rattle.stores.specs.Stores.{Write, applied, answerOf}
-use Rattle.layout.specs.Words.{Node, identAt, layoutOf}
+use Rattle.layout.specs.Words.{tailWords, Node, identAt, layoutOf}
 use Rattle.lists.specs.Lists.{Sound}
 use Rattle.requests.specs.declared.Site.{Site}
 use Rattle.edits.specs.Edits.{insertWrites, deleteWrites, insertCentral, deleteCentral}
@@ -25,8 +25,8 @@ pub data Left (w : List ℕ) (s : Sound w) (k : ℕ) : (ℕ → ℕ) → List Wr
   nothing : (due : ℕ → ℕ) → Left w s k due []
   -- an insert at any position of the list, of any record, in any node that is free
   inserts : k < layoutOf w .lists → (p : ℕ) → p ≤ length (s .lists .sequence k) → (i : ℕ) → Node (layoutOf w) i
-      → getD w (identAt (layoutOf w) i) 0 ≡ 0 → (words : List ℕ) → length words ≡ layoutOf w .width
-      → Left w s k (dueOf (insertCentral (layoutOf w)) (layoutOf w .width + 6)) (insertWrites (layoutOf w) k (gapOf k (s .lists .sequence k) p i) words)
+      → getD w (identAt (layoutOf w) i) 0 ≡ 0 → (words : List ℕ) → length words ≡ tailWords (layoutOf w)
+      → Left w s k (dueOf (insertCentral (layoutOf w)) (tailWords (layoutOf w) + 6)) (insertWrites (layoutOf w) k (gapOf k (s .lists .sequence k) p i) words)
   -- a delete at any position of the list
   deletes : k < layoutOf w .lists → (p : ℕ) → p < length (s .lists .sequence k)
       → Left w s k (dueOf deleteCentral 4) (deleteWrites (layoutOf w) k (memberOf k (s .lists .sequence k) p))

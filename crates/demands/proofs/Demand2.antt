@@ -13,7 +13,7 @@ use Rattle.stores.specs.declared.Answer.the-variants as A
 use Rattle.stores.specs.Stores.{Write, stores, run, applied, inRow, answerOf}
 use Rattle.stores.proofs.Laws.{applied-all, length-row}
 use Rattle.layout.specs.declared.Layout.{Layout}
-use Rattle.layout.specs.Words.{Node, ask, recordAt, inRange, sizeOf, layoutOf}
+use Rattle.layout.specs.Words.{tailWords, Node, ask, recordAt, inRange, sizeOf, layoutOf}
 use Rattle.layout.proofs.Laws.{node-is, in-range}
 use Rattle.lists.specs.Lists.{Sound}
 use Rattle.lists.specs.Decide.{viewOf, sequenceOf}
@@ -130,7 +130,7 @@ stores-done ps m n w = by (ltb m (length ps)) refl
     by true q e = let z : _≡_ {A = ℕ} 0 1 = cc in absurd (omega arith)
     by false q e = (cc, applied-all ps m w (ltb-false _ _ q))
 
-insert-stores : (l : Layout) (k : ℕ) (t : Site) (words : List ℕ) → length words ≡ l .width → length (insertWrites l k t words) ≡ l .width + 6
+insert-stores : (l : Layout) (k : ℕ) (t : Site) (words : List ℕ) → length words ≡ tailWords l → length (insertWrites l k t words) ≡ tailWords l + 6
 unfolding insertWrites insertLinks
 insert-stores l k t words e =
     omega (arith, length-append (inRow (recordAt l (t .cell)) words) (insertLinks l k t), length-row (recordAt l (t .cell)) words)

@@ -74,7 +74,7 @@ module _ (w w′ : List ℕ) (s : SameButRecords w w′) where
         back = fun-ext (λ c. same-link c 2 (omega arith)) i;
       }
 
-  same-count : (k : ℕ) → k < l .lists → countIn w′ k ≡ countIn w k
+  same-count : (k : ℕ) → k < l .lists → countIn l w′ k ≡ countIn l w k
   same-count k h = moved (count-word l k h) (same-fourth k h)
 
   -- the same questions 1 to 4, and what follows them is asked of one layout
@@ -91,7 +91,7 @@ module _ (w w′ : List ℕ) (s : SameButRecords w w′) where
   -- the same sites
   same-site : (q : Request) → siteOf l w′ q ≡ siteOf l w q
   same-site q =
-      ap (λ (v : View). siteIn l v (countIn w′) q) same-view ∙ site-same l (viewOf l w) (countIn w′) (countIn w) q same-count
+      ap (λ (v : View). siteIn l v (countIn l w′) q) same-view ∙ site-same l (viewOf l w) (countIn l w′) (countIn l w) q same-count
 
   same-look : (q : Request) → lookOf w′ q ≡ lookOf w q
   unfolding lookOf

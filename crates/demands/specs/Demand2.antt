@@ -12,7 +12,7 @@ use lib.ListN.{length, getD}
 use Rattle.stores.specs.declared.Answer.the-variants as A
 use Rattle.stores.specs.Stores.{Write, Plan, refuse, stores, answerOf, wordsAfter}
 use Rattle.layout.specs.declared.Layout.{Layout}
-use Rattle.layout.specs.Words.{Node, ask, identAt, layoutOf}
+use Rattle.layout.specs.Words.{tailWords, Node, ask, identAt, layoutOf}
 use Rattle.lists.specs.Lists.{Sound, SameCells}
 use Rattle.lists.specs.Decide.{viewOf}
 use Rattle.requests.specs.Requests.{around}
@@ -53,7 +53,7 @@ pub record Inserts (w : List ℕ) (s : Sound w) (k p c : ℕ) (words : List ℕ)
   pub full : plan ≡ refuse 10 → (i : ℕ) → FreeNode w i → ⊥
   -- done, it has made P + 6 stores, and the record stands at the position, in "the first free cell met counting up from the starting cell"
   pub done : (m n : ℕ) → answerOf plan m ≡ A.Done n
-      → (n ≡ layoutOf w .width + 6)
+      → (n ≡ tailWords (layoutOf w) + 6)
       × ((i : ℕ) × FirstFree (viewOf (layoutOf w) w .ident) (around (layoutOf w) c (layoutOf w .nodes)) i
       × Leaves w s k (insertAt p i (s .lists .sequence k)) (insertAt p words (recordsIn w s k)) (wordsAfter plan m w))
 

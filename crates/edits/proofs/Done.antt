@@ -7,6 +7,7 @@ use mathlib.Core.Bool.{Bool, true, false}
 use native.Mathlib.Omega.{arith}
 use lib.Dec.{eqb, leb, ltb}
 use lib.ListN.{length, getD}
+use lib.Seq.{take-all}
 use borrow.Author.Tests.{leb-true, ltb-true, eqb-true}
 use Rattle.sequences.specs.Sequence.{_∈_, All}
 use Rattle.sequences.proofs.Members.{all-in, all-append}
@@ -15,8 +16,8 @@ use Rattle.stores.proofs.Laws.{run-out, length-run, row-spares}
 use Rattle.layout.specs.declared.Layout.{Layout}
 use Rattle.layout.specs.declared.Opened.{Opened}
 use Rattle.layout.specs.declared.Opened.the-variants as O
-use Rattle.layout.specs.Words.{headWords, ask, afterOpen, opened, isNode, Node, layoutOf, nodeAt, recordAt, identAt}
-use Rattle.layout.proofs.Laws.{opened-open, is-node}
+use Rattle.layout.specs.Words.{headWords, tailWords, ask, afterOpen, opened, isNode, Node, layoutOf, nodeAt, recordAt, identAt}
+use Rattle.layout.proofs.Laws.{tail-width, opened-open, is-node}
 use Rattle.layout.proofs.Apart.{cell-behind}
 use Rattle.lists.specs.Lists.{Sound, SoundLists, SameCells}
 use Rattle.lists.specs.Decide.{viewOf, soundOf, sequenceOf}
@@ -63,7 +64,7 @@ pub record GapFacts (l : Layout) (w : List ℕ) (k p c m : ℕ) (t : Site) : Typ
   pub list : k < l .lists
   pub position : p ≤ length (sequenceOf l w k)
   pub start : Node l c
-  pub size : m ≡ l .width
+  pub size : m ≡ tailWords l
   pub first : FirstFree (viewOf l w .ident) (around l c (l .nodes)) (t .cell)
   pub site : t ≡ record { before = getD (k ∷ sequenceOf l w k) p 0; cell = t .cell; after = getD (sequenceOf l w k ++ k ∷ []) p 0; count = length (sequenceOf l w k) }
 
@@ -81,7 +82,7 @@ gap-facts l w k p c m t e =
       list = ltb-true k (l .lists) (a .0);
       position = leb-true p (length s) (d .0);
       start = is-node l c (f .0);
-      size = eqb-true m (l .width) (g .0);
+      size = eqb-true m (l .width) (g .0) ∙ sym (tail-width l);
       first = r .0;
       site = r .1;
     }
@@ -194,7 +195,7 @@ module _ (w : List ℕ) (s : Sound w) (k p : ℕ) (l : Layout) (t : Site) where
       site-with : ℕ → List ℕ → Site
       site-with i x = record { before = getD (k ∷ x) p 0; cell = i; after = getD (x ++ k ∷ []) p 0; count = length x }
 
-      inserted : k < layoutOf w .lists → p ≤ length (s .lists .sequence k) → Node (layoutOf w) c → length words ≡ layoutOf w .width
+      inserted : k < layoutOf w .lists → p ≤ length (s .lists .sequence k) → Node (layoutOf w) c → length words ≡ tailWords (layoutOf w)
           → FirstFree (viewOf (layoutOf w) w .ident) (around (layoutOf w) c (layoutOf w .nodes)) (t .cell)
           → Inserted w s k p (t .cell) words (run (insertWrites (layoutOf w) k (site-with (t .cell) (s .lists .sequence k)) words) w)
       inserted hk hp hc size f =
@@ -209,7 +210,9 @@ module _ (w : List ℕ) (s : Sound w) (k p : ℕ) (l : Layout) (t : Site) where
                 (insert-other (layoutOf w) w (s .exact) (s .lists) k hk p hp (t .cell) hi (f .free) words size)
                 (insert-records (layoutOf w) w (s .exact) (s .lists) k hk p hp (t .cell) hi (f .free) words size);
             free = f .free;
-            given = insert-given (layoutOf w) w (s .exact) (s .lists) k hk p hp (t .cell) hi (f .free) words size;
+            given =
+                insert-given (layoutOf w) w (s .exact) (s .lists) k hk p hp (t .cell) hi (f .free) words size
+                ∙ take-all (layoutOf w .width) words (omega (arith, tail-width (layoutOf w)));
           }
 
   -- delete

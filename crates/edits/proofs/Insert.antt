@@ -11,7 +11,7 @@ use Rattle.sequences.proofs.Splice.{last-at, first-at, splice-forward, splice-b
 use Rattle.stores.specs.Stores.{run, Spares}
 use Rattle.stores.proofs.Laws.{run-out, length-run}
 use Rattle.layout.specs.declared.Layout.{Layout}
-use Rattle.layout.specs.Words.{cellCount, Node, sizeOf, cellAt, cellWords, identAt, forwardAt, backAt, identOf}
+use Rattle.layout.specs.Words.{tailWords, cellCount, Node, sizeOf, cellAt, cellWords, identAt, forwardAt, backAt, identOf}
 use Rattle.layout.proofs.Apart.{links-words}
 use Rattle.lists.specs.Lists.{IsList, SoundLists, SameCells}
 use Rattle.lists.specs.Decide.{viewOf}
@@ -31,7 +31,7 @@ free-out l w s i e j h m = omega (arith, sym (member-ident l w j (s .sequence j)
 
 module _ (l : Layout) (w : List ℕ) (exact : length w ≡ sizeOf l) (s : SoundLists l w) (k : ℕ) (hk : k < l .lists)
     (p : ℕ) (hp : p ≤ length (s .sequence k)) (i : ℕ) (hi : Node l i) (free : getD w (identAt l i) 0 ≡ 0)
-    (words : List ℕ) (size : length words ≡ l .width) where
+    (words : List ℕ) (size : length words ≡ tailWords l) where
   abbrev pub S : List ℕ
   S = s .sequence k
 
@@ -181,7 +181,7 @@ module _ (l : Layout) (w : List ℕ) (exact : length w ≡ sizeOf l) (s : SoundL
       (λ x m. inl (member-insert x m))
 
   -- the record is stored as given, and the old records stay
-  pub insert-given : recordIn l Done i ≡ words
+  pub insert-given : recordIn l Done i ≡ take (l .width) words
   insert-given = insert-record l w exact k site hk ha hb hi ca cb words size
 
   pub insert-records : (x : ℕ) → x ∈ S → recordIn l Done x ≡ recordIn l w x

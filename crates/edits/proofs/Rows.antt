@@ -9,7 +9,7 @@ use lib.Seq.{take-suc, take-all, length-take-le}
 use Rattle.sequences.specs.Sequence.{All}
 use Rattle.sequences.proofs.Members.{all-append, all-nth}
 use Rattle.layout.specs.declared.Layout.{Layout}
-use Rattle.layout.specs.Words.{mostWidth, cellAt, countAt, recordAt, sizeOf}
+use Rattle.layout.specs.Words.{mostWidth, tailWords, cellAt, countAt, recordAt, sizeOf}
 use Rattle.layout.proofs.Laws.{size-small, cell-fits, header-fits, node-fits}
 use Rattle.stores.specs.declared.Rows.{Rows}
 use Rattle.stores.specs.Stores.{mostRows, Write, write, inRow, writesIn, noRows, Held}
@@ -73,7 +73,7 @@ module _ {l : Layout} {k : ℕ} {t : Site} (p : Placed l k t) where
   -- the words of the site stand within the store
   site-fits
       : (cellAt l (t .cell) + 3 ≤ sizeOf l) × (cellAt l (t .before) + 3 ≤ sizeOf l)
-      × (cellAt l (t .after) + 3 ≤ sizeOf l) × (countAt k < sizeOf l)
+      × (cellAt l (t .after) + 3 ≤ sizeOf l) × (countAt l k < sizeOf l)
   site-fits =
       let r = p .inRange in (
         cell-fits l (t .cell) r (p .cell .high),
@@ -84,11 +84,11 @@ module _ {l : Layout} {k : ℕ} {t : Site} (p : Placed l k t) where
 
   -- their numbers fit a `u16`
   pub site-small
-      : (cellAt l (t .cell) + 3 ≤ 65536) × (cellAt l (t .before) + 3 ≤ 65536) × (cellAt l (t .after) + 3 ≤ 65536) × (countAt k < 65536)
+      : (cellAt l (t .cell) + 3 ≤ 65536) × (cellAt l (t .before) + 3 ≤ 65536) × (cellAt l (t .after) + 3 ≤ 65536) × (countAt l k < 65536)
   site-small = omega (arith, site-fits, size-small l (p .inRange))
 
   -- and so do those of its record
-  pub record-fits : (recordAt l (t .cell) + l .width ≤ sizeOf l) × (sizeOf l ≤ 65536)
+  pub record-fits : (recordAt l (t .cell) + tailWords l ≤ sizeOf l) × (sizeOf l ≤ 65536)
   record-fits = (omega (arith, node-fits l (t .cell) (p .cell)), size-small l (p .inRange))
 
   -- every store goes to a word of the store

@@ -3,13 +3,13 @@ use Prim.Native.Nat.{ℕ, _+_, _-_, _≤_, _<_, min}
 use mathlib.Core.Path.{_≡_, ap, _∙_, sym, subst}
 use mathlib.Core.List.{List, [], _∷_, _++_, append-assoc}
 use native.Mathlib.Omega.{arith}
-use lib.ListN.{length, getD, drop, length-take, length-drop, length-append}
+use lib.ListN.{length, getD, take, drop, length-take, length-drop, length-append}
 use lib.Seq.{ext-getD, getD-take, getD-drop, length-take-le}
 use Rattle.sequences.proofs.Members.{all-append}
 use Rattle.stores.specs.Stores.{Write, write, run, Spares, inRow}
 use Rattle.stores.proofs.Laws.{run-append, length-run, run-out, run-in, row-spares, row-at, length-row}
 use Rattle.layout.specs.declared.Layout.{Layout}
-use Rattle.layout.specs.Words.{cellCount, cellAt, cellWords, sizeOf, Node, identAt, forwardAt, backAt, countAt, recordAt, identOf}
+use Rattle.layout.specs.Words.{tailWords, cellCount, cellAt, cellWords, sizeOf, Node, identAt, forwardAt, backAt, countAt, recordAt, identOf}
 use Rattle.layout.proofs.Laws.{cell-node, node-fits}
 use Rattle.layout.proofs.Apart.{words-apart, words-header, words-node, links-words, word-fits}
 use Rattle.lists.proofs.Same.{ident-word, count-word}
@@ -65,11 +65,11 @@ module _ (l : Layout) (w : List ℕ) (exact : length w ≡ sizeOf l) (k : ℕ) (
   pub spare-ident : (i f j : ℕ) → f < cellWords l i → (i ≡ j → f ≡ 0 → ⊥) → cellAt l i + f ≡ identAt l j → ⊥
   spare-ident i f j h n e = spare-link i f j 0 h (omega arith) n (e ∙ ident-word l j)
 
-  pub spare-count : (i f : ℕ) → f < cellWords l i → (i ≡ k → f ≡ 3 → ⊥) → cellAt l i + f ≡ countAt k → ⊥
+  pub spare-count : (i f : ℕ) → f < cellWords l i → (i ≡ k → f ≡ 3 → ⊥) → cellAt l i + f ≡ countAt l k → ⊥
   spare-count i f h n e = words-apart l i k f 3 n h count-words (e ∙ count-word l k hk)
 
   -- an insert
-  module _ (words : List ℕ) (size : length words ≡ l .width) where
+  module _ (words : List ℕ) (size : length words ≡ tailWords l) where
     pub insert-spares
         : (i f : ℕ) → f < cellWords l i → (i ≡ t .cell → ⊥) → (i ≡ k → f ≡ 3 → ⊥)
         → (i ≡ t .before → f ≡ 1 → ⊥) → (i ≡ t .after → f ≡ 2 → ⊥) → Spares (cellAt l i + f) (insertWrites l k t words)
@@ -154,20 +154,20 @@ module _ (l : Layout) (w : List ℕ) (exact : length w ≡ sizeOf l) (k : ℕ) (
 
     -- the stores in front of the central one
     abbrev pub First : List Write
-    First = Row ++ (Cell-writes ++ write (countAt k) (t .count + 1) ∷ [])
+    First = Row ++ (Cell-writes ++ write (countAt l k) (t .count + 1) ∷ [])
 
     pub first-central : insertWrites l k t words ≡ First ++ (write (forwardAt l (t .before)) (t .cell) ∷ write (backAt l (t .after)) (t .cell) ∷ [])
     unfolding insertWrites insertLinks
-    first-central = sym (append-assoc Row (Cell-writes ++ write (countAt k) (t .count + 1) ∷ []) _)
+    first-central = sym (append-assoc Row (Cell-writes ++ write (countAt l k) (t .count + 1) ∷ []) _)
 
-    pub first-length : length First ≡ l .width + 4
+    pub first-length : length First ≡ tailWords l + 4
     first-length =
-        omega (arith, length-append Row (Cell-writes ++ write (countAt k) (t .count + 1) ∷ []), length-row (recordAt l (t .cell)) words)
+        omega (arith, length-append Row (Cell-writes ++ write (countAt l k) (t .count + 1) ∷ []), length-row (recordAt l (t .cell)) words)
 
     -- they go to the new cell and the count
     pub first-spares : (i f : ℕ) → f < cellWords l i → (i ≡ t .cell → ⊥) → (i ≡ k → f ≡ 3 → ⊥) → Spares (cellAt l i + f) First
     first-spares i f h nc nk =
-        all-append (λ (p : Write). cellAt l i + f ≡ p .at → ⊥) Row (Cell-writes ++ write (countAt k) (t .count + 1) ∷ [])
+        all-append (λ (p : Write). cellAt l i + f ≡ p .at → ⊥) Row (Cell-writes ++ write (countAt l k) (t .count + 1) ∷ [])
         (row-spares (cellAt l i + f) (recordAt l (t .cell)) words
         (λ j g e. words-apart l i (t .cell) f (3 + j) (λ q _. nc q) h (omega (arith, words-node l (t .cell) (hc .low)))
         (e ∙ record-word l (t .cell) j hc))) (
@@ -181,11 +181,11 @@ module _ (l : Layout) (w : List ℕ) (exact : length w ≡ sizeOf l) (k : ℕ) (
           ),
         )
 
-    pub insert-count : getD Done (countAt k) 0 ≡ t .count + 1
+    pub insert-count : getD Done (countAt l k) 0 ≡ t .count + 1
     unfolding insertWrites insertLinks
     insert-count =
-        ap (λ (ps : List Write). getD (run ps w) (countAt k) 0) (sym (append-assoc Row Cell-writes _))
-        ∙ run-in (Row ++ Cell-writes) (write (countAt k) (t .count + 1)) _ w
+        ap (λ (ps : List Write). getD (run ps w) (countAt l k) 0) (sym (append-assoc Row Cell-writes _))
+        ∙ run-in (Row ++ Cell-writes) (write (countAt l k) (t .count + 1)) _ w
         (subst (λ (a : ℕ). a < length w) (sym (count-word l k hk)) (fits k 3 (omega arith) count-words)) (
           (λ e. words-apart l k (t .before) 3 1 (λ _ q. omega arith) count-words (links-words l _ 1 (omega arith)) (sym (count-word l k hk) ∙ e)),
           ((λ e. words-apart l k (t .after) 3 2 (λ _ q. omega arith) count-words (links-words l _ 2 (omega arith)) (sym (count-word l k hk) ∙ e)), tt),
@@ -195,8 +195,8 @@ module _ (l : Layout) (w : List ℕ) (exact : length w ≡ sizeOf l) (k : ℕ) (
     unfolding insertWrites insertLinks
     insert-before =
         ap (λ (ps : List Write). getD (run ps w) (forwardAt l (t .before)) 0)
-        (sym (append-assoc Row (Cell-writes ++ write (countAt k) (t .count + 1) ∷ []) _))
-        ∙ run-in (Row ++ (Cell-writes ++ write (countAt k) (t .count + 1) ∷ [])) (write (forwardAt l (t .before)) (t .cell)) _ w
+        (sym (append-assoc Row (Cell-writes ++ write (countAt l k) (t .count + 1) ∷ []) _))
+        ∙ run-in (Row ++ (Cell-writes ++ write (countAt l k) (t .count + 1) ∷ [])) (write (forwardAt l (t .before)) (t .cell)) _ w
         (fits (t .before) 1 ha (links-words l _ 1 (omega arith)))
         (spare-link (t .before) 1 (t .after) 2 (links-words l _ 1 (omega arith)) (omega arith) (λ _ e. omega arith), tt)
 
@@ -204,25 +204,25 @@ module _ (l : Layout) (w : List ℕ) (exact : length w ≡ sizeOf l) (k : ℕ) (
     unfolding insertWrites insertLinks
     insert-after =
         ap (λ (ps : List Write). getD (run ps w) (backAt l (t .after)) 0)
-        (sym (append-assoc Row (Cell-writes ++ write (countAt k) (t .count + 1) ∷ write (forwardAt l (t .before)) (t .cell) ∷ []) _))
-        ∙ run-in (Row ++ (Cell-writes ++ write (countAt k) (t .count + 1) ∷ write (forwardAt l (t .before)) (t .cell) ∷ []))
+        (sym (append-assoc Row (Cell-writes ++ write (countAt l k) (t .count + 1) ∷ write (forwardAt l (t .before)) (t .cell) ∷ []) _))
+        ∙ run-in (Row ++ (Cell-writes ++ write (countAt l k) (t .count + 1) ∷ write (forwardAt l (t .before)) (t .cell) ∷ []))
         (write (backAt l (t .after)) (t .cell)) [] w
         (fits (t .after) 2 hb (links-words l _ 2 (omega arith))) tt
 
     -- the record is stored as given
-    pub insert-record : recordIn l Done (t .cell) ≡ words
+    pub insert-record : recordIn l Done (t .cell) ≡ take (l .width) words
     unfolding insertWrites insertLinks
     insert-record =
-        ext-getD 0 (recordIn l Done (t .cell)) words
-        (length-take-le (l .width) (drop (recordAt l (t .cell)) Done) room ∙ sym size) at
+        ext-getD 0 (recordIn l Done (t .cell)) (take (l .width) words)
+        (length-take-le (l .width) (drop (recordAt l (t .cell)) Done) room ∙ sym (length-take-le (l .width) words (omega arith))) at
       where
-        whole : recordAt l (t .cell) + l .width ≤ length w
+        whole : recordAt l (t .cell) + tailWords l ≤ length w
         whole = omega (arith, node-fits l (t .cell) hc)
 
         room : l .width ≤ length (drop (recordAt l (t .cell)) Done)
         room = omega (arith, whole, length-drop (recordAt l (t .cell)) Done, length-run (insertWrites l k t words) w)
 
-        at : (j : ℕ) → j < length (recordIn l Done (t .cell)) → getD (recordIn l Done (t .cell)) j 0 ≡ getD words j 0
+        at : (j : ℕ) → j < length (recordIn l Done (t .cell)) → getD (recordIn l Done (t .cell)) j 0 ≡ getD (take (l .width) words) j 0
         at j g =
             let b : j < l .width = omega (arith, length-take (l .width) (drop (recordAt l (t .cell)) Done)) in
             let q : 3 + j < cellWords l (t .cell) = omega (arith, words-node l (t .cell) (hc .low)) in
@@ -248,6 +248,7 @@ module _ (l : Layout) (w : List ℕ) (exact : length w ≡ sizeOf l) (k : ℕ) (
             )
             ∙ ap (λ (a : ℕ). getD (run Row w) a 0) (sym (record-word l (t .cell) j hc))
             ∙ row-at (recordAt l (t .cell)) words w j (omega (arith, whole)) (omega arith)
+            ∙ sym (getD-take (l .width) words j 0 b)
 
   -- a delete
   pub delete-spares
@@ -288,10 +289,10 @@ module _ (l : Layout) (w : List ℕ) (exact : length w ≡ sizeOf l) (k : ℕ) (
         (spare-ident (t .before) 1 (t .cell) (links-words l _ 1 (omega arith)) (λ _ e. omega arith), tt),
       )
 
-  pub delete-count : getD Gone (countAt k) 0 ≡ t .count - 1
+  pub delete-count : getD Gone (countAt l k) 0 ≡ t .count - 1
   unfolding deleteWrites
   delete-count =
-      run-in (write (backAt l (t .after)) (t .before) ∷ write (forwardAt l (t .before)) (t .after) ∷ []) (write (countAt k) (t .count - 1)) _ w
+      run-in (write (backAt l (t .after)) (t .before) ∷ write (forwardAt l (t .before)) (t .after) ∷ []) (write (countAt l k) (t .count - 1)) _ w
       (subst (λ (a : ℕ). a < length w) (sym (count-word l k hk)) (fits k 3 (omega arith) count-words))
       ((λ e. spare-ident k 3 (t .cell) count-words (λ _ q. omega arith) (sym (count-word l k hk) ∙ e)), tt)
 
@@ -299,6 +300,6 @@ module _ (l : Layout) (w : List ℕ) (exact : length w ≡ sizeOf l) (k : ℕ) (
   unfolding deleteWrites
   delete-ident =
       run-in
-      (write (backAt l (t .after)) (t .before) ∷ write (forwardAt l (t .before)) (t .after) ∷ write (countAt k) (t .count - 1) ∷ [])
+      (write (backAt l (t .after)) (t .before) ∷ write (forwardAt l (t .before)) (t .after) ∷ write (countAt l k) (t .count - 1) ∷ [])
       (write (identAt l (t .cell)) 0) [] w
       (subst (λ (a : ℕ). a < length w) (sym (ident-word l (t .cell))) (fits (t .cell) 0 (hc .high) (links-words l _ 0 (omega arith)))) tt

@@ -3,7 +3,7 @@ use Prim.Native.Nat.{ℕ, _+_, _-_, _≤_, _<_}
 use mathlib.Core.List.{List, [], _∷_, _++_}
 use Rattle.stores.specs.Stores.{Write, write, inRow}
 use Rattle.layout.specs.declared.Layout.{Layout}
-use Rattle.layout.specs.Words.{InRange, Node, cellCount, identAt, forwardAt, backAt, countAt, recordAt, identOf}
+use Rattle.layout.specs.Words.{tailWords, InRange, Node, cellCount, identAt, forwardAt, backAt, countAt, recordAt, identOf}
 use Rattle.requests.specs.declared.Site.{Site}
 
 -- "the word stores are, in order: the P record words; its forward = b; its back = a; its identifier; the count plus one; a's
@@ -13,7 +13,7 @@ insertLinks l k t =
     write (forwardAt l (t .cell)) (t .after)
     ∷ write (backAt l (t .cell)) (t .before)
     ∷ write (identAt l (t .cell)) (identOf k)
-    ∷ write (countAt k) (t .count + 1)
+    ∷ write (countAt l k) (t .count + 1)
     ∷ write (forwardAt l (t .before)) (t .cell)
     ∷ write (backAt l (t .after)) (t .cell)
     ∷ []
@@ -23,14 +23,14 @@ insertWrites l k t words = inRow (recordAt l (t .cell)) words ++ insertLinks l k
 
 -- "The central one is a's forward, number P + 5."
 abbrev pub insertCentral : Layout → ℕ
-insertCentral l = l .width + 5
+insertCentral l = tailWords l + 5
 
 -- "Delete stores four words: b's back = a; a's forward = b, the central one; the count less one; the cell's identifier = 0."
 unfoldable pub deleteWrites : Layout → ℕ → Site → List Write
 deleteWrites l k t =
     write (backAt l (t .after)) (t .before)
     ∷ write (forwardAt l (t .before)) (t .after)
-    ∷ write (countAt k) (t .count - 1)
+    ∷ write (countAt l k) (t .count - 1)
     ∷ write (identAt l (t .cell)) 0
     ∷ []
 

@@ -7,13 +7,13 @@ ghost use mathlib.Core.Path.{_≡_};
 ghost use Prim.Native.Nat.{_-_, _≤_};
 ghost use mathlib.Core.List.{_++_};
 ghost use lib.ListN.{length};
-ghost use Rattle.layout.specs.Words.{mostWidth, sizeOf, recordAt};
+ghost use Rattle.layout.specs.Words.{mostWidth, tailWords, sizeOf, recordAt};
 ghost use Rattle.stores.specs.Stores.{inRow, writesIn, Held};
 ghost use Rattle.edits.specs.Edits.{insertLinks, insertWrites, deleteWrites, Placed};
 
 // The stores of the record words.
 fn record_rows(l: Layout, k: u16, t: Site, words: &[u16]) -> Rows
-    requires { ⌜ Placed l k t × (length (now words) ≡ l .width) ⌝ }
+    requires { ⌜ Placed l k t × (length (now words) ≡ tailWords l) ⌝ }
     ensures { λ r. ⌜ Held (sizeOf l) r (inRow (recordAt l (t .cell)) (now (words .entry))) ⌝ }
 {
     let a = l.node(t.cell) + Layout::LINK_WORDS;
@@ -43,7 +43,7 @@ fn link_rows(rows: Rows, l: Layout, k: u16, t: Site) -> Rows
     values[n + 1] = t.before;
     at[n + 2] = cell as u16;
     values[n + 2] = Layout::ident(k);
-    at[n + 3] = (Layout::header(k) + Layout::COUNT) as u16;
+    at[n + 3] = (l.header(k) + Layout::COUNT) as u16;
     values[n + 3] = t.count + 1;
     at[n + 4] = (l.cell(t.before) + Layout::FORWARD) as u16;
     values[n + 4] = t.cell;
@@ -58,7 +58,7 @@ fn link_rows(rows: Rows, l: Layout, k: u16, t: Site) -> Rows
 
 // The stores of an insert.
 pub fn insert_rows(l: Layout, k: u16, t: Site, words: &[u16]) -> Rows
-    requires { ⌜ Placed l k t × (length (now words) ≡ l .width) ⌝ }
+    requires { ⌜ Placed l k t × (length (now words) ≡ tailWords l) ⌝ }
     ensures { λ r. ⌜ Held (sizeOf l) r (insertWrites l k t (now (words .entry))) ⌝ }
 {
     link_rows(record_rows(l, k, t, words), l, k, t)
@@ -82,7 +82,7 @@ pub fn delete_rows(l: Layout, k: u16, t: Site) -> Rows
     values[0] = t.before;
     at[1] = (l.cell(t.before) + Layout::FORWARD) as u16;
     values[1] = t.after;
-    at[2] = (Layout::header(k) + Layout::COUNT) as u16;
+    at[2] = (l.header(k) + Layout::COUNT) as u16;
     values[2] = less_one(t.count);
     at[3] = l.cell(t.cell) as u16;
     values[3] = 0;

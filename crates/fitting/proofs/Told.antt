@@ -131,14 +131,14 @@ module _ (l : Layout) (w : List ℕ) (k : ℕ) (s : List ℕ) where
   backSum = backFaults (viewOf l w) backWord (steps k s k)
 
   abbrev pub countSum : Faults
-  countSum = fault (countIn w k) k countWord (length s)
+  countSum = fault (countIn l w k) k countWord (length s)
 
   abbrev pub faultSum : Faults
-  faultSum = faultsOf (viewOf l w) forwardWord backWord k (countIn w k) s
+  faultSum = faultsOf (viewOf l w) forwardWord backWord k (countIn l w k) s
 
   -- sorted as they are asked
   pub sum-sorted : faultSum ≡ plus identSum (plus onwardSum (plus backSum countSum))
-  sum-sorted = faults-sorted (viewOf l w) forwardWord backWord k (countIn w k) s
+  sum-sorted = faults-sorted (viewOf l w) forwardWord backWord k (countIn l w k) s
 
   -- each kind sums up its wrong words
   pub summed-idents : Summed l identSum (wrong w (identsAsked l k s))
@@ -158,8 +158,8 @@ module _ (l : Layout) (w : List ℕ) (k : ℕ) (s : List ℕ) where
       (λ (p : Step). write (backAt l (p .target)) (p .source))
       (λ p. summed-fault l w (p .target) backWord (p .source) (backAt l (p .target)) refl) (steps k s k)
 
-  pub summed-count : k < l .lists → Summed l countSum (wrong w (countAsked k s))
-  summed-count h = summed-fault l w k countWord (length s) (countAt k) (count-word l k h)
+  pub summed-count : k < l .lists → Summed l countSum (wrong w (countAsked l k s))
+  summed-count h = summed-fault l w k countWord (length s) (countAt l k) (count-word l k h)
 
   -- and all sum up all
   pub summed-forward : k < l .lists → Summed l faultSum (wrong w (asked l k s))
@@ -167,7 +167,7 @@ module _ (l : Layout) (w : List ℕ) (k : ℕ) (s : List ℕ) where
   summed-forward h =
       subst (λ (f : Faults). Summed l f (wrong w (asked l k s)))
       (plus-assoc identSum (plus onwardSum backSum) countSum ∙ ap (plus identSum) (plus-assoc onwardSum backSum countSum) ∙ sym sum-sorted)
-      (both (plus identSum (plus onwardSum backSum)) countSum (othersAsked l k s) (countAsked k s)
+      (both (plus identSum (plus onwardSum backSum)) countSum (othersAsked l k s) (countAsked l k s)
       (both identSum (plus onwardSum backSum) (identsAsked l k s) (forwardsAsked l k s ++ backsAsked l k s) summed-idents
       (both onwardSum backSum (forwardsAsked l k s) (backsAsked l k s) summed-onward summed-back)) (summed-count h))
     where
@@ -314,7 +314,7 @@ module _ (l : Layout) (w : List ℕ) (k : ℕ) (h : k < l .lists) where
   back-only s f n =
       let i : length (wrong w (identsAsked l k s)) ≡ 0 = omega (arith, wrong-parts l w k s) in
       let o : length (wrong w (forwardsAsked l k s)) ≡ 0 = omega (arith, wrong-parts l w k s) in
-      let c : length (wrong w (countAsked k s)) ≡ 0 = omega (arith, wrong-parts l w k s) in
+      let c : length (wrong w (countAsked l k s)) ≡ 0 = omega (arith, wrong-parts l w k s) in
       let b : length (wrong w (backsAsked l k s)) ≤ 1 = omega (arith, wrong-parts l w k s) in
       let e : faultSum l w k s ≡ backSum l w k s =
       sum-sorted l w k s
@@ -335,7 +335,7 @@ module _ (l : Layout) (w : List ℕ) (k : ℕ) (h : k < l .lists) where
   onward-only s f n =
       let i : length (wrong w (identsAsked l k s)) ≡ 0 = omega (arith, wrong-parts l w k s) in
       let o : length (wrong w (backsAsked l k s)) ≡ 0 = omega (arith, wrong-parts l w k s) in
-      let c : length (wrong w (countAsked k s)) ≡ 0 = omega (arith, wrong-parts l w k s) in
+      let c : length (wrong w (countAsked l k s)) ≡ 0 = omega (arith, wrong-parts l w k s) in
       let b : length (wrong w (forwardsAsked l k s)) ≤ 1 = omega (arith, wrong-parts l w k s) in
       let e : faultSum l w k s ≡ onwardSum l w k s =
       sum-sorted l w k s
@@ -417,18 +417,18 @@ module _ (l : Layout) (w : List ℕ) (k : ℕ) (h : k < l .lists) where
           (fit-by false false c p q e)
 
   -- the decision from the columns is the decision on the words
-  pub fit-told : Told l w k (fitIn l (viewOf l w) k (countIn w k))
+  pub fit-told : Told l w k (fitIn l (viewOf l w) k (countIn l w k))
   unfolding fitIn walkFaults
   fit-told =
       subst (λ (g : Faults). Told l w k (choose (faultSum l w k (sequenceOf l w k)) g))
-      (sym (turned-faults (viewOf l w) forwardWord backWord k (countIn w k) (walked l (turned (viewOf l w)) k))) told-by
+      (sym (turned-faults (viewOf l w) forwardWord backWord k (countIn l w k) (walked l (turned (viewOf l w)) k))) told-by
 
 -- the members by the walk that was chosen are those of the sequence that fits
 pub members-told
-    : (l : Layout) (w : List ℕ) (k : ℕ) → k < l .lists → numberOf (fitIn l (viewOf l w) k (countIn w k)) ≡ 0 → (c : ℕ)
-    → (c ∈ membersBy l (viewOf l w) (isBackward (fitIn l (viewOf l w) k (countIn w k))) k → c ∈ fittingOf l w k)
-    × (c ∈ fittingOf l w k → c ∈ membersBy l (viewOf l w) (isBackward (fitIn l (viewOf l w) k (countIn w k))) k)
-members-told l w k h z c = by (fitIn l (viewOf l w) k (countIn w k)) z (fit-told l w k h)
+    : (l : Layout) (w : List ℕ) (k : ℕ) → k < l .lists → numberOf (fitIn l (viewOf l w) k (countIn l w k)) ≡ 0 → (c : ℕ)
+    → (c ∈ membersBy l (viewOf l w) (isBackward (fitIn l (viewOf l w) k (countIn l w k))) k → c ∈ fittingOf l w k)
+    × (c ∈ fittingOf l w k → c ∈ membersBy l (viewOf l w) (isBackward (fitIn l (viewOf l w) k (countIn l w k))) k)
+members-told l w k h z c = by (fitIn l (viewOf l w) k (countIn l w k)) z (fit-told l w k h)
   where
     by : (r : Fitted) → numberOf r ≡ 0 → Told l w k r
         → (c ∈ membersBy l (viewOf l w) (isBackward r) k → c ∈ fittingOf l w k)
@@ -442,9 +442,9 @@ members-told l w k h z c = by (fitIn l (viewOf l w) k (countIn w k)) z (fit-told
 
 -- the sequence that fits, and its faults
 pub chosen-told
-    : (l : Layout) (w : List ℕ) (k : ℕ) → k < l .lists → numberOf (fitIn l (viewOf l w) k (countIn w k)) ≡ 0
-    → (fitOf l w k ≡ only (fittingOf l w k)) × (faultIn (fitIn l (viewOf l w) k (countIn w k)) ≡ faultSum l w k (fittingOf l w k))
-chosen-told l w k h z = by (fitIn l (viewOf l w) k (countIn w k)) z (fit-told l w k h)
+    : (l : Layout) (w : List ℕ) (k : ℕ) → k < l .lists → numberOf (fitIn l (viewOf l w) k (countIn l w k)) ≡ 0
+    → (fitOf l w k ≡ only (fittingOf l w k)) × (faultIn (fitIn l (viewOf l w) k (countIn l w k)) ≡ faultSum l w k (fittingOf l w k))
+chosen-told l w k h z = by (fitIn l (viewOf l w) k (countIn l w k)) z (fit-told l w k h)
   where
     by : (r : Fitted) → numberOf r ≡ 0 → Told l w k r
         → (fitOf l w k ≡ only (fittingOf l w k)) × (faultIn r ≡ faultSum l w k (fittingOf l w k))

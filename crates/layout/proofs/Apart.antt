@@ -11,9 +11,9 @@ use Rattle.layout.specs.declared.Layout.{Layout}
 use Rattle.layout.specs.Words.{headWords, headerWords, linkWords, headerAt, firstNode, cellCount, nodeWords, nodeAt, cellAt, cellWords, sizeOf}
 use Rattle.layout.proofs.Laws.{cell-header, cell-node, header-fits, node-fits}
 
-pub words-header : (l : Layout) (i : ℕ) → i < firstNode l → cellWords l i ≡ headerWords
+pub words-header : (l : Layout) (k : ℕ) → k < l .lists → cellWords l k ≡ headerWords
 unfolding cellWords
-words-header l i h = rw (lt-ltb i (firstNode l) h)
+words-header l k h = rw (lt-ltb k (firstNode l) h)
 
 pub words-node : (l : Layout) (i : ℕ) → firstNode l ≤ i → cellWords l i ≡ nodeWords l
 unfolding cellWords
@@ -26,7 +26,7 @@ node-order l i j h k =
     let e : suc (i - firstNode l) ≤ j - firstNode l = omega arith in
     omega (arith, mul-le-mul-left (nodeWords l) e, mul-suc (nodeWords l) (i - firstNode l))
 
-header-order : (l : Layout) (i j : ℕ) → i < firstNode l → firstNode l ≤ j → headerAt i + headerWords ≤ nodeAt l j
+header-order : (l : Layout) (i j : ℕ) → i < firstNode l → firstNode l ≤ j → headerAt l i + headerWords ≤ nodeAt l j
 unfolding nodeAt
 header-order l i j h k = omega arith
 

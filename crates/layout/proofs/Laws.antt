@@ -12,7 +12,7 @@ use borrow.Author.Tests.{lt-ltb, le-ltb, le-leb, eq-eqb, ltb-true, ltb-false, le
 use Rattle.layout.specs.declared.Layout.{Layout}
 use Rattle.layout.specs.declared.Opened.{Opened}
 use Rattle.layout.specs.declared.Opened.the-variants.{Open, Refused}
-use Rattle.layout.specs.Words.{mostLists, mostNodes, mostWidth, headWords, headerWords, linkWords, identWord, countWord, headerAt, firstNode, cellCount, Node, isNode, nodeWords, nodeAt, cellAt, sizeOf, identOf, marked, layoutOf, InRange, between, inRange, openedBy, opened, head, emptyHeaders, formatted}
+use Rattle.layout.specs.Words.{newest, mostLists, mostNodes, mostWidth, headWords, headerWords, linkWords, identWord, countWord, headerAt, firstNode, cellCount, Node, isNode, checkWords, tailWords, nodeWords, nodesAt, nodeAt, cellAt, sizeOf, identOf, marked, layoutOf, InRange, between, inRange, openedBy, opened, head, emptyHeaders, formatted}
 
 -- a test b that a call answered by r, where the code asked `!r`: it held, or it did not
 pub answered-no : {r b : Bool} → r ≡ b → not r ≡ true → b ≡ false
@@ -21,17 +21,22 @@ answered-no {r} e h = sym e ∙ not-true r h
 pub answered-yes : {r b : Bool} → r ≡ b → not r ≡ false → b ≡ true
 answered-yes {r} e h = sym e ∙ not-false r h
 
+-- a record is all that version 1 has behind a node's links
+pub tail-width : (l : Layout) → tailWords l ≡ l .width
+unfolding checkWords
+tail-width l = omega arith
+
 -- the words of n nodes are far fewer than a `usize` can count
-pub product-fits : (p n : ℕ) → p < 65536 → n < 65536 → (linkWords + p) * n ≤ (linkWords + 65535) * 65535
-product-fits p n hp hn =
-    let a : linkWords + p ≤ linkWords + 65535 = omega arith in
+pub product-fits : (l : Layout) (n : ℕ) → l .width < 65536 → n < 65536 → nodeWords l * n ≤ (linkWords + 65535) * 65535
+product-fits l n hp hn =
+    let a : nodeWords l ≤ linkWords + 65535 = omega (arith, tail-width l) in
     let b : n ≤ 65535 = omega arith in
     mul-le-mul a b
 
--- a cell below the first node is a header
-pub cell-header : (l : Layout) (i : ℕ) → i < firstNode l → cellAt l i ≡ headerAt i
+-- the cell of list k is its header
+pub cell-header : (l : Layout) (k : ℕ) → k < l .lists → cellAt l k ≡ headerAt l k
 unfolding cellAt
-cell-header l i h = rw (lt-ltb i (firstNode l) h)
+cell-header l k h = rw (lt-ltb k (firstNode l) h)
 
 -- any other cell is a node
 pub cell-node : (l : Layout) (i : ℕ) → firstNode l ≤ i → cellAt l i ≡ nodeAt l i
@@ -46,7 +51,7 @@ node-fits l i n =
     omega (arith, mul-le-mul-left (nodeWords l) h, mul-suc (nodeWords l) (i - firstNode l))
 
 -- a header ends within the store
-pub header-fits : (l : Layout) (k : ℕ) → k < firstNode l → headerAt k + headerWords ≤ sizeOf l
+pub header-fits : (l : Layout) (k : ℕ) → k < l .lists → headerAt l k + headerWords ≤ sizeOf l
 unfolding sizeOf
 header-fits l k h = omega arith
 
@@ -97,20 +102,32 @@ between-is a b x h k = rw (le-leb a x h, le-leb x b k)
 pub in-range : (l : Layout) → inRange l ≡ true → InRange l
 unfolding inRange
 in-range l e =
-    let t = and-eq-true-iff (between 1 mostLists (l .lists)) (between 1 mostNodes (l .nodes) && between 1 mostWidth (l .width)) .0 e in
+    let s = and-eq-true-iff (between 1 newest (l .version)) _ .0 e in
+    let t = and-eq-true-iff (between 1 mostLists (l .lists)) (between 1 mostNodes (l .nodes) && between 1 mostWidth (l .width)) .0 (s .1) in
     let u = and-eq-true-iff (between 1 mostNodes (l .nodes)) (between 1 mostWidth (l .width)) .0 (t .1) in
+    let v = is-between 1 newest (l .version) (s .0) in
     let a = is-between 1 mostLists (l .lists) (t .0) in
     let b = is-between 1 mostNodes (l .nodes) (u .0) in
     let c = is-between 1 mostWidth (l .width) (u .1) in
-    record { someLists = a .0; lists = a .1; someNodes = b .0; nodes = b .1; someWidth = c .0; width = c .1 }
+    record {
+      someVersion = v .0;
+      version = v .1;
+      someLists = a .0;
+      lists = a .1;
+      someNodes = b .0;
+      nodes = b .1;
+      someWidth = c .0;
+      tail = omega (arith, tail-width l);
+    }
 
 pub range-in : (l : Layout) → InRange l → inRange l ≡ true
 unfolding inRange
 range-in l r =
     rw (
+      between-is 1 newest (l .version) (r .someVersion) (r .version),
       between-is 1 mostLists (l .lists) (r .someLists) (r .lists),
       between-is 1 mostNodes (l .nodes) (r .someNodes) (r .nodes),
-      between-is 1 mostWidth (l .width) (r .someWidth) (r .width),
+      between-is 1 mostWidth (l .width) (r .someWidth) (omega arith),
     )
 
 -- a question that did not refuse was answered yes
@@ -196,28 +213,33 @@ length-formatted l =
     )
 
 -- what a formatted store holds: its headers
-pub formatted-header : (l : Layout) (k j : ℕ) → k < l .lists → j < headerWords → getD (formatted l) (headerAt k + j) 0 ≡ getD (identOf k ∷ k ∷ k ∷ 0 ∷ []) j 0
+pub formatted-header : (l : Layout) (k j : ℕ) → k < l .lists → j < headerWords → getD (formatted l) (headerAt l k + j) 0 ≡ getD (identOf k ∷ k ∷ k ∷ 0 ∷ []) j 0
 unfolding formatted
 formatted-header l k j h g =
-    behind (head l) (headersOf l ++ nodesOf l) (headerAt k + j) (headerWords * k + j) (omega arith)
+    behind (head l) (headersOf l ++ nodesOf l) (headerAt l k + j) (headerWords * k + j) (omega arith)
     ∙ headers-at (nodesOf l) 0 (l .lists) k k j (omega arith) h g
 
 -- and 0 behind them
-pub formatted-node : (l : Layout) (a : ℕ) → headWords + headerWords * l .lists ≤ a → getD (formatted l) a 0 ≡ 0
+pub formatted-node : (l : Layout) (a : ℕ) → nodesAt l ≤ a → getD (formatted l) a 0 ≡ 0
 unfolding formatted
 formatted-node l a h =
-    let n : ℕ = a - (headWords + headerWords * l .lists) in
+    let n : ℕ = a - nodesAt l in
     behind (head l) (headersOf l ++ nodesOf l) a (headerWords * l .lists + n) (omega arith)
     ∙ (behind (headersOf l) (nodesOf l) (headerWords * l .lists + n) n (omega (arith, length-headers 0 (l .lists)))
     ∙ zeros (nodeWords l * l .nodes) n)
 
+-- a formatted store has its mark
+pub formatted-marked : (l : Layout) → InRange l → marked (formatted l) ≡ true
+unfolding marked formatted
+formatted-marked l r = rw (between-is 1 newest (l .version) (r .someVersion) (r .version))
+
 -- the word of a header by its place in the store
-pub formatted-at : (l : Layout) (i : ℕ) → headWords ≤ i → i - headWords < headerWords * l .lists
+pub formatted-at : (l : Layout) (i : ℕ) → headWords ≤ i → i < nodesAt l
     → getD (formatted l) i 0 ≡ getD (emptyHeader ((i - headWords) / headerWords)) ((i - headWords) % headerWords) 0
 formatted-at l i h g =
     let k = (i - headWords) / headerWords in
     let j = (i - headWords) % headerWords in
-    let e : i ≡ headerAt k + j = omega arith in
+    let e : i ≡ headerAt l k + j = omega arith in
     ap (λ (n : ℕ). getD (formatted l) n 0) e ∙ formatted-header l k j (omega arith) (omega arith)
 
 -- forward and back of an empty list lead to its header

@@ -29,8 +29,8 @@ headWords = 8
 abbrev pub headerWords : ℕ
 headerWords = 4
 
-abbrev pub headerAt : ℕ → ℕ
-headerAt k = headWords + headerWords * k
+abbrev pub headerAt : Layout → ℕ → ℕ
+headerAt l k = headWords + headerWords * k
 
 -- "Cells are numbered: 0 to L - 1 are the lists' headers, L to L + N - 1 are nodes."
 abbrev pub firstNode : Layout → ℕ
@@ -50,17 +50,27 @@ isNode l i = leb (firstNode l) i && ltb i (cellCount l)
 abbrev pub linkWords : ℕ
 linkWords = 3
 
+-- the words behind its links: the record and, from a later version on, check words
+unfoldable pub checkWords : Layout → ℕ
+checkWords l = 0
+
+abbrev pub tailWords : Layout → ℕ
+tailWords l = l .width + checkWords l
+
 abbrev pub nodeWords : Layout → ℕ
-nodeWords l = linkWords + l .width
+nodeWords l = linkWords + tailWords l
+
+abbrev pub nodesAt : Layout → ℕ
+nodesAt l = headWords + headerWords * l .lists
 
 unfoldable pub nodeAt : Layout → ℕ → ℕ
-nodeAt l i = headWords + headerWords * l .lists + nodeWords l * (i - firstNode l)
+nodeAt l i = nodesAt l + nodeWords l * (i - firstNode l)
 
 -- the first word of a cell, header or node, and the words behind it
 unfoldable pub cellAt : Layout → ℕ → ℕ
-cellAt l i = cond (ltb i (firstNode l)) (headerAt i) (nodeAt l i)
+cellAt l i = cond (ltb i (firstNode l)) (headerAt l i) (nodeAt l i)
 
--- the words of a cell: a header's four, a node's three and its record
+-- the words of a cell: a header's four, a node's three and its tail
 unfoldable pub cellWords : Layout → ℕ → ℕ
 cellWords l i = cond (ltb i (firstNode l)) headerWords (nodeWords l)
 
@@ -86,43 +96,54 @@ forwardAt l i = cellAt l i + forwardWord
 abbrev pub backAt : Layout → ℕ → ℕ
 backAt l i = cellAt l i + backWord
 
-abbrev pub countAt : ℕ → ℕ
-countAt k = headerAt k + countWord
+abbrev pub countAt : Layout → ℕ → ℕ
+countAt l k = headerAt l k + countWord
 
 abbrev pub recordAt : Layout → ℕ → ℕ
 recordAt l i = nodeAt l i + linkWords
 
 -- "The store has exactly 8 + 4L + (3 + P) × N words, at most 32,040."
 unfoldable pub sizeOf : Layout → ℕ
-sizeOf l = headWords + headerWords * l .lists + nodeWords l * l .nodes
+sizeOf l = nodesAt l + nodeWords l * l .nodes
 
 -- "The identifier of list k is 42,400 + k."
 abbrev pub identOf : ℕ → ℕ
 identOf k = 42400 + k
 
 -- "Words 0 to 2: the mark RBS as letter codes 82, 66, 83. Word 3: version, 1. .. Word 7: 0."
+abbrev pub newest : ℕ
+newest = 1
+
+abbrev pub between : ℕ → ℕ → ℕ → Bool
+between a b x = leb a x && leb x b
+
 unfoldable pub marked : List ℕ → Bool
 marked w =
     eqb (getD w 0 0) 82
-    && (eqb (getD w 1 0) 66 && (eqb (getD w 2 0) 83 && (eqb (getD w 3 0) 1 && eqb (getD w 7 0) 0)))
+    && (eqb (getD w 1 0) 66 && (eqb (getD w 2 0) 83 && (between 1 newest (getD w 3 0) && eqb (getD w 7 0) 0)))
 
 -- "Word 4: L, the lists, 1 to 8. Word 5: N, the node cells, 1 to 2,000. Word 6: P, the words of a record, 1 to 13."
 abbrev pub layoutOf : List ℕ → Layout
-layoutOf w = record { lists = getD w 4 0; nodes = getD w 5 0; width = getD w 6 0 }
+layoutOf w = record { version = getD w 3 0; lists = getD w 4 0; nodes = getD w 5 0; width = getD w 6 0 }
+
+-- the layout that format is given
+abbrev pub layoutFor : ℕ → ℕ → ℕ → Layout
+layoutFor lists nodes width = record { version = newest; lists = lists; nodes = nodes; width = width }
 
 pub record InRange (l : Layout) : Type 0 where
+  pub someVersion : 1 ≤ l .version
+  pub version : l .version ≤ newest
   pub someLists : 1 ≤ l .lists
   pub lists : l .lists ≤ mostLists
   pub someNodes : 1 ≤ l .nodes
   pub nodes : l .nodes ≤ mostNodes
   pub someWidth : 1 ≤ l .width
-  pub width : l .width ≤ mostWidth
-
-abbrev pub between : ℕ → ℕ → ℕ → Bool
-between a b x = leb a x && leb x b
+  pub tail : tailWords l ≤ mostWidth
 
 unfoldable pub inRange : Layout → Bool
-inRange l = between 1 mostLists (l .lists) && (between 1 mostNodes (l .nodes) && between 1 mostWidth (l .width))
+inRange l =
+    between 1 newest (l .version)
+    && (between 1 mostLists (l .lists) && (between 1 mostNodes (l .nodes) && between 1 mostWidth (l .width)))
 
 -- a question: on yes what follows, on no its refusal
 abbrev pub ask {ℓ} : {A : Type ℓ} → Bool → A → A → A
@@ -152,7 +173,7 @@ pub record Laid (l : Layout) (w : List ℕ) : Type 0 where
 
 -- "Format writes words 0 to 7, empty headers, and 0 elsewhere."
 abbrev pub head : Layout → List ℕ
-head l = 82 ∷ 66 ∷ 83 ∷ 1 ∷ l .lists ∷ l .nodes ∷ l .width ∷ 0 ∷ []
+head l = 82 ∷ 66 ∷ 83 ∷ l .version ∷ l .lists ∷ l .nodes ∷ l .width ∷ 0 ∷ []
 
 -- "An empty list's header points to itself both ways": n of them from k on
 unfoldable pub emptyHeaders : ℕ → ℕ → List ℕ

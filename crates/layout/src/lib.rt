@@ -7,11 +7,12 @@
 // Cells 0 to L - 1 are the headers and cells L to L + N - 1 the nodes. Every number of the layout stands here, once.
 ghost use mathlib.Core.Path.{_≡_};
 ghost use Prim.Native.Nat.{_+_, _*_, _-_, _<_, _≤_};
-ghost use lib.ListN.{getD};
-ghost use Rattle.layout.specs.Words.{mostLists, headWords, firstNode, cellCount, isNode, headerAt, nodeAt, cellAt, sizeOf, identOf, between, inRange, InRange, marked, openedBy, opened, formatted};
+ghost use lib.ListN.{length, getD};
+ghost use Rattle.layout.specs.Words.{newest, mostLists, headWords, firstNode, cellCount, isNode, headerAt, checkWords, nodeWords, nodesAt, nodeAt, cellAt, sizeOf, identOf, between, inRange, InRange, marked, openedBy, opened, formatted};
 
-// L, N and P of a store.
+// Version, L, N and P of a store.
 pub struct Layout {
+    pub version: u16,
     pub lists: u16,
     pub nodes: u16,
     pub width: u16,
@@ -24,14 +25,14 @@ pub enum Opened {
 }
 
 impl Layout {
-    // Words 0 to 2, the version in word 3, and word 7.
+    // Words 0 to 2, the newest version, and word 7.
     pub const MARK_0: u16 = 82;
 
     pub const MARK_1: u16 = 66;
 
     pub const MARK_2: u16 = 83;
 
-    pub const VERSION: u16 = 1;
+    pub const NEWEST: u16 = 1;
 
     pub const SPARE: u16 = 0;
 
@@ -79,10 +80,13 @@ impl Layout {
     // The identifier of list 0.
     pub const IDENT: u16 = 42400;
 
-    // Are L, N and P in range?
+    // Are the version, L, N and P in range?
     pub fn in_range(self) -> bool
         ensures { λ r. ⌜ r ≡ inRange self ⌝ }
     {
+        if !known(self.version) {
+            return false;
+        }
         if !within(self.lists, Layout::MAX_LISTS) {
             return false;
         }
@@ -126,11 +130,32 @@ impl Layout {
         Layout::IDENT + k
     }
 
-    // The first word of header k.
-    pub fn header(k: u16) -> usize
-        ensures { λ r. ⌜ r ≡ headerAt k ⌝ }
+    // The first word of the header of list k.
+    pub fn header(self, k: u16) -> usize
+        ensures { λ r. ⌜ r ≡ headerAt self k ⌝ }
     {
         Layout::HEAD_WORDS + Layout::HEADER_WORDS * (k as usize)
+    }
+
+    // The word behind the headers, where the nodes begin.
+    pub fn nodes_at(self) -> usize
+        ensures { λ r. ⌜ r ≡ nodesAt self ⌝ }
+    {
+        Layout::HEAD_WORDS + Layout::HEADER_WORDS * (self.lists as usize)
+    }
+
+    // The words of a node behind its record: version 1 has none.
+    fn check_words(self) -> usize
+        ensures { λ r. ⌜ r ≡ checkWords self ⌝ }
+    {
+        0
+    }
+
+    // The words of a node.
+    fn node_words(self) -> usize
+        ensures { λ r. ⌜ r ≡ nodeWords self ⌝ }
+    {
+        Layout::LINK_WORDS + self.width as usize + self.check_words()
     }
 
     // The first word of node i.
@@ -139,8 +164,7 @@ impl Layout {
         ensures { λ r. ⌜ r ≡ nodeAt self i ⌝ }
     {
         let n = i - self.first_node();
-        let words = Layout::LINK_WORDS + self.width as usize;
-        Layout::HEAD_WORDS + Layout::HEADER_WORDS * (self.lists as usize) + words * (n as usize)
+        self.nodes_at() + self.node_words() * (n as usize)
     }
 
     // The first word of cell i.
@@ -148,7 +172,7 @@ impl Layout {
         ensures { λ r. ⌜ r ≡ cellAt self i ⌝ }
     {
         if i < self.first_node() {
-            Layout::header(i)
+            self.header(i)
         } else {
             self.node(i)
         }
@@ -158,10 +182,7 @@ impl Layout {
     pub fn size(self) -> usize
         ensures { λ r. ⌜ r ≡ sizeOf self ⌝ }
     {
-        let words = Layout::LINK_WORDS + self.width as usize;
-        Layout::HEAD_WORDS
-            + Layout::HEADER_WORDS * (self.lists as usize)
-            + words * (self.nodes as usize)
+        self.nodes_at() + self.node_words() * (self.nodes as usize)
     }
 
     // Word i of the first eight.
@@ -173,7 +194,7 @@ impl Layout {
             0 => Layout::MARK_0,
             1 => Layout::MARK_1,
             2 => Layout::MARK_2,
-            Layout::VERSION_AT => Layout::VERSION,
+            Layout::VERSION_AT => self.version,
             Layout::LISTS_AT => self.lists,
             Layout::NODES_AT => self.nodes,
             Layout::WIDTH_AT => self.width,
@@ -189,10 +210,10 @@ impl Layout {
         if i < Layout::HEAD_WORDS {
             return self.head_word(i);
         }
-        let at = i - Layout::HEAD_WORDS;
-        if Layout::HEADER_WORDS * (self.lists as usize) <= at {
+        if self.nodes_at() <= i {
             return 0;
         }
+        let at = i - Layout::HEAD_WORDS;
         let k = (at / Layout::HEADER_WORDS) as u16;
         let field = at % Layout::HEADER_WORDS;
         match field {
@@ -213,9 +234,17 @@ fn within(x: u16, max: usize) -> bool
     x as usize <= max
 }
 
+// Is there such a version?
+fn known(version: u16) -> bool
+    ensures { λ r. ⌜ r ≡ between 1 newest version ⌝ }
+{
+    within(version, Layout::NEWEST as usize)
+}
+
 // Do words 0 to 3 and 7 stand as laid out?
-fn is_marked(head: [u16; Layout::HEAD_WORDS]) -> bool
-    ensures { λ r. ⌜ r ≡ marked head ⌝ }
+fn is_marked(head: &[u16]) -> bool
+    requires { ⌜ headWords ≤ length (now head) ⌝ }
+    ensures { λ r. ⌜ r ≡ marked (now (head .entry)) ⌝ }
 {
     if head[0] != Layout::MARK_0 {
         return false;
@@ -226,23 +255,22 @@ fn is_marked(head: [u16; Layout::HEAD_WORDS]) -> bool
     if head[2] != Layout::MARK_2 {
         return false;
     }
-    if head[Layout::VERSION_AT] != Layout::VERSION {
+    if !known(head[Layout::VERSION_AT]) {
         return false;
     }
     head[Layout::SPARE_AT] == Layout::SPARE
 }
 
-// Questions 1 to 4 of a store of n words that begins with the words of head.
-pub fn open_with(n: usize, head: [u16; Layout::HEAD_WORDS]) -> Opened
-    ensures { λ r. ⌜ r ≡ openedBy n head ⌝ }
+// Questions 2 to 4 of a store of n words, eight or more, that begins with the words of head.
+pub fn open_with(n: usize, head: &[u16]) -> Opened
+    requires { ⌜ (headWords ≤ n) × (headWords ≤ length (now head)) ⌝ }
+    ensures { λ r. ⌜ r ≡ openedBy n (now (head .entry)) ⌝ }
 {
-    if n < Layout::HEAD_WORDS {
-        return Opened::Refused(1);
-    }
     if !is_marked(head) {
         return Opened::Refused(2);
     }
     let l = Layout {
+        version: head[Layout::VERSION_AT],
         lists: head[Layout::LISTS_AT],
         nodes: head[Layout::NODES_AT],
         width: head[Layout::WIDTH_AT],
@@ -263,15 +291,5 @@ pub fn open(words: &[u16]) -> Opened
     if words.len() < Layout::HEAD_WORDS {
         return Opened::Refused(1);
     }
-    let head = [
-        words[0],
-        words[1],
-        words[2],
-        words[3],
-        words[4],
-        words[5],
-        words[6],
-        words[7],
-    ];
-    open_with(words.len(), head)
+    open_with(words.len(), words)
 }

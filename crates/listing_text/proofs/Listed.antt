@@ -40,15 +40,15 @@ module _ (w : List ℕ) where
 
   pub listing-open : {l : Layout} → opened w ≡ O.Open l → listingOf w ≡ listedOf l w
   unfolding listingOf lookOf siteIn listedBy
-  listing-open {l} e = by (soundIn l (viewOf l w) (countIn w)) refl
+  listing-open {l} e = by (soundIn l (viewOf l w) (countIn l w)) refl
     where
-      by : (b : Bool) → soundIn l (viewOf l w) (countIn w) ≡ b → listingOf w ≡ listedOf l w
+      by : (b : Bool) → soundIn l (viewOf l w) (countIn l w) ≡ b → listingOf w ≡ listedOf l w
       by true s = rw (e, s)
       by false s = rw (e, s)
 
 -- the listing by the columns and the counts is that of the words
 pub listed-loaded : (l : Layout) (w i f b : List ℕ) (count : ℕ → ℕ) → Loaded l w i f b
-    → ((k : ℕ) → k < l .lists → count k ≡ countIn w k) → listedBy l w (columns i f b) count ≡ listedOf l w
+    → ((k : ℕ) → k < l .lists → count k ≡ countIn l w k) → listedBy l w (columns i f b) count ≡ listedOf l w
 unfolding listedBy
 listed-loaded l w i f b count h c =
     rw (sound-loaded l w i f b count h c refl)
@@ -121,7 +121,7 @@ module _ (l : Layout) (w : List ℕ) (r : InRange l) (small : (i : ℕ) → getD
         arith,
         length-append (recordLine p c (recordIn l w c)) (recordLines l w (suc p) s),
         record-short p c (recordIn l w c) (omega arith) (h 0 (omega arith)) (words-small c)
-            (omega (arith, length-take (l .width) (drop (recordAt l c) w), r .width)),
+            (omega (arith, length-take (l .width) (drop (recordAt l c) w), r .tail)),
         records-short (suc p) s (λ i g. h (suc i) (omega arith)) (omega arith),
       )
 

@@ -8,7 +8,7 @@ use lib.ListN.{length, getD}
 use Rattle.byte_form.specs.Bytes.{wordsIn}
 use Rattle.byte_form.proofs.Laws.{length-words}
 use Rattle.layout.specs.declared.Layout.{Layout}
-use Rattle.layout.specs.Words.{layoutOf, nodeAt, cellAt, sizeOf, marked, isNode, inRange, openedBy}
+use Rattle.layout.specs.Words.{layoutOf, checkWords, nodeAt, cellAt, sizeOf, marked, isNode, inRange, openedBy}
 use Rattle.layout.proofs.Laws.{size-most}
 use Rattle.sequences.specs.Sequence.{trail}
 use Rattle.lists.specs.Lists.{Sound}
@@ -48,7 +48,7 @@ pub listing-sound : (w : List ℕ) (s : Sound w) → listingOf w ≡ soundLines 
 unfolding soundLines
 listing-sound w s =
     let l = layoutOf w in
-    listing-open w (sound-opened w s) ∙ listed-sound l w (viewOf l w) (countIn w) (sound-decided w s)
+    listing-open w (sound-opened w s) ∙ listed-sound l w (viewOf l w) (countIn l w) (sound-decided w s)
     ∙ ap (λ (x : List ℕ). x ++ codes "sound\n")
     (lists-same l w (sequenceOf l w) (s .lists .sequence) 0 (l .lists) (omega arith)
     (λ k h. list-sequence l w k h (s .lists .sequence k) (s .lists .lists k h)))
@@ -84,5 +84,5 @@ byte-listing-granted b e s n r =
 pub listing-C3
     : listingOf (82 ∷ 66 ∷ 83 ∷ 1 ∷ 1 ∷ 3 ∷ 1 ∷ 0 ∷ 42400 ∷ 2 ∷ 3 ∷ 2 ∷ 0 ∷ 0 ∷ 0 ∷ 0 ∷ 42400 ∷ 3 ∷ 0 ∷ 700 ∷ 42400 ∷ 0 ∷ 2 ∷ 512 ∷ [])
     ≡ codes "list 0 count 2\n0 2 700\n1 3 512\nsound\n"
-unfolding trail isNode nodeAt cellAt sizeOf marked inRange openedBy turn holds allHold members used soundIn siteIn lookOf digits decimal spaced recordLine recordLines listLine listLines listsFrom refusedLine soundLines listingOf
+unfolding trail isNode checkWords nodeAt cellAt sizeOf marked inRange openedBy turn holds allHold members used soundIn siteIn lookOf digits decimal spaced recordLine recordLines listLine listLines listsFrom refusedLine soundLines listingOf
 listing-C3 = refl

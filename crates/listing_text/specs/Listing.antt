@@ -62,7 +62,7 @@ listedBy l w v count = ask (soundIn l v count) (refusedLine 6) (soundLines l w (
 
 -- and by the words of a store with layout l
 abbrev pub listedOf : Layout → List ℕ → List ℕ
-listedOf l w = listedBy l w (viewOf l w) (countIn w)
+listedOf l w = listedBy l w (viewOf l w) (countIn l w)
 
 -- no listing is longer: 8 lines of at most 23 characters, 2,000 of at most 90, and one of 6
 abbrev pub longest : ℕ

@@ -79,10 +79,10 @@ module _ (l : Layout) (w : List ℕ) (k : ℕ) (s : List ℕ) where
   abbrev Right : Write → Type 0
   Right p = getD w (p .at) 0 ≡ p .value
 
-  pub agrees-holds : Agrees w (asked l k s) → Holds (viewOf l w) k (countIn w k) s
+  pub agrees-holds : Agrees w (asked l k s) → Holds (viewOf l w) k (countIn l w k) s
   unfolding asked
   agrees-holds h =
-      let o = append-all Right (othersAsked l k s) (countAsked k s) h in
+      let o = append-all Right (othersAsked l k s) (countAsked l k s) h in
       let a = append-all Right (identsAsked l k s) (forwardsAsked l k s ++ backsAsked l k s) (o .0) in
       let b = append-all Right (forwardsAsked l k s) (backsAsked l k s) (a .1) in
       let i = all-map Right (λ c. write (identAt l c) (identOf k)) (k ∷ s) (a .0) in
@@ -97,10 +97,10 @@ module _ (l : Layout) (w : List ℕ) (k : ℕ) (s : List ℕ) where
         count = o .1 .0;
       }
 
-  pub holds-agrees : Holds (viewOf l w) k (countIn w k) s → Agrees w (asked l k s)
+  pub holds-agrees : Holds (viewOf l w) k (countIn l w k) s → Agrees w (asked l k s)
   unfolding asked
   holds-agrees h =
-      all-append Right (othersAsked l k s) (countAsked k s)
+      all-append Right (othersAsked l k s) (countAsked l k s)
       (all-append Right (identsAsked l k s) (forwardsAsked l k s ++ backsAsked l k s)
       (map-all Right (λ c. write (identAt l c) (identOf k)) (k ∷ s) (h .ident, h .turn .idents))
       (all-append Right (forwardsAsked l k s) (backsAsked l k s)

@@ -136,11 +136,11 @@ module _ (l : Layout) (w : List ℕ) where
   unfolding soundIn
   sound-lists e = record { sequence = sequenceOf l w; lists = listed; outside = unlisted }
     where
-      parts : (allHold l (viewOf l w) (countIn w) (l .lists) ≡ true) × (eqb (length All-members) (length Used) ≡ true)
-      parts = and-eq-true-iff (allHold l (viewOf l w) (countIn w) (l .lists)) (eqb (length All-members) (length Used)) .0 e
+      parts : (allHold l (viewOf l w) (countIn l w) (l .lists) ≡ true) × (eqb (length All-members) (length Used) ≡ true)
+      parts = and-eq-true-iff (allHold l (viewOf l w) (countIn l w) (l .lists)) (eqb (length All-members) (length Used)) .0 e
 
       listed : (k : ℕ) → k < l .lists → IsList l w k (sequenceOf l w k)
-      listed k h = holds-list l w k h (all-hold-at l (viewOf l w) (countIn w) (l .lists) k (parts .0) h)
+      listed k h = holds-list l w k h (all-hold-at l (viewOf l w) (countIn l w) (l .lists) k (parts .0) h)
 
       unlisted : (i : ℕ) → Node l i → ((k : ℕ) → k < l .lists → i ∈ sequenceOf l w k → ⊥) → getD w (identAt l i) 0 ≡ 0
       unlisted i n h = by (eqb (getD w (identAt l i) 0) 0) refl
@@ -162,8 +162,8 @@ module _ (l : Layout) (w : List ℕ) where
   pub lists-sound : SoundLists l w → soundOf l w ≡ true
   unfolding soundIn
   lists-sound s =
-      and-eq-true-iff (allHold l (viewOf l w) (countIn w) (l .lists)) (eqb (length All-members) (length Used)) .1 (
-        at-all-hold l (viewOf l w) (countIn w) (l .lists) (λ k h. list-holds l w k h (s .sequence k) (s .lists k h)),
+      and-eq-true-iff (allHold l (viewOf l w) (countIn l w) (l .lists)) (eqb (length All-members) (length Used)) .1 (
+        at-all-hold l (viewOf l w) (countIn l w) (l .lists) (λ k h. list-holds l w k h (s .sequence k) (s .lists k h)),
         eq-eqb (length All-members) (length Used) (omega (
           arith,
           pigeonhole All-members Used (members-different (l .lists) listed) (member-used listed),

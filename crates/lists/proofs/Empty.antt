@@ -7,8 +7,8 @@ use native.Mathlib.Nat.{add-zero}
 use lib.ListN.{getD}
 use Rattle.sequences.specs.Sequence.{steps}
 use Rattle.layout.specs.declared.Layout.{Layout}
-use Rattle.layout.specs.Words.{headWords, headerWords, forwardWord, backWord, countWord, nodeAt, cellAt, InRange, marked, layoutOf, identOf, formatted}
-use Rattle.layout.proofs.Laws.{cell-header, cell-node, length-formatted, formatted-header, formatted-node}
+use Rattle.layout.specs.Words.{headerWords, forwardWord, backWord, countWord, nodesAt, nodeAt, cellAt, InRange, layoutOf, identOf, formatted}
+use Rattle.layout.proofs.Laws.{cell-header, cell-node, length-formatted, formatted-header, formatted-node, formatted-marked}
 use Rattle.lists.specs.Lists.{IsList, SoundLists, Sound}
 use Rattle.lists.proofs.Agree.{holds-agrees}
 
@@ -35,7 +35,7 @@ formatted-list l k h =
           });
     }
 
-node-behind : (l : Layout) (i : ℕ) → headWords + headerWords * l .lists ≤ nodeAt l i
+node-behind : (l : Layout) (i : ℕ) → nodesAt l ≤ nodeAt l i
 unfolding nodeAt
 node-behind l i = omega arith
 
@@ -48,10 +48,10 @@ formatted-lists l =
     }
 
 pub formatted-sound : (l : Layout) → InRange l → Sound (formatted l)
-unfolding marked formatted
+unfolding formatted
 formatted-sound l r =
     record {
-      marked = refl;
+      marked = formatted-marked l r;
       inRange = r;
       exact = length-formatted l;
       lists = formatted-lists l;

@@ -21,7 +21,7 @@ use Rattle.lists.proofs.Unique.{member-ident}
 pub ident-word : (l : Layout) (i : ℕ) → identAt l i ≡ cellAt l i + 0
 ident-word l i = sym (add-zero (cellAt l i))
 
-pub count-word : (l : Layout) (k : ℕ) → k < l .lists → countAt k ≡ cellAt l k + countWord
+pub count-word : (l : Layout) (k : ℕ) → k < l .lists → countAt l k ≡ cellAt l k + countWord
 count-word l k h = ap (λ (a : ℕ). a + countWord) (sym (cell-header l k h))
 
 -- a list's header is none of its nodes
@@ -105,7 +105,8 @@ same-marked w w′ h =
 
 pub same-layout : (w w′ : List ℕ) → ((a : ℕ) → a < headWords → getD w′ a 0 ≡ getD w a 0) → layoutOf w′ ≡ layoutOf w
 same-layout w w′ h =
-    λ i. record { lists = h 4 (omega arith) i; nodes = h 5 (omega arith) i; width = h 6 (omega arith) i }
+    λ i.
+    record { version = h 3 (omega arith) i; lists = h 4 (omega arith) i; nodes = h 5 (omega arith) i; width = h 6 (omega arith) i }
 
 -- and, if they are as many, are opened alike
 pub same-opened : (w w′ : List ℕ) → ((a : ℕ) → a < headWords → getD w′ a 0 ≡ getD w a 0) → length w′ ≡ length w → opened w′ ≡ opened w

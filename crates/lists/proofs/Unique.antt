@@ -50,7 +50,7 @@ module _ (l : Layout) (w : List ℕ) (k : ℕ) (h : k < l .lists) where
   list-unique s t i j = sym (list-sequence s i) ∙ list-sequence t j
 
   -- nodes that the turn finds right are the list: they are different by themselves
-  pub ring-list : (s : List ℕ) → All (Node l) s → Holds (viewOf l w) k (countIn w k) s → IsList l w k s
+  pub ring-list : (s : List ℕ) → All (Node l) s → Holds (viewOf l w) k (countIn l w k) s → IsList l w k s
   ring-list s n r =
       record {
         nodes = n;
@@ -59,15 +59,15 @@ module _ (l : Layout) (w : List ℕ) (k : ℕ) (h : k < l .lists) where
       }
 
   -- if the turn round what the forward links give is right, that is the list
-  pub holds-list : holds (viewOf l w) k (countIn w k) (sequenceOf l w k) ≡ true → IsList l w k (sequenceOf l w k)
+  pub holds-list : holds (viewOf l w) k (countIn l w k) (sequenceOf l w k) ≡ true → IsList l w k (sequenceOf l w k)
   holds-list e =
       ring-list (sequenceOf l w k)
       (all-nodes l (sequenceOf l w k) (trail-inside (viewOf l w .forward) (isNode l) (l .nodes) (viewOf l w .forward k)))
-      (holds-true (viewOf l w) k (countIn w k) (sequenceOf l w k) e)
+      (holds-true (viewOf l w) k (countIn l w k) (sequenceOf l w k) e)
 
-  pub list-holds : (s : List ℕ) → IsList l w k s → holds (viewOf l w) k (countIn w k) (sequenceOf l w k) ≡ true
+  pub list-holds : (s : List ℕ) → IsList l w k s → holds (viewOf l w) k (countIn l w k) (sequenceOf l w k) ≡ true
   list-holds s i =
-      rw (list-sequence s i) (true-holds (viewOf l w) k (countIn w k) s (agrees-holds l w k s (i .agrees)))
+      rw (list-sequence s i) (true-holds (viewOf l w) k (countIn l w k) s (agrees-holds l w k s (i .agrees)))
 
 -- a member carries its list's identifier
 pub member-ident : (l : Layout) (w : List ℕ) (k : ℕ) (s : List ℕ) (x : ℕ) → IsList l w k s → x ∈ s → getD w (identAt l x) 0 ≡ identOf k

@@ -24,8 +24,8 @@ viewOf l w =
       back = λ c. getD w (backAt l c) 0;
     }
 
-abbrev pub countIn : List ℕ → ℕ → ℕ
-countIn w k = getD w (countAt k) 0
+abbrev pub countIn : Layout → List ℕ → ℕ → ℕ
+countIn l w k = getD w (countAt l k) 0
 
 -- the nodes that the forward links of list k lead through, at most N
 abbrev pub sequenceIn : Layout → View → ℕ → List ℕ
@@ -65,4 +65,4 @@ abbrev pub sequenceOf : Layout → List ℕ → ℕ → List ℕ
 sequenceOf l w k = sequenceIn l (viewOf l w) k
 
 abbrev pub soundOf : Layout → List ℕ → Bool
-soundOf l w = soundIn l (viewOf l w) (countIn w)
+soundOf l w = soundIn l (viewOf l w) (countIn l w)

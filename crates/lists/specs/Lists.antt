@@ -22,15 +22,15 @@ abbrev pub backsAsked : Layout → ℕ → List ℕ → List Write
 backsAsked l k s = map (λ p. write (backAt l (p .target)) (p .source)) (steps k s k)
 
 -- the count is the sequence's length."
-abbrev pub countAsked : ℕ → List ℕ → List Write
-countAsked k s = write (countAt k) (length s) ∷ []
+abbrev pub countAsked : Layout → ℕ → List ℕ → List Write
+countAsked l k s = write (countAt l k) (length s) ∷ []
 
 -- all words but the count, and all words
 abbrev pub othersAsked : Layout → ℕ → List ℕ → List Write
 othersAsked l k s = identsAsked l k s ++ (forwardsAsked l k s ++ backsAsked l k s)
 
 unfoldable pub asked : Layout → ℕ → List ℕ → List Write
-asked l k s = othersAsked l k s ++ countAsked k s
+asked l k s = othersAsked l k s ++ countAsked l k s
 
 -- the words hold what is asked
 abbrev pub Agrees : List ℕ → List Write → Type 0

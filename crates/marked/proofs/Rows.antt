@@ -2,7 +2,7 @@
 use mathlib.Core.Path.{_≡_, refl}
 use Rattle.sequences.specs.Sequence.{All, steps, trail}
 use Rattle.stores.specs.Stores.{run, inRow}
-use Rattle.layout.specs.Words.{isNode, nodeAt, cellAt, sizeOf, marked, inRange, openedBy, emptyHeaders, formatted}
+use Rattle.layout.specs.Words.{isNode, checkWords, nodeAt, cellAt, sizeOf, marked, inRange, openedBy, emptyHeaders, formatted}
 use Rattle.lists.specs.Lists.{asked}
 use Rattle.lists.specs.Decide.{turn, holds, allHold, members, used, soundIn}
 use Rattle.requests.specs.Requests.{nextCell, around, firstFree, memberAt, gapAt, siteIn, lookOf}
@@ -13,6 +13,6 @@ use Rattle.axle_store.specs.Calls.{formatAnswer, checkAnswer, lengthAnswer, rea
 use Rattle.marked.specs.Table.{Row, outcome, rows}
 
 pub table : All (λ (r : Row). outcome (r .call) (r .words) ≡ r .outcome) rows
-unfolding steps trail run inRow isNode nodeAt cellAt sizeOf marked inRange openedBy emptyHeaders formatted asked turn holds allHold members used soundIn nextCell around firstFree memberAt gapAt siteIn lookOf insertLinks insertWrites deleteWrites wrong fewWrong same fitOf joined isIn outOf refusalFrom recoverOf recoverPlan formatAnswer checkAnswer lengthAnswer readNumber readWords insertPlan deletePlan
+unfolding steps trail run inRow isNode checkWords nodeAt cellAt sizeOf marked inRange openedBy emptyHeaders formatted asked turn holds allHold members used soundIn nextCell around firstFree memberAt gapAt siteIn lookOf insertLinks insertWrites deleteWrites wrong fewWrong same fitOf joined isIn outOf refusalFrom recoverOf recoverPlan formatAnswer checkAnswer lengthAnswer readNumber readWords insertPlan deletePlan
 table =
     (refl, (refl, (refl, (refl, (refl, (refl, (refl, (refl, (refl, (refl, (refl, (refl, (refl, (refl, (refl, (refl, (refl, (refl, (refl, (refl, (refl, (refl, (refl, (refl, (refl, (refl, (refl, (refl, (refl, tt)))))))))))))))))))))))))))))

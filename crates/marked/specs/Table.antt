@@ -6,12 +6,13 @@ use Rattle.stores.specs.declared.Answer.{Answer}
 use Rattle.stores.specs.declared.Answer.the-variants as A
 use Rattle.stores.specs.Stores.{Write, write, Plan, answerOf, wordsAfter, madeBy}
 use Rattle.layout.specs.declared.Layout.{Layout}
+use Rattle.layout.specs.Words.{layoutFor}
 use Rattle.recovery.specs.Plan.{recoverPlan}
 use Rattle.axle_store.specs.Answers.{formattedNumber, checkedNumber, countedNumber, countedLength}
 use Rattle.axle_store.specs.Calls.{formatAnswer, formatWords, checkAnswer, lengthAnswer, readNumber, readWords, insertPlan, deletePlan}
 
 abbrev pub small : Layout
-small = record { lists = 1; nodes = 3; width = 1 }
+small = layoutFor 1 3 1
 
 -- a call with its arguments; an allowance last
 pub data Call : Type 0 where

@@ -87,20 +87,20 @@ module _ (l : Layout) (w : List ℕ) (s : ℕ → List ℕ) (fits : (k : ℕ) �
 -- As it is told by the faults: no list is refused, all members carry an identifier, and they are as many as the nodes that do. Then
 -- nothing is to be cleared.
 pub nothing-left : (l : Layout) (w : List ℕ)
-    → ((k : ℕ) → k < l .lists → numberOf (fitIn l (viewOf l w) k (countIn w k)) ≡ 0)
-    → ((k : ℕ) → k < l .lists → carries (viewOf l w .ident) (faultAt l (viewOf l w) (countIn w) k) ≡ true)
-    → total (λ k. lengthBy (faultAt l (viewOf l w) (countIn w) k) (countIn w k)) (l .lists)
+    → ((k : ℕ) → k < l .lists → numberOf (fitIn l (viewOf l w) k (countIn l w k)) ≡ 0)
+    → ((k : ℕ) → k < l .lists → carries (viewOf l w .ident) (faultAt l (viewOf l w) (countIn l w) k) ≡ true)
+    → total (λ k. lengthBy (faultAt l (viewOf l w) (countIn l w) k) (countIn l w k)) (l .lists)
     ≡ length (used (viewOf l w) (firstNode l) (l .nodes))
     → wrong w (clearsAsked l (fittingOf l w)) ≡ []
 nothing-left l w fitted carried number =
     none-else l w s fits
-    (λ k h. members-carry (viewOf l w) k (countIn w k) (s k) (few k h)
+    (λ k h. members-carry (viewOf l w) k (countIn l w k) (s k) (few k h)
     (ap (carries (viewOf l w .ident)) (sym (chosen-told l w k h (fitted k h) .1)) ∙ carried k h))
     (length-joined s (l .lists)
-    ∙ total-same (λ k. length (s k)) (λ k. lengthBy (faultAt l (viewOf l w) (countIn w) k) (countIn w k)) (l .lists)
+    ∙ total-same (λ k. length (s k)) (λ k. lengthBy (faultAt l (viewOf l w) (countIn l w) k) (countIn l w k)) (l .lists)
     (λ k h.
-    sym (ap (λ (f : Faults). lengthBy f (countIn w k)) (chosen-told l w k h (fitted k h) .1)
-    ∙ members-number l (viewOf l w) k (countIn w k) (s k) h (fits k h .nodes) (few k h)))
+    sym (ap (λ (f : Faults). lengthBy f (countIn l w k)) (chosen-told l w k h (fitted k h) .1)
+    ∙ members-number l (viewOf l w) k (countIn l w k) (s k) h (fits k h .nodes) (few k h)))
     ∙ number)
   where
     s : ℕ → List ℕ

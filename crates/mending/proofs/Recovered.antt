@@ -32,15 +32,15 @@ use Rattle.mending.proofs.LeftOver.{total-same, nothing-left}
 
 -- the first list that is refused is the same
 pub refusal-told
-    : (l : Layout) (w : List ℕ) (k n : ℕ) → k + n ≤ l .lists → refusalIn l (viewOf l w) (countIn w) k n ≡ refusalFrom l w k n
+    : (l : Layout) (w : List ℕ) (k n : ℕ) → k + n ≤ l .lists → refusalIn l (viewOf l w) (countIn l w) k n ≡ refusalFrom l w k n
 unfolding refusalIn refusalFrom
 refusal-told l w k zero h = refl
 refusal-told l w k (suc n) h =
-    by (fitIn l (viewOf l w) k (countIn w k)) refl (fit-told l w k (omega arith)) (refusal-told l w (suc k) n (omega arith))
+    by (fitIn l (viewOf l w) k (countIn l w k)) refl (fit-told l w k (omega arith)) (refusal-told l w (suc k) n (omega arith))
   where
-    by : (r : Fitted) → fitIn l (viewOf l w) k (countIn w k) ≡ r → Told l w k r
-        → refusalIn l (viewOf l w) (countIn w) (suc k) n ≡ refusalFrom l w (suc k) n
-        → refusalIn l (viewOf l w) (countIn w) k (suc n) ≡ refusalFrom l w k (suc n)
+    by : (r : Fitted) → fitIn l (viewOf l w) k (countIn l w k) ≡ r → Told l w k r
+        → refusalIn l (viewOf l w) (countIn l w) (suc k) n ≡ refusalFrom l w (suc k) n
+        → refusalIn l (viewOf l w) (countIn l w) k (suc n) ≡ refusalFrom l w k (suc n)
     by G.Nothing e t i = rw (e, t)
     by G.Several e t i = rw (e, t)
     by (G.Forward f) e t i = rw (e, t .0) i
@@ -59,9 +59,9 @@ mends-more l v c k (suc n) j e =
 
 -- the mends are the wrong words of the sequences that fit
 mend-told
-    : (l : Layout) (w : List ℕ) (k : ℕ) → k < l .lists → numberOf (fitIn l (viewOf l w) k (countIn w k)) ≡ 0
-    → mendOf l (faultIn (fitIn l (viewOf l w) k (countIn w k))) ≡ wrong w (asked l k (fittingOf l w k))
-mend-told l w k h z = by (fitIn l (viewOf l w) k (countIn w k)) z (fit-told l w k h)
+    : (l : Layout) (w : List ℕ) (k : ℕ) → k < l .lists → numberOf (fitIn l (viewOf l w) k (countIn l w k)) ≡ 0
+    → mendOf l (faultIn (fitIn l (viewOf l w) k (countIn l w k))) ≡ wrong w (asked l k (fittingOf l w k))
+mend-told l w k h z = by (fitIn l (viewOf l w) k (countIn l w k)) z (fit-told l w k h)
   where
     by : (r : Fitted) → numberOf r ≡ 0 → Told l w k r → mendOf l (faultIn r) ≡ wrong w (asked l k (fittingOf l w k))
     by G.Nothing z t = absurd (omega arith)
@@ -70,12 +70,12 @@ mend-told l w k h z = by (fitIn l (viewOf l w) k (countIn w k)) z (fit-told l w 
     by (G.Backward f) z t = rw (t .0, t .1)
 
 mends-told
-    : (l : Layout) (w : List ℕ) → ((k : ℕ) → k < l .lists → numberOf (fitIn l (viewOf l w) k (countIn w k)) ≡ 0)
-    → (n : ℕ) → n ≤ l .lists → mendsIn l (viewOf l w) (countIn w) 0 n ≡ wrong w (joined (λ k. asked l k (fittingOf l w k)) n)
+    : (l : Layout) (w : List ℕ) → ((k : ℕ) → k < l .lists → numberOf (fitIn l (viewOf l w) k (countIn l w k)) ≡ 0)
+    → (n : ℕ) → n ≤ l .lists → mendsIn l (viewOf l w) (countIn l w) 0 n ≡ wrong w (joined (λ k. asked l k (fittingOf l w k)) n)
 unfolding mendsIn joined wrong
 mends-told l w z zero h = refl
 mends-told l w z (suc n) h =
-    mends-more l (viewOf l w) (countIn w) 0 n n (omega arith)
+    mends-more l (viewOf l w) (countIn l w) 0 n n (omega arith)
     ∙ ap₂ _++_ (mends-told l w z n (omega arith)) (mend-told l w n (omega arith) (z n (omega arith)))
     ∙ sym (wrong-append w (joined (λ k. asked l k (fittingOf l w k)) n) (asked l n (fittingOf l w n)))
 
@@ -109,15 +109,15 @@ none-refused l v c k (suc n) e j p q =
     by false z e = let y : true ≡ false = sym (eq-eqb _ _ e) ∙ z in let o : _≡_ {A = ℕ} 1 0 = ap (λ (b : Bool). cond b 1 0) y in absurd (omega arith)
 
 module _ (l : Layout) (w idents forwards backs : List ℕ) (loaded : Loaded l w idents forwards backs) (counts : ℕ → ℕ)
-    (same : (k : ℕ) → k < l .lists → counts k ≡ countIn w k) (m : Mends) (told : MendsOf l (columns idents forwards backs) counts m) where
+    (same : (k : ℕ) → k < l .lists → counts k ≡ countIn l w k) (m : Mends) (told : MendsOf l (columns idents forwards backs) counts m) where
   abbrev v : View
   v = viewOf l w
 
   told-words : MendsOf l v counts m
   told-words = subst (λ (u : View). MendsOf l u counts m) (loaded-view l w idents forwards backs loaded) told
 
-  counted : refusalIn l v counts 0 (l .lists) ≡ refusalIn l v (countIn w) 0 (l .lists)
-  counted = refusal-counts l v counts (countIn w) 0 (l .lists) (λ j p q. same j (omega arith))
+  counted : refusalIn l v counts 0 (l .lists) ≡ refusalIn l v (countIn l w) 0 (l .lists)
+  counted = refusal-counts l v counts (countIn l w) 0 (l .lists) (λ j p q. same j (omega arith))
 
   refusal : m .refusal ≡ refusalFrom l w 0 (l .lists)
   refusal = told-words .refusal ∙ counted ∙ refusal-told l w 0 (l .lists) (omega arith)
@@ -129,11 +129,11 @@ module _ (l : Layout) (w idents forwards backs : List ℕ) (loaded : Loaded l w 
 
   -- no refusal
   module _ (z : m .refusal ≡ 0) where
-    none : refusalIn l v (countIn w) 0 (l .lists) ≡ 0
+    none : refusalIn l v (countIn l w) 0 (l .lists) ≡ 0
     none = sym counted ∙ sym (told-words .refusal) ∙ z
 
-    fitted : (k : ℕ) → k < l .lists → numberOf (fitIn l v k (countIn w k)) ≡ 0
-    fitted k h = none-refused l v (countIn w) 0 (l .lists) none k (omega arith) (omega arith)
+    fitted : (k : ℕ) → k < l .lists → numberOf (fitIn l v k (countIn l w k)) ≡ 0
+    fitted k h = none-refused l v (countIn l w) 0 (l .lists) none k (omega arith) (omega arith)
 
     -- the stores: the mends, and the clears ..
     abbrev Left : List Write
@@ -147,7 +147,7 @@ module _ (l : Layout) (w idents forwards backs : List ℕ) (loaded : Loaded l w 
         (wrong-append w (listsAsked l (fittingOf l w)) (clearsAsked l (fittingOf l w))
         ∙ ap (λ (ps : List Write). ps ++ Left)
         (sym
-        (told-words .rows z .same ∙ mends-counts l v counts (countIn w) 0 (l .lists) (λ j p q. same j (omega arith))
+        (told-words .rows z .same ∙ mends-counts l v counts (countIn l w) 0 (l .lists) (λ j p q. same j (omega arith))
         ∙ mends-told l w fitted (l .lists) (omega arith)))))
 
     -- .. by what is left of the identifiers
@@ -157,7 +157,7 @@ module _ (l : Layout) (w idents forwards backs : List ℕ) (loaded : Loaded l w 
     pub recover-stores : recoverOf l w ≡ stores (writesIn (m .rows) ++ Clears)
     recover-stores = stores-told ∙ ap (λ (ps : List Write). stores (writesIn (m .rows) ++ ps)) (sym cleared)
       where
-        back : (k : ℕ) → k < l .lists → getD (m .back) k false ≡ isBackward (fitIn l v k (countIn w k))
+        back : (k : ℕ) → k < l .lists → getD (m .back) k false ≡ isBackward (fitIn l v k (countIn l w k))
         back k h = told-words .back z k h ∙ ap (λ (n : ℕ). isBackward (fitIn l v k n)) (same k h)
 
         cleared : Clears ≡ Left
@@ -179,14 +179,14 @@ module _ (l : Layout) (w idents forwards backs : List ℕ) (loaded : Loaded l w 
         both : (m .carried ≡ true) × (eqb (m .members) (length (used (columns idents idents idents) (firstNode l) (l .nodes))) ≡ true)
         both = and-eq-true-iff _ _ .0 e
 
-        carried : (k : ℕ) → k < l .lists → carries (v .ident) (faultIn (fitIn l v k (countIn w k))) ≡ true
+        carried : (k : ℕ) → k < l .lists → carries (v .ident) (faultIn (fitIn l v k (countIn l w k))) ≡ true
         carried k h =
             ap (λ (n : ℕ). carries (v .ident) (faultIn (fitIn l v k n))) (sym (same k h)) ∙ told-words .carried z (both .0) k h
 
         idents-same : columns idents idents idents .ident ≡ v .ident
         idents-same = ap (λ (u : View). u .ident) (loaded-view l w idents forwards backs loaded)
 
-        number : total (λ k. lengthBy (faultIn (fitIn l v k (countIn w k))) (countIn w k)) (l .lists) ≡ length (used v (firstNode l) (l .nodes))
+        number : total (λ k. lengthBy (faultIn (fitIn l v k (countIn l w k))) (countIn l w k)) (l .lists) ≡ length (used v (firstNode l) (l .nodes))
         number =
             total-same _ _ (l .lists) (λ k h. ap (λ (n : ℕ). lengthBy (faultIn (fitIn l v k n)) n) (sym (same k h)))
             ∙ sym (told-words .members z)

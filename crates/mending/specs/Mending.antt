@@ -67,7 +67,7 @@ planOf f at values = cond (eqb (f .refusal) 0) (stores (listed (f .stores) at va
 -- the columns and the counts tell the words
 pub record Told (l : Layout) (w idents forwards backs counts : List ℕ) : Type 0 where
   pub loaded : Loaded l w idents forwards backs
-  pub counted : (k : ℕ) → k < l .lists → getD counts k 0 ≡ countIn w k
+  pub counted : (k : ℕ) → k < l .lists → getD counts k 0 ≡ countIn l w k
 
 -- the mend of a fault: as many of this one store as there are
 pub record IsMend (l : Layout) (f : Faults) (m : Mend) : Type 0 where

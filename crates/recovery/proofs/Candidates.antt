@@ -56,9 +56,9 @@ module _ (l : Layout) (w : List ℕ) (k : ℕ) (s : List ℕ) where
 
   pub wrong-parts
       : length (wrong w (asked l k s))
-      ≡ length (wrong w (identsAsked l k s)) + (length (wrong w (forwardsAsked l k s)) + (length (wrong w (backsAsked l k s)) + length (wrong w (countAsked k s))))
+      ≡ length (wrong w (identsAsked l k s)) + (length (wrong w (forwardsAsked l k s)) + (length (wrong w (backsAsked l k s)) + length (wrong w (countAsked l k s))))
   unfolding asked
-  wrong-parts = omega (arith, wrong-length w (othersAsked l k s) (countAsked k s), wrong-others)
+  wrong-parts = omega (arith, wrong-length w (othersAsked l k s) (countAsked l k s), wrong-others)
 
   -- all links of a kind are right
   pub right-forward : length (wrong w (forwardsAsked l k s)) ≡ 0 → Forward (viewOf l w .forward) k s k
@@ -78,8 +78,8 @@ module _ (l : Layout) (w : List ℕ) (k : ℕ) (s : List ℕ) where
       let r = all-map (Right w) (λ c. write (identAt l c) (identOf k)) (k ∷ s) (wrong-agrees w (identsAsked l k s) e) in
       (r .0, r .1)
 
-  pub right-count : length (wrong w (countAsked k s)) ≡ 0 → countIn w k ≡ length s
-  right-count e = wrong-agrees w (countAsked k s) e .0
+  pub right-count : length (wrong w (countAsked l k s)) ≡ 0 → countIn l w k ≡ length s
+  right-count e = wrong-agrees w (countAsked l k s) e .0
 
   -- with at most one wrong word, all forward links are right or all back links
   pub few-links
@@ -118,7 +118,7 @@ module _ (l : Layout) (w : List ℕ) (k : ℕ) (h : k < l .lists) where
   pub record Whole (s : List ℕ) : Type 0 where
     pub header : getD w (identAt l k) 0 ≡ identOf k
     pub idents : All (λ c. getD w (identAt l c) 0 ≡ identOf k) s
-    pub count : countIn w k ≡ length s
+    pub count : countIn l w k ≡ length s
 
   pub record Rivals (s r : List ℕ) : Type 0 where
     pub first : Whole s
@@ -129,11 +129,11 @@ module _ (l : Layout) (w : List ℕ) (k : ℕ) (h : k < l .lists) where
   rest-right : (s : List ℕ) → Fits l w k s → (length (wrong w (forwardsAsked l k s)) ≡ 0 → ⊥) ⊎ (length (wrong w (backsAsked l k s)) ≡ 0 → ⊥) → Whole s
   rest-right s f (inl d) =
       let i : length (wrong w (identsAsked l k s)) ≡ 0 = omega (arith, wrong-parts l w k s, f .few) in
-      let c : length (wrong w (countAsked k s)) ≡ 0 = omega (arith, wrong-parts l w k s, f .few) in
+      let c : length (wrong w (countAsked l k s)) ≡ 0 = omega (arith, wrong-parts l w k s, f .few) in
       record { header = right-idents l w k s i .0; idents = right-idents l w k s i .1; count = right-count l w k s c }
   rest-right s f (inr d) =
       let i : length (wrong w (identsAsked l k s)) ≡ 0 = omega (arith, wrong-parts l w k s, f .few) in
-      let c : length (wrong w (countAsked k s)) ≡ 0 = omega (arith, wrong-parts l w k s, f .few) in
+      let c : length (wrong w (countAsked l k s)) ≡ 0 = omega (arith, wrong-parts l w k s, f .few) in
       record { header = right-idents l w k s i .0; idents = right-idents l w k s i .1; count = right-count l w k s c }
 
   pub rivals : (s r : List ℕ) → Fits l w k s → Fits l w k r → (s ≡ r → ⊥) → Rivals s r ⊎ Rivals r s

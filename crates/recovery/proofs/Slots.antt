@@ -132,7 +132,7 @@ module _ (l : Layout) (k : ℕ) (s : List ℕ) (h : k < l .lists) where
         refl,
       )
 
-  count-slot : {p : Write} → List·Memᴰ p (countAsked k s) → SlotAt 3 p
+  count-slot : {p : Write} → List·Memᴰ p (countAsked l k s) → SlotAt 3 p
   count-slot m =
       let e = List·Memᴰ·eq-of-singleton m in (
         record {
@@ -164,7 +164,7 @@ module _ (l : Layout) (k : ℕ) (s : List ℕ) (h : k < l .lists) where
   pub asked-once : All (Node l) s → Different s → Once (asked l k s)
   unfolding asked
   asked-once n d =
-      once-append (othersAsked l k s) (countAsked k s)
+      once-append (othersAsked l k s) (countAsked l k s)
       (once-append (identsAsked l k s) (forwardsAsked l k s ++ backsAsked l k s) idents
       (once-append (forwardsAsked l k s) (backsAsked l k s) forwards backs
       (λ p q x y. apart 1 2 p q (λ z. omega arith) (forward-slot x) (back-slot y)))

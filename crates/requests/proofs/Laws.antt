@@ -170,9 +170,9 @@ module _ (l : Layout) (v : View) (count : ℕ → ℕ) where
 
 -- the site by the columns and the counts is that of the words
 pub site-loaded : (l : Layout) (w i f b : List ℕ) (count : ℕ → ℕ) (q : Request) → Loaded l w i f b
-    → ((k : ℕ) → k < l .lists → count k ≡ countIn w k) → siteIn l (columns i f b) count q ≡ siteOf l w q
+    → ((k : ℕ) → k < l .lists → count k ≡ countIn l w k) → siteIn l (columns i f b) count q ≡ siteOf l w q
 site-loaded l w i f b count q h c =
-    ap (λ (v : View). siteIn l v count q) (loaded-view l w i f b h) ∙ site-same l (viewOf l w) count (countIn w) q c
+    ap (λ (v : View). siteIn l v count q) (loaded-view l w i f b h) ∙ site-same l (viewOf l w) count (countIn l w) q c
 
 -- an opened store is laid out
 pub opened-laid : (w : List ℕ) (l : Layout) → opened w ≡ O.Open l → Laid l w

@@ -75,7 +75,7 @@ listOf (Gap k p c m) = k
 
 -- the same of the words of a store
 abbrev pub siteOf : Layout → List ℕ → Request → Sited
-siteOf l w q = siteIn l (viewOf l w) (countIn w) q
+siteOf l w q = siteIn l (viewOf l w) (countIn l w) q
 
 abbrev pub withSite {ℓ} : {A : Type ℓ} → Sited → (ℕ → A) → (Site → A) → A
 withSite (Refused n) refuse rest = refuse n

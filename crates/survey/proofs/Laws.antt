@@ -342,9 +342,9 @@ module _ (l : Layout) (v : View) (count : ℕ → ℕ) where
 
 -- soundness as decided from the columns and the counts is that of the words
 pub sound-loaded : (l : Layout) (w i f b : List ℕ) (count : ℕ → ℕ) {r : Bool} → Loaded l w i f b
-    → ((k : ℕ) → k < l .lists → count k ≡ countIn w k) → r ≡ soundIn l (columns i f b) count → r ≡ soundOf l w
+    → ((k : ℕ) → k < l .lists → count k ≡ countIn l w k) → r ≡ soundIn l (columns i f b) count → r ≡ soundOf l w
 sound-loaded l w i f b count h c e =
-    e ∙ ap (λ (v : View). soundIn l v count) (loaded-view l w i f b h) ∙ sound-same l (viewOf l w) count (countIn w) c
+    e ∙ ap (λ (v : View). soundIn l v count) (loaded-view l w i f b h) ∙ sound-same l (viewOf l w) count (countIn l w) c
 
 -- the cell in front of a position of list k: its link is the cell at the position, and it is a cell of the store
 module _ (l : Layout) (v : View) (k : ℕ) where

@@ -72,15 +72,15 @@ pub fn load(words: &[u16], l: Layout, idents: &mut [u16], forwards: &mut [u16], 
 // The count of list k.
 fn count(words: &[u16], l: Layout, k: u16) -> u16
     requires { ⌜ Laid l (now words) × (k < l .lists) ⌝ }
-    ensures { λ r. ⌜ r ≡ getD (now (words .entry)) (countAt k) 0 ⌝ }
+    ensures { λ r. ⌜ r ≡ getD (now (words .entry)) (countAt l k) 0 ⌝ }
 {
-    words[Layout::header(k) + Layout::COUNT]
+    words[l.header(k) + Layout::COUNT]
 }
 
 // The counts of all lists.
 pub fn all_counts(words: &[u16], l: Layout) -> [u16; Layout::MAX_LISTS]
     requires { ⌜ Laid l (now words) ⌝ }
-    ensures { λ r. ⌜ (mostLists ≡ length r) × ((k : ℕ) → k < l .lists → getD r k 0 ≡ getD (now (words .entry)) (countAt k) 0) ⌝ }
+    ensures { λ r. ⌜ (mostLists ≡ length r) × ((k : ℕ) → k < l .lists → getD r k 0 ≡ getD (now (words .entry)) (countAt l k) 0) ⌝ }
 {
     let mut r = [0u16; Layout::MAX_LISTS];
     let mut k: u16 = 0;

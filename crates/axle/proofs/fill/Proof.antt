@@ -9,7 +9,7 @@ use Rattle.stores.specs.Stores.{write, run}
 use Rattle.byte_form.specs.Bytes.{wordsIn, byteWrites}
 use Rattle.byte_form.proofs.Laws.{same-words}
 use Rattle.layout.specs.declared.Layout.{Layout}
-use Rattle.layout.specs.Words.{Laid, headerAt, sizeOf, formatted}
+use Rattle.layout.specs.Words.{Laid, nodesAt, sizeOf, formatted}
 use Rattle.layout.proofs.Laws.{range-in, length-formatted, formatted-node}
 use Rattle.axle.specs.Interface.{formatPlan}
 use Rattle.axle.proofs.Laws.{filled, filled-none, filled-next, filled-all}
@@ -18,7 +18,7 @@ use Rattle.axle.proofs.fill.Statement.{statement}
 use Rattle.axle.proofs.fill.Tie as tie
 
 -- the headers end within the store
-headers-fit : (l : Layout) → headerAt (l .lists) ≤ sizeOf l
+headers-fit : (l : Layout) → nodesAt l ≤ sizeOf l
 unfolding sizeOf
 headers-fit l = omega arith
 
@@ -45,13 +45,13 @@ written-more bytes₀ l bytes next i v w h e n p = (
 )
 
 abbrev Inv-loop : tie.InvT-loop
-Inv-loop bytes₀ l i₀ bytes i = Written bytes₀ l bytes i × (i ≤ headerAt (l .lists))
+Inv-loop bytes₀ l i₀ bytes i = Written bytes₀ l bytes i × (i ≤ nodesAt l)
 
 abbrev μ-loop : tie.MeasureT-loop
 μ-loop bytes₀ l i₀ bytes i = sizeOf l - i
 
 abbrev Inv-loop2 : tie.InvT-loop2
-Inv-loop2 bytes₀ l i₀ bytes i = ((b : List ℕ) → Written b l bytes₀ i₀ → Written b l bytes i) × (headerAt (l .lists) ≤ i)
+Inv-loop2 bytes₀ l i₀ bytes i = ((b : List ℕ) → Written b l bytes₀ i₀ → Written b l bytes i) × (nodesAt l ≤ i)
 
 abbrev μ-loop2 : tie.MeasureT-loop2
 μ-loop2 bytes₀ l i₀ bytes i = sizeOf l - i
@@ -61,8 +61,8 @@ loop-holds c =
     let a = c .before .args in
     ((c .before .pre, omega arith, refl, sym (filled-none (formatted (a .l)) (a .bytes .now))), omega arith)
 
-header-requires : tie.Need-header-requires Inv-loop μ-loop Inv-loop2 μ-loop2
-header-requires c κs = search needs
+nodes-at-requires : tie.Need-nodes-at-requires Inv-loop μ-loop Inv-loop2 μ-loop2
+nodes-at-requires c κs = search needs
 
 initial-requires : tie.Need-initial-requires Inv-loop μ-loop Inv-loop2 μ-loop2
 initial-requires c κs = c .before .before .before .loop .inv .0 .0 .inRange
@@ -143,7 +143,7 @@ fill-spec =
     Inv-loop2
     μ-loop2
     loop-holds
-    header-requires
+    nodes-at-requires
     initial-requires
     put-requires
     add-i

@@ -47,7 +47,7 @@ short : (c : tie.After-known-told2) → c .before .before .before .before .befor
 short c =
     let a = c .before .before .before .before .before .before .before .before .args in
     let g = gap-placed (wordsIn (a .bytes .now)) (a .list) (a .position) _ _ (a .start) (length (recordWords (a .rec .now))) (found c) in
-    omega (arith, c .before .before .before .before .before .record-size .ensures, g .1, g .0 .inRange .width)
+    omega (arith, c .before .before .before .before .before .record-size .ensures, g .1, g .0 .inRange .tail)
 
 record-of-requires : tie.Need-record-of-requires
 record-of-requires c κs = (c .before .before .before .before .before .record-size .ensures, short c)

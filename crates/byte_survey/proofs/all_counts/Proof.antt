@@ -12,7 +12,7 @@ use Rattle.byte_survey.proofs.all_counts.Statement.{statement}
 use Rattle.byte_survey.proofs.all_counts.Tie as tie
 
 abbrev Inv-loop : tie.InvT-loop
-Inv-loop bytes l r₀ k₀ r k = (Laid l (wordsIn bytes)) × (k ≤ l .lists) × (length r ≡ mostLists) × Filled (countIn (wordsIn bytes)) r k
+Inv-loop bytes l r₀ k₀ r k = (Laid l (wordsIn bytes)) × (k ≤ l .lists) × (length r ≡ mostLists) × Filled (countIn l (wordsIn bytes)) r k
 
 abbrev μ-loop : tie.MeasureT-loop
 μ-loop bytes l r₀ k₀ r k = l .lists - k
@@ -50,7 +50,7 @@ loop-again c =
       t .inv .0,
       omega arith,
       length-set (t .r) (t .k) _ ∙ t .inv .2,
-      filled-more (countIn (wordsIn (c .before .before .before .before .before .before .args .bytes .now))) (t .r) (t .k) (c .word .result) (omega arith)
+      filled-more (countIn (c .before .before .before .before .before .before .args .l) (wordsIn (c .before .before .before .before .before .before .args .bytes .now))) (t .r) (t .k) (c .word .result) (omega arith)
           (c .word .ensures ∙ ap (λ (a : ℕ). getD (wordsIn (c .before .before .before .before .before .before .args .bytes .now)) (a + 3) 0) (c .before .header .ensures)) (t .inv .3),
     )
 

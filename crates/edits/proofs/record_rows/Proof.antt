@@ -53,7 +53,7 @@ add-a c = omega (arith, fits c)
 loop-holds : tie.Need-loop-holds Inv-loop μ-loop
 loop-holds c =
     let s = c .before .before in
-    (omega arith, λ n h. record-fill n _ (s .args .words .now) h (omega (arith, s .pre .0 .inRange .width)))
+    (omega arith, λ n h. record-fill n _ (s .args .words .now) h (omega (arith, s .pre .0 .inRange .tail)))
 
 add-at : tie.Need-add-at Inv-loop μ-loop
 add-at c = omega (arith, fits (c .before .before))

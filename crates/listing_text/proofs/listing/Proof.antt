@@ -24,7 +24,7 @@ open-short : (c : tie.After-l) → length (listedOf (c .l .given .0 .0) (c .befo
 open-short c =
     let w = c .before .before .before .before .before .args .words .now in
     let l = c .l .given .0 .0 in
-    listed-short l w (laid c .inRange) (λ i. omega (arith, c .before .before .before .before .shared-slice-known .given i)) (viewOf l w) (countIn w)
+    listed-short l w (laid c .inRange) (λ i. omega (arith, c .before .before .before .before .shared-slice-known .given i)) (viewOf l w) (countIn l w)
 
 shut-short : (c : tie.After-known-told) → length (refusedLine (c .before .n .given .0 .0)) ≤ longest
 shut-short c = refused-short (c .before .n .given .0 .0) (omega (arith, c .known-told .given))

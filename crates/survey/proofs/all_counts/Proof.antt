@@ -11,7 +11,7 @@ use Rattle.survey.proofs.all_counts.Tie as tie
 
 abbrev Inv-loop : tie.InvT-loop
 Inv-loop words l r₀ k₀ r k =
-    (Laid l words) × (k ≤ l .lists) × (length r ≡ mostLists) × Filled (countIn words) r k
+    (Laid l words) × (k ≤ l .lists) × (length r ≡ mostLists) × Filled (countIn l words) r k
 
 abbrev μ-loop : tie.MeasureT-loop
 μ-loop words l r₀ k₀ r k = l .lists - k
@@ -43,7 +43,7 @@ loop-again c =
       t .inv .0,
       omega arith,
       simp length-set (t .inv .2),
-      filled-more (countIn (c .before .before .before .before .before .args .words .now)) (t .r) (t .k) (c .count .result)
+      filled-more (countIn (c .before .before .before .before .before .args .l) (c .before .before .before .before .before .args .words .now)) (t .r) (t .k) (c .count .result)
           (omega arith) (c .count .ensures) (t .inv .3),
     )
 

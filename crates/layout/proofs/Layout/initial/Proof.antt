@@ -13,16 +13,13 @@ head-word-requires c κs = search needs
 returns : tie.Need-returns
 returns c = search needs
 
-cast-if2 : tie.Need-cast-if2
-cast-if2 c = search needs
-
-mul-if2 : tie.Need-mul-if2
-mul-if2 c = search needs
+nodes-at-requires : tie.Need-nodes-at-requires
+nodes-at-requires c κs = search needs
 
 returns-2 : tie.Need-returns-2
 returns-2 c =
     let a = c .before .before .before .args in
-    sym (formatted-node (a .self) (a .i) (omega arith))
+    sym (formatted-node (a .self) (a .i) (omega (arith, c .before .nodes-at .ensures)))
 
 cast-k : tie.Need-cast-k
 cast-k c = search needs
@@ -55,8 +52,7 @@ initial-spec =
     (tie.spec
     head-word-requires
     returns
-    cast-if2
-    mul-if2
+    nodes-at-requires
     returns-2
     cast-k
     ident-requires

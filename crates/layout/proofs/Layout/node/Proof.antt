@@ -1,8 +1,8 @@
 -- `layout::Layout::node` meets its contract. The product of two numbers of 16 bits fits a `usize`.
-use Prim.Native.Nat.{_-_}
+use Prim.Native.Nat.{_+_, _-_, _*_, _≤_}
 use native.Mathlib.Omega.{arith}
 use borrow.Author.Needs.{needs}
-use Rattle.layout.specs.Words.{nodeAt}
+use Rattle.layout.specs.Words.{linkWords, nodeAt}
 use Rattle.layout.proofs.Laws.{product-fits}
 use Rattle.layout.proofs.Layout.node.Statement.{statement}
 use Rattle.layout.proofs.Layout.node.Tie as tie
@@ -13,39 +13,31 @@ first-node-requires c κs = search needs
 sub-n : tie.Need-sub-n
 sub-n c = search needs
 
-cast-words : tie.Need-cast-words
-cast-words c = search needs
+nodes-at-requires : tie.Need-nodes-at-requires
+nodes-at-requires c κs = search needs
 
-add-words : tie.Need-add-words
-add-words c = search needs
+node-words-requires : tie.Need-node-words-requires
+node-words-requires c κs = search needs
 
 cast-result : tie.Need-cast-result
 cast-result c = search needs
 
+-- the words of the nodes in front
+few : (c : tie.After-node-words) →
+    let f = c .before .before in
+    c .node-words .result * (f .before .args .i - f .first-node .result) ≤ (linkWords + 65535) * 65535
+few c = rw (c .node-words .ensures) (product-fits (c .before .before .before .args .self) _ (omega arith) (omega arith))
+
 mul-result : tie.Need-mul-result
-mul-result c = search needs
+mul-result c = omega (arith, few c)
 
 add-result : tie.Need-add-result
-add-result c = search needs
-
-cast-result-2 : tie.Need-cast-result-2
-cast-result-2 c = search needs
-
-mul-result-2 : tie.Need-mul-result-2
-mul-result-2 c =
-    let b = c .before .before in
-    let n = b .before .args .i - b .first-node .result in
-    omega (arith, product-fits (b .before .args .self .width) n (omega arith) (omega arith))
-
-add-result-2 : tie.Need-add-result-2
-add-result-2 c =
-    let b = c .before .before in
-    let n = b .before .args .i - b .first-node .result in
-    omega (arith, product-fits (b .before .args .self .width) n (omega arith) (omega arith))
+add-result c = omega (arith, few c, c .before .nodes-at .ensures)
 
 returns : tie.Need-returns
 unfolding nodeAt
-returns c = rw (c .before .before .first-node .ensures)
+returns c =
+    rw (c .before .nodes-at .ensures, c .node-words .ensures, c .before .before .first-node .ensures)
 
 pub node-spec : {M : Type 1} → statement M
 node-spec =
@@ -53,12 +45,9 @@ node-spec =
     (tie.spec
     first-node-requires
     sub-n
-    cast-words
-    add-words
+    nodes-at-requires
+    node-words-requires
     cast-result
     mul-result
     add-result
-    cast-result-2
-    mul-result-2
-    add-result-2
     returns)

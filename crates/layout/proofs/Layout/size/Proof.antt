@@ -1,53 +1,44 @@
 -- `layout::Layout::size` meets its contract. The product of two numbers of 16 bits fits a `usize`.
+use Prim.Native.Nat.{_+_, _*_, _≤_}
 use native.Mathlib.Omega.{arith}
 use borrow.Author.Needs.{needs}
-use Rattle.layout.specs.Words.{sizeOf}
+use Rattle.layout.specs.Words.{linkWords, sizeOf}
 use Rattle.layout.proofs.Laws.{product-fits}
 use Rattle.layout.proofs.Layout.size.Statement.{statement}
 use Rattle.layout.proofs.Layout.size.Tie as tie
 
-cast-words : tie.Need-cast-words
-cast-words c = search needs
+nodes-at-requires : tie.Need-nodes-at-requires
+nodes-at-requires c κs = search needs
 
-add-words : tie.Need-add-words
-add-words c = search needs
+node-words-requires : tie.Need-node-words-requires
+node-words-requires c κs = search needs
 
 cast-result : tie.Need-cast-result
 cast-result c = search needs
 
+-- the words of all nodes
+few : (c : tie.After-struct-known) →
+    c .before .node-words .result * c .before .before .before .args .self .nodes ≤ (linkWords + 65535) * 65535
+few c =
+    rw (c .before .node-words .ensures) (product-fits (c .before .before .before .args .self) _ (omega arith) (omega arith))
+
 mul-result : tie.Need-mul-result
-mul-result c = search needs
+mul-result c = omega (arith, few c)
 
 add-result : tie.Need-add-result
-add-result c = search needs
-
-cast-result-2 : tie.Need-cast-result-2
-cast-result-2 c = search needs
-
-mul-result-2 : tie.Need-mul-result-2
-mul-result-2 c =
-    let l = c .before .before .before .args .self in
-    omega (arith, product-fits (l .width) (l .nodes) (omega arith) (omega arith))
-
-add-result-2 : tie.Need-add-result-2
-add-result-2 c =
-    let l = c .before .before .before .args .self in
-    omega (arith, product-fits (l .width) (l .nodes) (omega arith) (omega arith))
+add-result c = omega (arith, few c, c .before .before .nodes-at .ensures)
 
 returns : tie.Need-returns
 unfolding sizeOf
-returns c = search needs
+returns c = rw (c .before .before .nodes-at .ensures, c .before .node-words .ensures)
 
 pub size-spec : {M : Type 1} → statement M
 size-spec =
     tie.close
     (tie.spec
-    cast-words
-    add-words
+    nodes-at-requires
+    node-words-requires
     cast-result
     mul-result
     add-result
-    cast-result-2
-    mul-result-2
-    add-result-2
     returns)
