@@ -12,7 +12,7 @@ use Rattle.layout.specs.declared.Layout.{Layout}
 use Rattle.layout.specs.declared.Opened.{Opened}
 use Rattle.layout.specs.declared.Opened.the-variants as O
 use Rattle.layout.specs.Words.{Node, isNode, cellAt, cellWords, identAt, layoutOf, ask, opened, afterOpen}
-use Rattle.layout.proofs.Laws.{opened-open}
+use Rattle.layout.proofs.Laws.{tail-width, opened-open}
 use Rattle.layout.proofs.Apart.{words-apart, words-header, words-node, links-words, cell-behind}
 use Rattle.lists.specs.Lists.{asked}
 use Rattle.lists.specs.Decide.{View, viewOf, countIn, sequenceIn, sequenceOf}
@@ -174,7 +174,7 @@ module _ (w : List ℕ) (k p c : ℕ) (words words′ : List ℕ) (e : length wo
       by (K.At l t) q q′ =
           let g = gap-placed w k p l t c (length words) q in
           subst Given (opened-open w l (looked w (Gap k p c (length words)) l t q .0) .0)
-          (stored (t .cell) (insertLinks l k t) (g .0 .cell) (g .1) (insert-at w k p c words q) (insert-at w k p c words′ q′))
+          (stored (t .cell) (insertLinks l k t) (g .0 .cell) (g .1 ∙ tail-width l) (insert-at w k p c words q) (insert-at w k p c words′ q′))
 
 pub uninterpreted : Uninterpreted
 uninterpreted = record { calls = same-calls; given = same-given }

@@ -96,7 +96,7 @@ module _ {l : Layout} {k : ℕ} {t : Site} (p : Placed l k t) where
   unfolding insertLinks
   links-inside = omega (arith, site-fits)
 
-  pub insert-inside : (words : List ℕ) → length words ≡ l .width → All (λ (q : Write). q .at < sizeOf l) (insertWrites l k t words)
+  pub insert-inside : (words : List ℕ) → length words ≡ tailWords l → All (λ (q : Write). q .at < sizeOf l) (insertWrites l k t words)
   unfolding insertWrites
   insert-inside words e =
       all-append (λ (q : Write). q .at < sizeOf l) (inRow (recordAt l (t .cell)) words) (insertLinks l k t)
