@@ -63,7 +63,7 @@ pub fn load(bytes: &[u8], l: Layout, idents: &mut [u16], forwards: &mut [u16], b
 {
     let mut i: u16 = 0;
     while i < l.first_node() {
-        load_cell(bytes, l.header(i), i, idents, forwards, backs);
+        load_cell(bytes, l.cell(i), i, idents, forwards, backs);
         i += 1;
     }
     while i < l.cell_count() {

@@ -20,7 +20,7 @@ use Rattle.lists.proofs.Agree.{Holds, holds-true, true-holds, agrees-ho
 -- a header is no node
 pub header-out : (l : Layout) (k : ℕ) → k < l .lists → isNode l k ≡ false
 unfolding isNode
-header-out l k h = rw (lt-leb (firstNode l) k h)
+header-out l k h = rw (lt-leb (firstNode l) k (omega arith))
 
 -- different nodes are at most N
 pub nodes-few : (l : Layout) (s : List ℕ) → All (Node l) s → Different s → length s ≤ l .nodes

@@ -2,17 +2,18 @@
 use Prim.Native.Nat.{ℕ, suc, _+_, _-_, _≤_, _<_}
 use mathlib.Core.Path.{_≡_, ap, _∙_}
 use mathlib.Core.List.{List, [], _∷_, _++_}
-use mathlib.Core.Bool.{true, false}
+use mathlib.Core.Bool.{Bool, true, false}
 use native.Mathlib.Omega.{arith}
 use native.Mathlib.Numerals.{add-one}
 use native.Mathlib.Decide.{ℕ-discrete}
+use lib.Dec.{eqb, leb}
 use lib.ListN.{length, getD}
-use borrow.Author.Tests.{lt-ltb, le-ltb, le-leb, lt-leb, eq-eqb, ne-eqb}
+use borrow.Author.Tests.{lt-ltb, le-ltb, eq-eqb, ne-eqb, leb-true, eqb-true}
 use Rattle.sequences.proofs.Splice.{forward-at}
 use Rattle.layout.specs.declared.Layout.{Layout}
 use Rattle.layout.specs.declared.Opened.the-variants as O
-use Rattle.layout.specs.Words.{firstNode, cellCount, Node, isNode, InRange, Laid, opened}
-use Rattle.layout.proofs.Laws.{opened-open}
+use Rattle.layout.specs.Words.{firstNode, cellCount, Node, isNode, InRange, Laid, ask, opened}
+use Rattle.layout.proofs.Laws.{opened-open, is-node}
 use Rattle.lists.specs.Decide.{View, viewOf, countIn, sequenceIn, soundIn}
 use Rattle.lists.proofs.Agree.{holds-true}
 use Rattle.survey.specs.Survey.{columns, Columns, Loaded}
@@ -23,7 +24,7 @@ use Rattle.requests.specs.declared.Request.{Request}
 use Rattle.requests.specs.declared.Request.the-variants.{Check, Whole, Member, Gap}
 use Rattle.requests.specs.declared.Sited.the-variants.{At, Refused}
 use Rattle.requests.specs.declared.Looked.the-variants as K
-use Rattle.requests.specs.Requests.{nextCell, around, firstFree, memberAt, gapAt, siteIn, listOf, siteOf, lookOf, sequenceBy, Closed}
+use Rattle.requests.specs.Requests.{nextCell, around, firstFree, memberAt, askGap, freeGap, gapAt, siteIn, listOf, siteOf, lookOf, sequenceBy, Closed}
 
 -- the node after a node: the first after the last, else the next
 module _ (l : Layout) (c : ℕ) where
@@ -59,6 +60,29 @@ module _ (l : Layout) (ident : ℕ → ℕ) (c n : ℕ) where
   unfolding around firstFree
   free-none e = rw e
 
+-- questions 7 to 9 with r for the number of the first no: all are answered yes, or r refuses
+module _ (l : Layout) (n p c m : ℕ) {r : ℕ} (e : r ≡ askGap l n p c m (λ x. x) 0) where
+  pub gap-asked : r ≡ 0 → (p ≤ n) × Node l c × (m ≡ l .width)
+  gap-asked z = by (leb p n) refl (isNode l c) refl (eqb m (l .width)) refl (sym e ∙ z)
+    where
+      by : (a : Bool) → leb p n ≡ a → (b : Bool) → isNode l c ≡ b → (d : Bool) → eqb m (l .width) ≡ d
+          → _≡_ {A = ℕ} (ask a 7 (ask b 8 (ask d 9 0))) 0 → (p ≤ n) × Node l c × (m ≡ l .width)
+      by true x true y true z q = (leb-true p n x, is-node l c y, eqb-true m (l .width) z)
+      by true x true y false z q = absurd (omega arith)
+      by true x false y d z q = absurd (omega arith)
+      by false x b y d z q = absurd (omega arith)
+
+  pub asked-number {ℓ} : {A : Type ℓ} (refuse : ℕ → A) (rest : A) → askGap l n p c m refuse rest ≡ ask (eqb r 0) (refuse r) rest
+  asked-number refuse rest =
+      by (leb p n) (isNode l c) (eqb m (l .width)) ∙ ap (λ (x : ℕ). ask (eqb x 0) (refuse x) rest) (sym e)
+    where
+      by : (a b d : Bool) → ask a (refuse 7) (ask b (refuse 8) (ask d (refuse 9) rest))
+          ≡ (let x : ℕ = ask a 7 (ask b 8 (ask d 9 0)) in ask (eqb x 0) (refuse x) rest)
+      by true true true = refl
+      by true true false = refl
+      by true false d = refl
+      by false b d = refl
+
 -- the sites of a list whose links lead round its n members
 module _ {l : Layout} {f : List ℕ} {k n : ℕ} (h : Closed l f k n) (p : ℕ) where
   abbrev members : List ℕ
@@ -91,31 +115,24 @@ module _ {l : Layout} {f : List ℕ} {k n : ℕ} (h : Closed l f k n) (p : ℕ) 
   unfolding memberAt
   member-found q e = rw (lt-ltb p (length members) (omega arith), e, member-before q, member-link q, h .count)
 
-  -- no gap at the position, a starting cell that is no node, a record of another size, no free cell, or a site
-  module _ (ident : ℕ → ℕ) (c m : ℕ) where
-    pub gap-past : n < p → Refused 7 ≡ gapAt l ident k p c m members
-    unfolding gapAt
-    gap-past q = rw (lt-leb p (length members) (omega arith))
+  -- no free cell, or a site
+  module _ (ident : ℕ → ℕ) (c : ℕ) where
+    pub gap-full : Full ≡ firstFree ident (around l c (l .nodes)) → Refused 10 ≡ freeGap l ident k p c members
+    gap-full g = rw (← g)
 
-    pub gap-outside : p ≤ n → isNode l c ≡ false → Refused 8 ≡ gapAt l ident k p c m members
-    unfolding gapAt
-    gap-outside q i = rw (le-leb p (length members) (omega arith), i)
+    pub gap-found : p ≤ n → {x b : ℕ} → Cell x ≡ firstFree ident (around l c (l .nodes)) → b ≡ getD (k ∷ members) p 0
+        → At (record { before = b; cell = x; after = getD f b 0; count = n }) ≡ freeGap l ident k p c members
+    gap-found q g z = rw (← g, z, before-link q, h .count)
 
-    pub gap-misfit : p ≤ n → isNode l c ≡ true → (m ≡ l .width → ⊥) → Refused 9 ≡ gapAt l ident k p c m members
-    unfolding gapAt
-    gap-misfit q i e = rw (le-leb p (length members) (omega arith), i, ne-eqb _ _ e)
+    -- refused by question 7, 8 or 9, or not
+    module _ (m : ℕ) {r : ℕ} (e : r ≡ askGap l n p c m (λ x. x) 0) where
+      pub gap-shut : (r ≡ 0 → ⊥) → Refused r ≡ gapAt l ident k p c m members
+      unfolding gapAt
+      gap-shut z = rw (← h .count) (sym (asked-number l n p c m e Refused _ ∙ rw (ne-eqb r 0 z)))
 
-    pub gap-full : p ≤ n → isNode l c ≡ true → m ≡ l .width → Full ≡ firstFree ident (around l c (l .nodes))
-        → Refused 10 ≡ gapAt l ident k p c m members
-    unfolding gapAt
-    gap-full q i e g = rw (le-leb p (length members) (omega arith), i, eq-eqb _ _ e, ← g)
-
-    pub gap-found : p ≤ n → isNode l c ≡ true → m ≡ l .width → {x b : ℕ}
-        → Cell x ≡ firstFree ident (around l c (l .nodes)) → b ≡ getD (k ∷ members) p 0
-        → At (record { before = b; cell = x; after = getD f b 0; count = n }) ≡ gapAt l ident k p c m members
-    unfolding gapAt
-    gap-found q i e g z =
-        rw (le-leb p (length members) (omega arith), i, eq-eqb _ _ e, ← g, z, before-link q, h .count)
+      pub gap-open : r ≡ 0 → freeGap l ident k p c members ≡ gapAt l ident k p c m members
+      unfolding gapAt
+      gap-open z = rw (← h .count) (sym (asked-number l n p c m e Refused _ ∙ rw (eq-eqb r 0 z)))
 
 -- where the columns are sound, the links of each list lead round
 pub sound-closed : (l : Layout) (i f b : List ℕ) (count : ℕ → ℕ) (k : ℕ) → Columns l i f b → soundIn l (columns i f b) count ≡ true

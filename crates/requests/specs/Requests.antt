@@ -43,14 +43,22 @@ memberAt k p s =
     ask (ltb p (length s)) (Refused 7)
     (At (record { before = getD (k ∷ s) p 0; cell = getD s p 0; after = getD (s ++ k ∷ []) (p + 1) 0; count = length s }))
 
--- questions 7 to 10 of insert: the gap of list k at position p, and a free cell for a record of m words, searched from cell c
+-- questions 7 to 9 of insert, into a list of n members at position p, from cell c, of a record of m words; then the rest
+abbrev pub askGap {ℓ} : {A : Type ℓ} → Layout → ℕ → ℕ → ℕ → ℕ → (ℕ → A) → A → A
+askGap l n p c m refuse rest =
+    ask (leb p n) (refuse 7)
+    (ask (isNode l c) (refuse 8)
+    (ask (eqb m (l .width)) (refuse 9)
+    rest))
+
+-- question 10: the gap of list k at position p, and a free cell, searched from cell c
+abbrev pub freeGap : Layout → (ℕ → ℕ) → ℕ → ℕ → ℕ → List ℕ → Sited
+freeGap l ident k p c s =
+    withFree (firstFree ident (around l c (l .nodes))) (Refused 10)
+    (λ i. At (record { before = getD (k ∷ s) p 0; cell = i; after = getD (s ++ k ∷ []) p 0; count = length s }))
+
 unfoldable pub gapAt : Layout → (ℕ → ℕ) → ℕ → ℕ → ℕ → ℕ → List ℕ → Sited
-gapAt l ident k p c m s =
-    ask (leb p (length s)) (Refused 7)
-    (ask (isNode l c) (Refused 8)
-    (ask (eqb m (l .width)) (Refused 9)
-    (withFree (firstFree ident (around l c (l .nodes))) (Refused 10)
-    (λ i. At (record { before = getD (k ∷ s) p 0; cell = i; after = getD (s ++ k ∷ []) p 0; count = length s })))))
+gapAt l ident k p c m s = askGap l (length s) p c m Refused (freeGap l ident k p c s)
 
 -- questions 5 and 6, before those of the sequence of list k
 abbrev pub ofList : Layout → View → (ℕ → ℕ) → ℕ → (List ℕ → Sited) → Sited

@@ -3,10 +3,11 @@
 use layout::Layout;
 use layout::Opened;
 ghost use mathlib.Core.Path.{_≡_};
+ghost use Prim.Native.Nat.{_≤_};
 ghost use lib.ListN.{length, getD};
 ghost use Rattle.layout.specs.Words.{InRange, Node, Laid, cellCount};
 ghost use Rattle.survey.specs.Survey.{columns, Columns};
-ghost use Rattle.requests.specs.Requests.{nextCell, around, firstFree, memberAt, gapAt, siteIn, listOf, siteOf, lookOf, sequenceBy, Closed};
+ghost use Rattle.requests.specs.Requests.{nextCell, around, firstFree, memberAt, askGap, freeGap, gapAt, siteIn, listOf, siteOf, lookOf, sequenceBy, Closed};
 
 // What a call asks for.
 pub enum Request {
@@ -103,6 +104,50 @@ fn member(forwards: &[u16], l: Layout, k: u16, n: u16, p: u16) -> Sited
     })
 }
 
+// Questions 7 to 9: the number of the first no, 0 for none.
+fn gap_number(l: Layout, n: u16, p: u16, start: u16, size: usize) -> u16
+    requires { ⌜ InRange l ⌝ }
+    ensures { λ r. ⌜ r ≡ askGap l n p start size (λ x. x) 0 ⌝ }
+{
+    if n < p {
+        return 7;
+    }
+    if !l.is_node(start) {
+        return 8;
+    }
+    if size != l.width as usize {
+        return 9;
+    }
+    0
+}
+
+// Question 10: the gap of list k, which has n members, at position p, and a free cell.
+fn free_gap(
+    idents: &[u16],
+    forwards: &[u16],
+    l: Layout,
+    k: u16,
+    n: u16,
+    p: u16,
+    start: u16,
+) -> Sited
+    requires { ⌜ Closed l (now forwards) k n × (length (now idents) ≡ cellCount l) × (p ≤ n) × Node l start ⌝ }
+    ensures { λ r. ⌜ r ≡ freeGap l (λ c. getD (now (idents .entry)) c 0) k p start (sequenceBy l (now (forwards .entry)) k) ⌝ }
+{
+    match free_cell(idents, l, start) {
+        Free::Full => Sited::Refused(10),
+        Free::Cell(cell) => {
+            let before = survey::cell_before(forwards, l, k, p);
+            Sited::At(Site {
+                before,
+                cell,
+                after: forwards[before as usize],
+                count: n,
+            })
+        }
+    }
+}
+
 // The gap of list k, which has n members, at position p, and a free cell.
 fn gap(
     idents: &[u16],
@@ -117,27 +162,11 @@ fn gap(
     requires { ⌜ Closed l (now forwards) k n × (length (now idents) ≡ cellCount l) ⌝ }
     ensures { λ r. ⌜ r ≡ gapAt l (λ c. getD (now (idents .entry)) c 0) k p start size (sequenceBy l (now (forwards .entry)) k) ⌝ }
 {
-    if n < p {
-        return Sited::Refused(7);
+    let refusal = gap_number(l, n, p, start, size);
+    if refusal != 0 {
+        return Sited::Refused(refusal);
     }
-    if !l.is_node(start) {
-        return Sited::Refused(8);
-    }
-    if size != l.width as usize {
-        return Sited::Refused(9);
-    }
-    match free_cell(idents, l, start) {
-        Free::Full => Sited::Refused(10),
-        Free::Cell(cell) => {
-            let before = survey::cell_before(forwards, l, k, p);
-            Sited::At(Site {
-                before,
-                cell,
-                after: forwards[before as usize],
-                count: n,
-            })
-        }
-    }
+    free_gap(idents, forwards, l, k, n, p, start)
 }
 
 // The site that a request gets, by the columns and the counts.

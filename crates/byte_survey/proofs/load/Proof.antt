@@ -7,7 +7,7 @@ use lib.ListN.{length, getD, set, length-set}
 use Rattle.byte_form.specs.Bytes.{wordsIn}
 use Rattle.layout.specs.declared.Layout.{Layout}
 use Rattle.layout.specs.Words.{linkWords, forwardWord, backWord, Laid, firstNode, cellCount, cellAt}
-use Rattle.layout.proofs.Laws.{cell-header, cell-node, cell-fits}
+use Rattle.layout.proofs.Laws.{cell-node, cell-fits}
 use Rattle.lists.specs.Decide.{viewOf}
 use Rattle.survey.proofs.Laws.{Filled, filled-more, loaded-all}
 use borrow.Author.Needs.{needs}
@@ -72,16 +72,15 @@ loop-holds c =
 first-node-requires : tie.Need-first-node-requires Inv-loop μ-loop Inv-loop2 μ-loop2
 first-node-requires c κs = search needs
 
-header-requires : tie.Need-header-requires Inv-loop μ-loop Inv-loop2 μ-loop2
-header-requires c κs = search needs
+cell-requires : tie.Need-cell-requires Inv-loop μ-loop Inv-loop2 μ-loop2
+cell-requires c κs = search needs
 
 load-cell-requires : tie.Need-load-cell-requires Inv-loop μ-loop Inv-loop2 μ-loop2
 load-cell-requires c κs =
     let s = c .before .before .before .before .before .before .before .before .before .before .before .args in
     let t = c .before .before .before .before .before .before .loop in
-    let h : t .i < firstNode (s .l) = omega arith in
     inside (wordsIn (s .bytes .now)) (s .l) (t .idents) (t .forwards) (t .backs) (t .i) _ (t .inv) (omega arith)
-    (c .before .before .before .header .ensures ∙ sym (cell-header (s .l) (t .i) h))
+    (c .before .before .before .cell .ensures)
 
 add-i : tie.Need-add-i Inv-loop μ-loop Inv-loop2 μ-loop2
 add-i c = omega arith
@@ -93,9 +92,8 @@ loop-again : tie.Need-loop-again Inv-loop μ-loop Inv-loop2 μ-loop2
 loop-again c =
     let s = c .before .before .before .before .before .before .before .before .before .before .before .before .before .before .before .before .before .before .args in
     let t = c .before .before .before .before .before .before .before .before .before .before .before .before .before .loop in
-    let h : t .i < firstNode (s .l) = omega arith in
     read-more (wordsIn (s .bytes .now)) (s .l) (t .idents) (t .forwards) (t .backs) _ _ _ (t .i) _ (t .inv) (omega arith)
-    (c .before .before .before .before .before .before .before .before .before .before .header .ensures ∙ sym (cell-header (s .l) (t .i) h)) (c .before .before .before .before .before .before .load-cell .ensures)
+    (c .before .before .before .before .before .before .before .before .before .before .cell .ensures) (c .before .before .before .before .before .before .load-cell .ensures)
 
 loop2-holds : tie.Need-loop2-holds Inv-loop μ-loop Inv-loop2 μ-loop2
 loop2-holds c = (c .before .before .loop .inv, omega arith)
@@ -156,7 +154,7 @@ load-spec =
     μ-loop2
     loop-holds
     first-node-requires
-    header-requires
+    cell-requires
     load-cell-requires
     add-i
     loop-less

@@ -36,7 +36,7 @@ loop-holds c =
       e .ensures,
       s .pre .0,
       s .pre .1,
-      rw (a .ensures) (record { front = s .pre .3; rest = rw d; below = s .pre .2 }),
+      rw (a .ensures) (record { front = s .pre .3; rest = rw d; below = omega arith }),
     )
 
 cast-if1 : tie.Need-cast-if1 Inv-loop μ-loop
