@@ -1,35 +1,59 @@
-// Recovery of a store in byte form: its cells are read into columns, and the stores that these tell are made in the bytes.
+// Recovery of a store in byte form: its cells are read into columns, and the stores that these tell are made in the bytes, the mends
+// from their rows and the clears from the column of identifiers.
 use layout::Layout;
 use mending::Finding;
 use stores::Answer;
 ghost use mathlib.Core.Path.{_≡_};
 ghost use Prim.Native.Nat.{_≤_};
 ghost use lib.ListN.{length};
-ghost use Rattle.stores.specs.Stores.{answerOf};
-ghost use Rattle.byte_form.specs.Bytes.{wordsIn, bytesAfter};
-ghost use Rattle.layout.specs.Words.{InRange, Laid, cellCount, sizeOf};
+ghost use Rattle.stores.specs.Stores.{stores, answerOf, writesIn, Held};
+ghost use Rattle.byte_form.specs.Bytes.{wordsIn, appliedBytes, bytesAfter};
+ghost use Rattle.layout.specs.Words.{Laid, cellCount, sizeOf};
 ghost use Rattle.survey.specs.Survey.{short, Columns};
 ghost use Rattle.recovery.specs.Plan.{recoverOf};
-ghost use Rattle.mending.specs.Mending.{listed, Listed, planOf};
+ghost use Rattle.mending.specs.Mending.{clears, planOf};
 
-// Makes the stores that were found, up to the allowance.
-fn make(
-    bytes: &mut [u8],
-    f: Finding,
-    l: Layout,
-    at: &[u16],
-    values: &[u16],
-    allowance: u16,
-) -> Answer
-    requires { ⌜ InRange l × (length (wordsIn (now bytes)) ≡ sizeOf l) × Listed l (now at) (now values) (f .stores) (listed (f .stores) (now at) (now values)) ⌝ }
-    ensures answer { λ r. ⌜ r ≡ answerOf (planOf f (now (at .entry)) (now (values .entry))) allowance ⌝ }
-    ensures bytes { λ _. ⌜ now (bytes .exit) ≡ bytesAfter (planOf f (now (at .entry)) (now (values .entry))) allowance (now (bytes .entry)) ⌝ }
+// Stores 0 to the identifier of each node that has an entry, lowest cell first, up to the allowance.
+fn clear(bytes: &mut [u8], idents: &[u16], l: Layout, allowance: u16) -> Answer
+    requires { ⌜ Laid l (wordsIn (now bytes)) × (length (now idents) ≡ cellCount l) ⌝ }
+    ensures answer { λ r. ⌜ r ≡ answerOf (stores (clears l (now (idents .entry)))) allowance ⌝ }
+    ensures bytes { λ _. ⌜ now (bytes .exit) ≡ appliedBytes (clears l (now (idents .entry))) allowance (now (bytes .entry)) ⌝ }
+{
+    let mut n: u16 = 0;
+    let mut i = l.first_node();
+    let end = l.cell_count();
+    while i < end {
+        if idents[i as usize] != 0 {
+            if n == allowance {
+                return Answer::Stopped(n);
+            }
+            byte_form::put(bytes, l.node(i), 0);
+            n += 1;
+        }
+        i += 1;
+    }
+    Answer::Done(n)
+}
+
+// Makes the stores that were found, the mends and then the clears, up to the allowance.
+fn make(bytes: &mut [u8], f: Finding, idents: &[u16], l: Layout, allowance: u16) -> Answer
+    requires { ⌜ Laid l (wordsIn (now bytes)) × (length (now idents) ≡ cellCount l) × Held (sizeOf l) (f .mends) (writesIn (f .mends)) ⌝ }
+    ensures answer { λ r. ⌜ r ≡ answerOf (planOf l f (now (idents .entry))) allowance ⌝ }
+    ensures bytes { λ _. ⌜ now (bytes .exit) ≡ bytesAfter (planOf l f (now (idents .entry))) allowance (now (bytes .entry)) ⌝ }
 {
     if f.refusal != 0 {
         return Answer::Refused(f.refusal);
     }
-    let n = f.stores;
-    byte_form::run(bytes, &at[..n], &values[..n], allowance)
+    let Answer::Done(n) = byte_form::run_rows(bytes, f.mends, allowance) else {
+        return Answer::Stopped(allowance);
+    };
+    if !f.left {
+        return Answer::Done(n);
+    }
+    let Answer::Done(m) = clear(bytes, idents, l, allowance - n) else {
+        return Answer::Stopped(allowance);
+    };
+    Answer::Done(n + m)
 }
 
 // Recovers a store of this layout, with the columns to read its cells into.
@@ -48,7 +72,7 @@ fn recover_with(
     byte_survey::load(bytes, l, idents, forwards, backs);
     let counts = byte_survey::all_counts(bytes, l);
     let f = mending::plan(idents, forwards, backs, counts, l);
-    make(bytes, f, l, forwards, backs, allowance)
+    make(bytes, f, idents, l, allowance)
 }
 
 // The same, with short columns.

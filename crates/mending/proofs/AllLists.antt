@@ -1,6 +1,6 @@
 -- Laws of the mends of all lists, and of the columns after all of them are erased.
 use Prim.Native.Nat.{ℕ, suc, _+_, _-_, _≤_, _<_}
-use mathlib.Core.Path.{_≡_, refl, ap, ap₂, _∙_, sym, subst}
+use mathlib.Core.Path.{_≡_, refl, ap, ap₂, _∙_, sym}
 use mathlib.Core.List.{List, [], _∷_, _++_, append-nil, append-assoc}
 use mathlib.Core.Bool.{Bool, true, false, _&&_, and-eq-true-iff}
 use native.Mathlib.Omega.{arith}
@@ -17,12 +17,8 @@ use Rattle.lists.specs.Decide.{View}
 use Rattle.fitting.specs.declared.Faults.{Faults}
 use Rattle.fitting.specs.declared.Faults.the-variants as F
 use Rattle.fitting.specs.declared.Fitted.{Fitted}
-use Rattle.fitting.specs.declared.Fitted.the-variants as G
-use Rattle.fitting.specs.Fitting.{fitIn}
-use Rattle.fitting.specs.Fitting.{mendOf, numberOf, faultIn, isBackward, lengthBy, carries}
-use Rattle.mending.specs.Mending.{refusalIn, mendsIn, total, MendsOf}
-use Rattle.fitting.specs.Fitting.{membersBy}
-use Rattle.mending.specs.Mending.{erased, erasedFrom}
+use Rattle.fitting.specs.Fitting.{fitIn, mendOf, numberOf, faultIn, isBackward, lengthBy, carries, membersBy}
+use Rattle.mending.specs.Mending.{refusalIn, mendsIn, total, MendsOf, erased, erasedFrom}
 
 -- a fault has one mend at most
 mend-few : (l : Layout) (f : Faults) → length (mendOf l f) ≤ 1
@@ -105,7 +101,7 @@ module _ (l : Layout) (r : InRange l) (v : View) (count : ℕ → ℕ) where
           members = λ i. absurd (z i);
           carried = λ i. absurd (z i);
           rows = λ i. absurd (z i);
-          few = λ i. absurd (z i);
+          held = w .held;
           back = λ i. absurd (z i);
         }
 
@@ -119,8 +115,8 @@ module _ (l : Layout) (r : InRange l) (v : View) (count : ℕ → ℕ) where
           refusal = rw s at (w .refusal);
           members = λ i. w .members ∙ ap (total (λ j. lengthBy (faultAt l v count j) (count j))) e;
           carried = λ i c j p. w .carried c j (omega arith);
-          rows = λ i. subst (Held (sizeOf l) rows) (sym (append-nil (writesIn rows)) ∙ (rw s at (w .mends))) (w .held);
-          few = λ i. omega arith;
+          rows = λ i. sym (append-nil (writesIn rows)) ∙ (rw s at (w .mends));
+          held = w .held;
           back = λ i j p. w .ways j (omega arith);
         }
 

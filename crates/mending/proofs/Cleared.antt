@@ -20,7 +20,7 @@ use Rattle.recovery.specs.Fits.{wrong}
 use Rattle.recovery.specs.Plan.{joined, outOf, clearsAsked}
 use Rattle.recovery.proofs.Joined.{one-joined, joined-one, out-member, out-other}
 use Rattle.fitting.specs.Fitting.{membersBy}
-use Rattle.mending.specs.Mending.{erased, erasedFrom, clearsIn}
+use Rattle.mending.specs.Mending.{erased, erasedFrom, clearsIn, clears}
 
 -- an entry set to 0 is 0, inside the column or behind it
 set-zero : (xs : List ℕ) (c : ℕ) → getD (set xs c 0) c 0 ≡ 0
@@ -114,7 +114,7 @@ clears-told l w idents ms a (suc n) h =
 pub cleared-told : (l : Layout) (w idents : List ℕ) (v : View) (back : ℕ → Bool) (s : ℕ → List ℕ)
     → ((c : ℕ) → c < cellCount l → getD idents c 0 ≡ getD w (identAt l c) 0)
     → ((k : ℕ) → k < l .lists → (c : ℕ) → (c ∈ membersBy l v (back k) k → c ∈ s k) × (c ∈ s k → c ∈ membersBy l v (back k) k))
-    → clearsIn l (erasedFrom l v back 0 (l .lists) idents) (firstNode l) (l .nodes) ≡ wrong w (clearsAsked l s)
+    → clears l (erasedFrom l v back 0 (l .lists) idents) ≡ wrong w (clearsAsked l s)
 cleared-told l w idents v back s same members =
     clears-told l w (erasedFrom l v back 0 (l .lists) idents) (joined s (l .lists)) (firstNode l) (l .nodes)
     (λ c q. (

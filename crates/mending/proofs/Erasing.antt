@@ -1,18 +1,15 @@
--- Laws of erased columns and of clears.
-use Prim.Native.Nat.{ℕ, suc, _+_, _-_, _≤_, _<_}
+-- Laws of erased columns.
+use Prim.Native.Nat.{ℕ, suc, _-_, _<_}
 use mathlib.Core.Path.{_≡_, ap, _∙_}
-use mathlib.Core.List.{List, [], _∷_}
+use mathlib.Core.List.{List}
 use mathlib.Core.Bool.{true, false}
 use native.Mathlib.Omega.{arith}
-use native.Mathlib.Numerals.{add-one}
 use lib.ListN.{getD, set}
-use borrow.Author.Tests.{eq-eqb, ne-eqb}
 use Rattle.sequences.specs.Sequence.{trail}
 use Rattle.sequences.proofs.Trail.{trail-on, trail-out, trail-none}
-use Rattle.stores.specs.Stores.{write}
 use Rattle.layout.specs.declared.Layout.{Layout}
-use Rattle.layout.specs.Words.{isNode, identAt}
-use Rattle.mending.specs.Mending.{erased, clearsIn}
+use Rattle.layout.specs.Words.{isNode}
+use Rattle.mending.specs.Mending.{erased}
 
 -- a column with 0 at the cells that the links lead through from y on, n at most
 abbrev pub erasedAlong : Layout → List ℕ → ℕ → ℕ → List ℕ → List ℕ
@@ -36,25 +33,3 @@ module _ (l : Layout) (links : List ℕ) (n y : ℕ) (idents : List ℕ) where
   pub erased-none : n ≡ 0 → erasedAlong l links n y idents ≡ idents
   unfolding erased
   erased-none e = rw (e, trail-none (λ c. getD links c 0) (isNode l) y)
-
--- the clears of the cells from a up to e
-module _ (l : Layout) (idents : List ℕ) (a e : ℕ) where
-  -- the entry is not 0: a clear, and those behind it
-  pub clears-one : a < e → (getD idents a 0 ≡ 0 → ⊥)
-      → clearsIn l idents a (e - a) ≡ write (identAt l a) 0 ∷ clearsIn l idents (a + 1) (e - (a + 1))
-  unfolding clearsIn
-  clears-one h q =
-      let s : e - a ≡ suc (e - (a + 1)) = omega arith in
-      rw (s, clearsIn, ne-eqb (getD idents a 0) 0 q, add-one a)
-
-  -- the entry is 0: those behind it
-  pub clears-skip : a < e → getD idents a 0 ≡ 0 → clearsIn l idents a (e - a) ≡ clearsIn l idents (a + 1) (e - (a + 1))
-  unfolding clearsIn
-  clears-skip h q =
-      let s : e - a ≡ suc (e - (a + 1)) = omega arith in
-      rw (s, clearsIn, eq-eqb (getD idents a 0) 0 q, add-one a)
-
-  -- no cell is left
-  pub clears-none : e ≤ a → clearsIn l idents a (e - a) ≡ []
-  unfolding clearsIn
-  clears-none h = let s : e - a ≡ 0 = omega arith in rw s

@@ -22,7 +22,6 @@ use Rattle.recovery.proofs.Joined.{joined-one}
 use Rattle.recovery.proofs.Disjoint.{fits-disjoint}
 use Rattle.recovery.proofs.Whole.{clear-none, fit-accepted}
 use Rattle.fitting.specs.declared.Faults.{Faults}
-use Rattle.fitting.specs.declared.Faults.the-variants as F
 use Rattle.fitting.specs.Fitting.{numberOf, fitIn, lengthBy, carries}
 use Rattle.mending.specs.Mending.{total}
 use Rattle.mending.proofs.AllLists.{faultAt}

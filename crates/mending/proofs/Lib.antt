@@ -1,6 +1,6 @@
 pub mod Erasing
 pub mod AllLists
-pub mod Listing
+pub mod Clearing
 pub mod Cleared
 pub mod LeftOver
 pub mod Recovered

@@ -1,7 +1,7 @@
 -- What the columns told is the plan of recovery.
 use Prim.Native.Nat.{ℕ, zero, suc, _+_, _<_, _≤_}
 use mathlib.Core.Path.{_≡_, refl, ap, ap₂, _∙_, sym, subst}
-use mathlib.Core.List.{List, _++_, append-nil, append-assoc}
+use mathlib.Core.List.{List, [], _++_, append-nil, append-assoc}
 use mathlib.Core.Bool.{Bool, true, false, cond, _&&_, and-eq-true-iff}
 use native.Mathlib.Omega.{arith}
 use native.Mathlib.Nat.{eq-or-lt-of-le}
@@ -25,8 +25,7 @@ use Rattle.fitting.specs.declared.Fitted.the-variants as G
 use Rattle.fitting.specs.Fitting.{fitIn, mendOf, numberOf, faultIn, isBackward, lengthBy, carries, membersBy}
 use Rattle.fitting.proofs.Told.{Told, fit-told, members-told}
 use Rattle.mending.specs.declared.Mends.{Mends}
-use Rattle.mending.specs.Mending.{refusalIn, mendsIn, total, erasedFrom, clearsIn, MendsOf, erased}
-use Rattle.mending.proofs.AllLists.{length-erased}
+use Rattle.mending.specs.Mending.{refusalIn, mendsIn, total, erasedFrom, clears, MendsOf}
 use Rattle.mending.proofs.Cleared.{cleared-told}
 use Rattle.mending.proofs.LeftOver.{total-same, nothing-left}
 
@@ -147,12 +146,12 @@ module _ (l : Layout) (w idents forwards backs : List ℕ) (loaded : Loaded l w 
         (wrong-append w (listsAsked l (fittingOf l w)) (clearsAsked l (fittingOf l w))
         ∙ ap (λ (ps : List Write). ps ++ Left)
         (sym
-        (told-words .rows z .same ∙ mends-counts l v counts (countIn l w) 0 (l .lists) (λ j p q. same j (omega arith))
+        (told-words .rows z ∙ mends-counts l v counts (countIn l w) 0 (l .lists) (λ j p q. same j (omega arith))
         ∙ mends-told l w fitted (l .lists) (omega arith)))))
 
     -- .. by what is left of the identifiers
     abbrev Clears : List Write
-    Clears = clearsIn l (erasedFrom l (columns idents forwards backs) (λ k. getD (m .back) k false) 0 (l .lists) idents) (firstNode l) (l .nodes)
+    Clears = clears l (erasedFrom l (columns idents forwards backs) (λ k. getD (m .back) k false) 0 (l .lists) idents)
 
     pub recover-stores : recoverOf l w ≡ stores (writesIn (m .rows) ++ Clears)
     recover-stores = stores-told ∙ ap (λ (ps : List Write). stores (writesIn (m .rows) ++ ps)) (sym cleared)
@@ -162,7 +161,7 @@ module _ (l : Layout) (w idents forwards backs : List ℕ) (loaded : Loaded l w 
 
         cleared : Clears ≡ Left
         cleared =
-            ap (λ (u : View). clearsIn l (erasedFrom l u (λ k. getD (m .back) k false) 0 (l .lists) idents) (firstNode l) (l .nodes))
+            ap (λ (u : View). clears l (erasedFrom l u (λ k. getD (m .back) k false) 0 (l .lists) idents))
             (loaded-view l w idents forwards backs loaded)
             ∙ cleared-told l w idents v (λ k. getD (m .back) k false) (fittingOf l w) (λ c _. loaded .idents c)
             (λ k h. subst (λ (b : Bool). (c : ℕ) → (c ∈ membersBy l v b k → c ∈ fittingOf l w k) × (c ∈ fittingOf l w k → c ∈ membersBy l v b k)) (sym (back k h))
@@ -170,11 +169,8 @@ module _ (l : Layout) (w idents forwards backs : List ℕ) (loaded : Loaded l w 
 
     -- .. or none, if nobody is left over
     pub recover-mends : (m .carried && eqb (m .members) (length (used (columns idents idents idents) (firstNode l) (l .nodes)))) ≡ true
-        → recoverOf l w ≡ stores (writesIn (m .rows))
-    recover-mends e =
-        stores-told
-        ∙ ap (λ (ps : List Write). stores (writesIn (m .rows) ++ ps)) (nothing-left l w fitted carried number)
-        ∙ ap stores (append-nil (writesIn (m .rows)))
+        → recoverOf l w ≡ stores (writesIn (m .rows) ++ [])
+    recover-mends e = stores-told ∙ ap (λ (ps : List Write). stores (writesIn (m .rows) ++ ps)) (nothing-left l w fitted carried number)
       where
         both : (m .carried ≡ true) × (eqb (m .members) (length (used (columns idents idents idents) (firstNode l) (l .nodes))) ≡ true)
         both = and-eq-true-iff _ _ .0 e
@@ -192,10 +188,3 @@ module _ (l : Layout) (w idents forwards backs : List ℕ) (loaded : Loaded l w 
             ∙ sym (told-words .members z)
             ∙ eqb-true _ _ (both .1)
             ∙ ap length (used-same (columns idents idents idents) v (firstNode l) (l .nodes) idents-same)
-
--- a column with members erased has its length
-pub length-from : (l : Layout) (v : View) (back : ℕ → Bool) (k n : ℕ) (xs : List ℕ) → length (erasedFrom l v back k n xs) ≡ length xs
-unfolding erasedFrom
-length-from l v back k zero xs = refl
-length-from l v back k (suc n) xs =
-    length-from l v back (suc k) n (erased (membersBy l v (back k) k) xs) ∙ length-erased (membersBy l v (back k) k) xs

@@ -4,11 +4,11 @@ use mathlib.Core.Path.{_≡_}
 use mathlib.Core.List.{List, [], _∷_, _++_}
 use mathlib.Core.Bool.{Bool, true, false, cond}
 use lib.Dec.{eqb}
-use lib.ListN.{length, getD, set, take}
+use lib.ListN.{getD, set, take}
 use Rattle.sequences.specs.Sequence.{All}
-use Rattle.stores.specs.Stores.{Write, write, writesOf, Held, Plan, refuse, stores}
+use Rattle.stores.specs.Stores.{Write, write, writesIn, Held, Plan, refuse, stores}
 use Rattle.layout.specs.declared.Layout.{Layout}
-use Rattle.layout.specs.Words.{identAt, cellCount, sizeOf}
+use Rattle.layout.specs.Words.{firstNode, identAt, sizeOf}
 use Rattle.lists.specs.Decide.{View, countIn}
 use Rattle.survey.specs.Survey.{Loaded}
 use Rattle.fitting.specs.declared.Faults.{Faults}
@@ -48,21 +48,14 @@ clearsIn l idents a zero = []
 clearsIn l idents a (suc n) =
     cond (eqb (getD idents a 0) 0) (clearsIn l idents (suc a) n) (write (identAt l a) 0 ∷ clearsIn l idents (suc a) n)
 
--- the first n stores of two columns, addresses and values
-abbrev pub listed : ℕ → List ℕ → List ℕ → List Write
-listed n at values = writesOf (take n at) (take n values)
+-- the clears of the nodes that have an entry
+abbrev pub clears : Layout → List ℕ → List Write
+clears l idents = clearsIn l idents (firstNode l) (l .nodes)
 
--- n stores are listed in two columns, those of ps, and go to words of the store
-pub record Listed (l : Layout) (at values : List ℕ) (n : ℕ) (ps : List Write) : Type 0 where
-  pub addresses : length at ≡ cellCount l
-  pub contents : length values ≡ cellCount l
-  pub few : n ≤ cellCount l
-  pub same : listed n at values ≡ ps
-  pub inside : All (λ (p : Write). p .at < sizeOf l) ps
-
--- what recovery comes to, with its stores in two columns
-abbrev pub planOf : Finding → List ℕ → List ℕ → Plan
-planOf f at values = cond (eqb (f .refusal) 0) (stores (listed (f .stores) at values)) (refuse (f .refusal))
+-- what recovery comes to: the mends, and then the clears if a node may be left over
+abbrev pub planOf : Layout → Finding → List ℕ → Plan
+planOf l f idents =
+    cond (eqb (f .refusal) 0) (stores (writesIn (f .mends) ++ cond (f .left) (clears l idents) [])) (refuse (f .refusal))
 
 -- the columns and the counts tell the words
 pub record Told (l : Layout) (w idents forwards backs counts : List ℕ) : Type 0 where
@@ -75,11 +68,11 @@ pub record IsMend (l : Layout) (f : Faults) (m : Mend) : Type 0 where
   pub same : take (m .number) (write (m .at) (m .value) ∷ []) ≡ mendOf l f
   pub inside : All (λ (p : Write). p .at < sizeOf l) (mendOf l f)
 
--- what is found of all lists; all but the refusal counts only where no list is refused
+-- what is found of all lists; all but the refusal and that the rows hold stores counts only where no list is refused
 pub record MendsOf (l : Layout) (v : View) (count : ℕ → ℕ) (m : Mends) : Type 0 where
   pub refusal : m .refusal ≡ refusalIn l v count 0 (l .lists)
   pub members : m .refusal ≡ 0 → m .members ≡ total (λ k. lengthBy (faultIn (fitIn l v k (count k))) (count k)) (l .lists)
   pub carried : m .refusal ≡ 0 → m .carried ≡ true → (k : ℕ) → k < l .lists → carries (v .ident) (faultIn (fitIn l v k (count k))) ≡ true
-  pub rows : m .refusal ≡ 0 → Held (sizeOf l) (m .rows) (mendsIn l v count 0 (l .lists))
-  pub few : m .refusal ≡ 0 → m .rows .len ≤ l .lists
+  pub rows : m .refusal ≡ 0 → writesIn (m .rows) ≡ mendsIn l v count 0 (l .lists)
+  pub held : Held (sizeOf l) (m .rows) (writesIn (m .rows))
   pub back : m .refusal ≡ 0 → (k : ℕ) → k < l .lists → getD (m .back) k false ≡ isBackward (fitIn l v k (count k))

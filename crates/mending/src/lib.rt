@@ -1,11 +1,12 @@
 // Recovery by correction. If exactly one sequence fits each list, its wrong word is to be stored, list 0 first, and then 0 to each
-// identifier of a node in no list. These stores are listed before the first is made.
+// identifier of a node in no list. All is decided here, before the first store: the mends are in short rows, and the nodes to be
+// cleared are those that still have an entry in the column of identifiers.
 use fitting::Faults;
 use layout::Layout;
 use stores::Rows;
 ghost use mathlib.Core.Path.{_≡_};
-ghost use Prim.Native.Nat.{ℕ, _+_, _<_, _≤_};
-ghost use mathlib.Core.List.{List, _++_};
+ghost use Prim.Native.Nat.{ℕ, _<_};
+ghost use mathlib.Core.List.{List};
 ghost use mathlib.Core.Bool.{false, _&&_};
 ghost use lib.Dec.{eqb};
 ghost use lib.ListN.{length, getD};
@@ -15,7 +16,7 @@ ghost use Rattle.lists.specs.Decide.{used};
 ghost use Rattle.survey.specs.Survey.{columns, Columns};
 ghost use Rattle.recovery.specs.Plan.{recoverOf};
 ghost use Rattle.fitting.specs.Fitting.{FaultFits, walked};
-ghost use Rattle.mending.specs.Mending.{IsMend, MendsOf, erased, erasedFrom, clearsIn, listed, Listed, Told, planOf};
+ghost use Rattle.mending.specs.Mending.{IsMend, MendsOf, erased, erasedFrom, Told, planOf};
 
 // A store, where the number is 1; none, where it is 0.
 pub struct Mend {
@@ -34,10 +35,12 @@ pub struct Mends {
     pub rows: Rows,
 }
 
-// What recovery comes to: the number of the refusal, 0 for none, and the number of stores.
+// What recovery comes to: the number of the refusal, 0 for none; the mends; and whether a node may be left over, in no list but with
+// an identifier.
 pub struct Finding {
     pub refusal: u16,
-    pub stores: usize,
+    pub mends: Rows,
+    pub left: bool,
 }
 
 // The store that mends a fault.
@@ -153,41 +156,6 @@ fn erase_all(
     }
 }
 
-// Lists the stores of the rows in two columns, addresses and values.
-fn list_mends(rows: Rows, l: Layout, at: &mut [u16], values: &mut [u16])
-    requires { ⌜ Held (sizeOf l) rows (writesIn rows) × (rows .len ≤ cellCount l) × (length (now at) ≡ cellCount l) × (length (now values) ≡ cellCount l) ⌝ }
-    ensures { λ _. ⌜ Listed l (now (at .exit)) (now (values .exit)) (rows .len) (writesIn rows) ⌝ }
-{
-    let n = rows.len;
-    let from = rows.at;
-    let with = rows.values;
-    let mut i: usize = 0;
-    while i < n {
-        at[i] = from[i];
-        values[i] = with[i];
-        i += 1;
-    }
-}
-
-// Lists, behind the first n stores, a store of 0 to the identifier of each node whose entry is not 0, lowest cell first.
-fn list_clears(idents: &[u16], l: Layout, at: &mut [u16], values: &mut [u16], n: usize) -> usize
-    requires { ⌜ InRange l × (length (now idents) ≡ cellCount l) × (n ≤ l .lists) × Listed l (now at) (now values) n (listed n (now at) (now values)) ⌝ }
-    ensures { λ r. ⌜ Listed l (now (at .exit)) (now (values .exit)) r (listed n (now (at .entry)) (now (values .entry)) ++ clearsIn l (now (idents .entry)) (firstNode l) (l .nodes)) ⌝ }
-{
-    let mut n = n;
-    let mut i = l.first_node();
-    let end = l.cell_count();
-    while i < end {
-        if idents[i as usize] != 0 {
-            at[n] = l.cell(i) as u16;
-            values[n] = 0;
-            n += 1;
-        }
-        i += 1;
-    }
-    n
-}
-
 // Is every node with an identifier a member? It is if the members all carry one and are as many as the nodes that do.
 fn none_left(idents: &[u16], l: Layout, members: u32, carried: bool) -> bool
     requires { ⌜ InRange l × (length (now idents) ≡ cellCount l) ⌝ }
@@ -196,40 +164,40 @@ fn none_left(idents: &[u16], l: Layout, members: u32, carried: bool) -> bool
     carried && members == survey::used_nodes(idents, l) as u32
 }
 
-// Decides recovery by the columns and the counts. The stores are listed in the columns of links: addresses in the forward one, values
-// in the back one. The members are told from the other nodes only if one of those carries an identifier.
+// Decides recovery by the columns and the counts. The members are told from the other nodes only if one of those carries an
+// identifier; then the column of identifiers has 0 at every member.
 pub fn plan(
     idents: &mut [u16],
-    forwards: &mut [u16],
-    backs: &mut [u16],
+    forwards: &[u16],
+    backs: &[u16],
     counts: [u16; Layout::MAX_LISTS],
     l: Layout,
 ) -> Finding
     requires { ⌜ Columns l (now idents) (now forwards) (now backs) ⌝ }
-    ensures { λ r. ⌜ ((w : List ℕ) → Told l w (now (idents .entry)) (now (forwards .entry)) (now (backs .entry)) counts → recoverOf l w ≡ planOf r (now (forwards .exit)) (now (backs .exit))) ⌝ }
-    ensures rows { λ r. ⌜ Listed l (now (forwards .exit)) (now (backs .exit)) (r .stores) (listed (r .stores) (now (forwards .exit)) (now (backs .exit))) ⌝ }
+    ensures plan { λ r. ⌜ ((w : List ℕ) → Told l w (now (idents .entry)) (now (forwards .entry)) (now (backs .entry)) counts → recoverOf l w ≡ planOf l r (now (idents .exit))) ⌝ }
+    ensures mends { λ r. ⌜ Held (sizeOf l) (r .mends) (writesIn (r .mends)) ⌝ }
 {
     let m = all_mends(idents, forwards, backs, counts, l);
+    let mends = m.rows;
     if m.refusal != 0 {
         return Finding {
             refusal: m.refusal,
-            stores: 0,
+            mends,
+            left: false,
         };
     }
-    let rows = m.rows;
-    let n = rows.len;
     if none_left(idents, l, m.members, m.carried) {
-        list_mends(rows, l, forwards, backs);
         return Finding {
             refusal: 0,
-            stores: n,
+            mends,
+            left: false,
         };
     }
     let back = m.back;
     erase_all(idents, forwards, backs, back, l);
-    list_mends(rows, l, forwards, backs);
     Finding {
         refusal: 0,
-        stores: list_clears(idents, l, forwards, backs, n),
+        mends,
+        left: true,
     }
 }

@@ -75,6 +75,13 @@ done-whole ps m n q = by (ltb m (length ps)) refl
     by false e =
         let h = ltb-false m (length ps) e in (h, ap answerStores (sym q ∙ sym (answer-done ps m h)))
 
+pub undone-short : (ps : List Write) (m : ℕ) → ((n : ℕ) → answerOf (stores ps) m ≡ A.Done n → ⊥) → m < length ps
+undone-short ps m q = by (ltb m (length ps)) refl
+  where
+    by : (b : Bool) → ltb m (length ps) ≡ b → m < length ps
+    by true e = ltb-true m (length ps) e
+    by false e = absurd (q (length ps) (sym (answer-done ps m (ltb-false m (length ps) e))))
+
 -- three segments and more
 pub more-more : (a b : ℕ) (r : Answer) → more a (more b r) ≡ more (a + b) r
 more-more a b (A.Done n) = ap A.Done (sym (add-assoc a b n))

@@ -1,33 +1,57 @@
-// Recovery of a store in words: its cells are read into columns, and the stores that these tell are made.
+// Recovery of a store in words: its cells are read into columns, and the stores that these tell are made, the mends from their rows
+// and the clears from the column of identifiers.
 use layout::Layout;
 use mending::Finding;
 use stores::Answer;
 ghost use mathlib.Core.Path.{_≡_};
 ghost use lib.ListN.{length};
-ghost use Rattle.stores.specs.Stores.{answerOf, wordsAfter};
-ghost use Rattle.layout.specs.Words.{Laid, InRange, sizeOf};
+ghost use Rattle.stores.specs.Stores.{stores, answerOf, applied, wordsAfter, writesIn, Held};
+ghost use Rattle.layout.specs.Words.{Laid, cellCount, sizeOf};
 ghost use Rattle.survey.specs.Survey.{Columns};
 ghost use Rattle.recovery.specs.Plan.{recoverOf};
-ghost use Rattle.mending.specs.Mending.{listed, Listed, planOf};
+ghost use Rattle.mending.specs.Mending.{clears, planOf};
 
-// Makes the stores that were found, up to the allowance.
-fn make(
-    words: &mut [u16],
-    f: Finding,
-    l: Layout,
-    at: &[u16],
-    values: &[u16],
-    allowance: u16,
-) -> Answer
-    requires { ⌜ InRange l × (length (now words) ≡ sizeOf l) × Listed l (now at) (now values) (f .stores) (listed (f .stores) (now at) (now values)) ⌝ }
-    ensures answer { λ r. ⌜ r ≡ answerOf (planOf f (now (at .entry)) (now (values .entry))) allowance ⌝ }
-    ensures words { λ _. ⌜ now (words .exit) ≡ wordsAfter (planOf f (now (at .entry)) (now (values .entry))) allowance (now (words .entry)) ⌝ }
+// Stores 0 to the identifier of each node that has an entry, lowest cell first, up to the allowance.
+fn clear(words: &mut [u16], idents: &[u16], l: Layout, allowance: u16) -> Answer
+    requires { ⌜ Laid l (now words) × (length (now idents) ≡ cellCount l) ⌝ }
+    ensures answer { λ r. ⌜ r ≡ answerOf (stores (clears l (now (idents .entry)))) allowance ⌝ }
+    ensures words { λ _. ⌜ now (words .exit) ≡ applied (clears l (now (idents .entry))) allowance (now (words .entry)) ⌝ }
+{
+    let mut n: u16 = 0;
+    let mut i = l.first_node();
+    let end = l.cell_count();
+    while i < end {
+        if idents[i as usize] != 0 {
+            if n == allowance {
+                return Answer::Stopped(n);
+            }
+            words[l.node(i)] = 0;
+            n += 1;
+        }
+        i += 1;
+    }
+    Answer::Done(n)
+}
+
+// Makes the stores that were found, the mends and then the clears, up to the allowance.
+fn make(words: &mut [u16], f: Finding, idents: &[u16], l: Layout, allowance: u16) -> Answer
+    requires { ⌜ Laid l (now words) × (length (now idents) ≡ cellCount l) × Held (sizeOf l) (f .mends) (writesIn (f .mends)) ⌝ }
+    ensures answer { λ r. ⌜ r ≡ answerOf (planOf l f (now (idents .entry))) allowance ⌝ }
+    ensures words { λ _. ⌜ now (words .exit) ≡ wordsAfter (planOf l f (now (idents .entry))) allowance (now (words .entry)) ⌝ }
 {
     if f.refusal != 0 {
         return Answer::Refused(f.refusal);
     }
-    let n = f.stores;
-    stores::run(words, &at[..n], &values[..n], allowance)
+    let Answer::Done(n) = stores::run_rows(words, f.mends, allowance) else {
+        return Answer::Stopped(allowance);
+    };
+    if !f.left {
+        return Answer::Done(n);
+    }
+    let Answer::Done(m) = clear(words, idents, l, allowance - n) else {
+        return Answer::Stopped(allowance);
+    };
+    Answer::Done(n + m)
 }
 
 // Recovers a store of this layout, with the columns to read its cells into.
@@ -46,7 +70,7 @@ fn recover_with(
     survey::load(words, l, idents, forwards, backs);
     let counts = survey::all_counts(words, l);
     let f = mending::plan(idents, forwards, backs, counts, l);
-    make(words, f, l, forwards, backs, allowance)
+    make(words, f, idents, l, allowance)
 }
 
 // Recovers a store of this layout.

@@ -6,6 +6,16 @@ use borrow.Author.Needs.{needs}
 use Rattle.byte_mending.proofs.recover_with.Statement.{statement}
 use Rattle.byte_mending.proofs.recover_with.Tie as tie
 
+-- the start, and the columns and the counts as they were read, by the place where recovery is decided
+abbrev counted : tie.After-plan → tie.After-all-counts
+counted c = c .before .before .before .before
+
+abbrev loaded : tie.After-plan → tie.After-load
+loaded c = counted c .before .before .before .before .before .before .before .before
+
+abbrev start : tie.After-plan → tie.Start
+start c = loaded c .before .before .before .before .before .before .before .before .before
+
 load-requires : tie.Need-load-requires
 load-requires c κs = search needs
 
@@ -16,7 +26,10 @@ plan-requires : tie.Need-plan-requires
 plan-requires c κs = search needs
 
 make-requires : tie.Need-make-requires
-make-requires c κs = search needs
+make-requires c κs =
+    let x = c .before .before .before .before in
+    let s = start x in
+    (s .pre .0, x .plan .kept .0 ∙ loaded x .load .kept .1 .1 .0 ∙ s .pre .1 .idents, x .plan .ensures .1)
 
 same-length : tie.Need-same-length
 same-length c = search needs
@@ -32,11 +45,12 @@ same-length-4 c = search needs
 
 returns : tie.Need-returns
 returns c =
-    let a = c .before .before .before .before .before .before .before .before .before .before .before .before .before .before .before .before .before .before .before .before .before .before .before .before .before .before .before .before .before .before .before .before .before .args in
-    let e = c .before .before .before .before .before .before .before .before .before .before .before .before .plan .ensures .0 (wordsIn (a .bytes .now)) (record { loaded = c .before .before .before .before .before .before .before .before .before .before .before .before .before .before .before .before .before .before .before .before .before .before .before .before .load .ensures; counted = c .before .before .before .before .before .before .before .before .before .before .before .before .before .before .before .before .all-counts .ensures .1 }) in
-    let r = c .before .before .make .ensures in (
-      r .0 ∙ ap (λ (p : Plan). answerOf p (a .allowance)) (sym e),
-      r .1 ∙ ap (λ (p : Plan). bytesAfter p (a .allowance) (a .bytes .now)) (sym e),
+    let m = c .before .before in
+    let x = m .before .before .before .before .before in
+    let a = start x .args in
+    let e = x .plan .ensures .0 (wordsIn (a .bytes .now)) (record { loaded = loaded x .load .ensures; counted = counted x .all-counts .ensures .1 }) in (
+      m .make .ensures .0 ∙ ap (λ (p : Plan). answerOf p (a .allowance)) (sym e),
+      m .make .ensures .1 ∙ ap (λ (p : Plan). bytesAfter p (a .allowance) (a .bytes .now)) (sym e),
     )
 
 pub recover-with-spec : {M : Type 1} → statement M
