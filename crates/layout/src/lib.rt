@@ -152,7 +152,7 @@ impl Layout {
     }
 
     // The words of a node.
-    fn node_words(self) -> usize
+    pub fn node_words(self) -> usize
         ensures { λ r. ⌜ r ≡ nodeWords self ⌝ }
     {
         Layout::LINK_WORDS + self.width as usize + self.check_words()

@@ -14,8 +14,9 @@ use Rattle.layout.specs.declared.Layout.{Layout}
 use Rattle.layout.specs.declared.Opened.the-variants as O
 use Rattle.layout.specs.Words.{mostWidth, ask, InRange, firstNode, isNode, recordAt, opened}
 use Rattle.lists.specs.Decide.{View, viewOf, countIn, sequenceIn, soundIn, allHold, members, used, soundOf}
+use Rattle.lists.proofs.Stepwise.{members-more, used-length}
 use Rattle.survey.specs.Survey.{columns, Loaded}
-use Rattle.survey.proofs.Laws.{loaded-view, sound-loaded, before-cell, members-more, used-length}
+use Rattle.survey.proofs.Laws.{loaded-view, sound-loaded, before-cell}
 use Rattle.requests.specs.Requests.{siteIn, lookOf}
 use Rattle.edits.specs.Edited.{recordIn}
 use Rattle.byte_form.specs.Bytes.{wordsIn}

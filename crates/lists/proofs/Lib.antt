@@ -3,3 +3,4 @@ pub mod Unique
 pub mod Decided
 pub mod Empty
 pub mod Same
+pub mod Stepwise

@@ -15,8 +15,9 @@ use Rattle.layout.specs.declared.Layout.{Layout}
 use Rattle.layout.specs.Words.{firstNode}
 use Rattle.lists.specs.Lists.{asked}
 use Rattle.lists.specs.Decide.{View, viewOf, countIn, used}
+use Rattle.lists.proofs.Stepwise.{used-same}
 use Rattle.survey.specs.Survey.{columns, Loaded}
-use Rattle.survey.proofs.Laws.{loaded-view, used-same}
+use Rattle.survey.proofs.Laws.{loaded-view}
 use Rattle.recovery.specs.Fits.{wrong}
 use Rattle.recovery.specs.Plan.{joined, listsAsked, clearsAsked, fittingOf, refusalFrom, recoverOf}
 use Rattle.recovery.proofs.Required.{wrong-append}

@@ -16,8 +16,9 @@ use Rattle.layout.specs.Words.{firstNode, cellCount, Node, isNode, InRange, Lai
 use Rattle.layout.proofs.Laws.{opened-open, is-node}
 use Rattle.lists.specs.Decide.{View, viewOf, countIn, sequenceIn, soundIn}
 use Rattle.lists.proofs.Agree.{holds-true}
+use Rattle.lists.proofs.Stepwise.{sound-hold, sound-count, sound-same}
 use Rattle.survey.specs.Survey.{columns, Columns, Loaded}
-use Rattle.survey.proofs.Laws.{before-next, before-cell, sound-hold, sound-count, sound-same, loaded-view}
+use Rattle.survey.proofs.Laws.{before-next, before-cell, loaded-view}
 use Rattle.requests.specs.declared.Free.the-variants.{Cell, Full}
 use Rattle.requests.specs.declared.Site.{Site}
 use Rattle.requests.specs.declared.Request.{Request}

@@ -7,10 +7,10 @@ use lib.ListN.{length, getD}
 use Rattle.layout.specs.declared.Layout.{Layout}
 use Rattle.layout.specs.Words.{mostNodes, firstNode}
 use Rattle.lists.specs.Decide.{View, allHold, members}
+use Rattle.lists.proofs.Stepwise.{used-same, all-hold-none, all-hold-more, members-none, members-more, sound-by, sound-not}
 use Rattle.survey.specs.declared.Round.the-variants.{Members, Broken}
 use Rattle.survey.specs.Survey.{columns, Columns, ringIn}
-use Rattle.survey.proofs.Laws.{ring-holds, ring-length, ring-few, ring-miscount, ring-not, used-same}
-use Rattle.survey.proofs.Laws.{all-hold-none, all-hold-more, members-none, members-more, sound-by, sound-not}
+use Rattle.survey.proofs.Laws.{ring-holds, ring-length, ring-few, ring-miscount, ring-not}
 use Rattle.survey.proofs.sound.Statement.{statement}
 use Rattle.survey.proofs.sound.Tie as tie
 

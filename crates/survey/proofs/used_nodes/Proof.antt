@@ -6,8 +6,8 @@ use native.Mathlib.Omega.{arith}
 use lib.ListN.{length}
 use Rattle.layout.specs.Words.{firstNode}
 use Rattle.lists.specs.Decide.{used}
+use Rattle.lists.proofs.Stepwise.{used-one, used-skip, used-none, used-length}
 use Rattle.survey.specs.Survey.{columns}
-use Rattle.survey.proofs.Laws.{used-one, used-skip, used-none, used-length}
 use Rattle.survey.proofs.used_nodes.Statement.{statement}
 use Rattle.survey.proofs.used_nodes.Tie as tie
 

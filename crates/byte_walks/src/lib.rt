@@ -1,0 +1,231 @@
+// The lists of a store, decided in the lent bytes as they are in lent words: a cell's words are read from its bytes, and all else
+// is the same.
+use layout::Layout;
+use spans::Cell;
+use spans::Grid;
+use spans::Round;
+use spans::Span;
+ghost use mathlib.Core.Path.{_≡_};
+ghost use Prim.Native.Nat.{_+_, _≤_, _<_};
+ghost use mathlib.Core.Bool.{cond};
+ghost use lib.Dec.{eqb};
+ghost use lib.ListN.{length, getD};
+ghost use Rattle.byte_form.specs.Bytes.{wordsIn};
+ghost use Rattle.layout.specs.Words.{Laid, Node, firstNode, linkWords, identOf};
+ghost use Rattle.lists.specs.Decide.{viewOf, countIn, used, soundOf};
+ghost use Rattle.spans.specs.Spans.{Gridded, Decides, Held, countSum, cellOf, cellIn, wholeSpan, Spanned, Led, rounded};
+
+// The cell that the word at a names.
+fn link(bytes: &[u8], a: usize) -> usize
+    requires { ⌜ a < length (wordsIn (now bytes)) ⌝ }
+    ensures { λ r. ⌜ r ≡ getD (wordsIn (now (bytes .entry))) a 0 ⌝ }
+{
+    byte_form::word(bytes, a) as usize
+}
+
+// The cell whose words begin at a.
+fn cell_at(bytes: &[u8], a: usize) -> Cell
+    requires { ⌜ a + linkWords ≤ length (wordsIn (now bytes)) ⌝ }
+    ensures { λ r. ⌜ r ≡ cellOf (wordsIn (now (bytes .entry))) a ⌝ }
+{
+    Cell {
+        ident: byte_form::word(bytes, a),
+        forward: link(bytes, a + Layout::FORWARD),
+        back: link(bytes, a + Layout::BACK),
+    }
+}
+
+// Node y.
+pub fn node(bytes: &[u8], l: Layout, g: Grid, y: usize) -> Cell
+    requires { ⌜ Gridded l g × Laid l (wordsIn (now bytes)) × Node l y ⌝ }
+    ensures { λ r. ⌜ r ≡ cellIn (viewOf l (wordsIn (now (bytes .entry)))) y ⌝ }
+{
+    cell_at(bytes, g.place(l, y))
+}
+
+// The header of list k.
+pub fn header(bytes: &[u8], l: Layout, k: u16) -> Cell
+    requires { ⌜ Laid l (wordsIn (now bytes)) × (k < l .lists) ⌝ }
+    ensures { λ r. ⌜ r ≡ cellIn (viewOf l (wordsIn (now (bytes .entry)))) k ⌝ }
+{
+    cell_at(bytes, l.header(k))
+}
+
+// The count of list k.
+pub fn count(bytes: &[u8], l: Layout, k: u16) -> u16
+    requires { ⌜ Laid l (wordsIn (now bytes)) × (k < l .lists) ⌝ }
+    ensures { λ r. ⌜ r ≡ countIn l (wordsIn (now (bytes .entry))) k ⌝ }
+{
+    byte_form::word(bytes, l.header(k) + Layout::COUNT)
+}
+
+// The whole of list k.
+pub fn whole(bytes: &[u8], l: Layout, k: u16) -> Span
+    requires { ⌜ Laid l (wordsIn (now bytes)) × (k < l .lists) ⌝ }
+    ensures { λ r. ⌜ r ≡ wholeSpan k (countIn l (wordsIn (now (bytes .entry))) k) (cellIn (viewOf l (wordsIn (now (bytes .entry)))) k) ⌝ }
+{
+    Span::whole(k, count(bytes, l, k), header(bytes, l, k))
+}
+
+// One round of the walks through list k.
+fn round(bytes: &[u8], l: Layout, g: Grid, k: u16, s: Span) -> Round
+    requires { ⌜ Gridded l g × Laid l (wordsIn (now bytes)) × (k < l .lists) × (1 < s .count) ⌝ }
+    ensures { λ r. ⌜ rounded l (viewOf l (wordsIn (now (bytes .entry)))) k s r ⌝ }
+{
+    if !g.is_node(l, s.first) {
+        return Round::Broken;
+    }
+    if !g.is_node(l, s.last) {
+        return Round::Broken;
+    }
+    s.round(k, node(bytes, l, g, s.first), node(bytes, l, g, s.last))
+}
+
+// The middle of a list: no cell is left, or one.
+fn middle(bytes: &[u8], l: Layout, g: Grid, k: u16, s: Span) -> bool
+    requires { ⌜ Gridded l g × Laid l (wordsIn (now bytes)) × (k < l .lists) × (s .count < 2) × Led (viewOf l (wordsIn (now bytes))) s ⌝ }
+    ensures { λ r. ⌜ Decides r (Spanned l (viewOf l (wordsIn (now (bytes .entry)))) k s) ⌝ }
+{
+    if s.count == 0 {
+        return s.is_closed();
+    }
+    if !g.is_node(l, s.first) {
+        return false;
+    }
+    s.is_single(k, node(bytes, l, g, s.first))
+}
+
+// Round after round: do the cells of the span lie between its ends?
+fn spanned(bytes: &[u8], l: Layout, g: Grid, k: u16, s: Span) -> bool
+    requires { ⌜ Gridded l g × Laid l (wordsIn (now bytes)) × (k < l .lists) × Led (viewOf l (wordsIn (now bytes))) s ⌝ }
+    ensures { λ r. ⌜ Decides r (Spanned l (viewOf l (wordsIn (now (bytes .entry)))) k s) ⌝ }
+{
+    let mut s = s;
+    while 1 < s.count {
+        let Round::Inner(t) = round(bytes, l, g, k, s) else {
+            return false;
+        };
+        s = t;
+    }
+    middle(bytes, l, g, k, s)
+}
+
+// The same of a span of list k and one of list j, in one loop as long as both have two cells; then each alone.
+fn both_spanned(bytes: &[u8], l: Layout, g: Grid, k: u16, s: Span, j: u16, t: Span) -> bool
+    requires { ⌜ Gridded l g × Laid l (wordsIn (now bytes)) × (k < l .lists) × (j < l .lists) × Led (viewOf l (wordsIn (now bytes))) s × Led (viewOf l (wordsIn (now bytes))) t ⌝ }
+    ensures { λ r. ⌜ Decides r (Spanned l (viewOf l (wordsIn (now (bytes .entry)))) k s × Spanned l (viewOf l (wordsIn (now (bytes .entry)))) j t) ⌝ }
+{
+    let mut s = s;
+    let mut t = t;
+    let mut both = if s.count < t.count { s.count } else { t.count };
+    while 1 < both {
+        let Round::Inner(a) = round(bytes, l, g, k, s) else {
+            return false;
+        };
+        let Round::Inner(b) = round(bytes, l, g, j, t) else {
+            return false;
+        };
+        s = a;
+        t = b;
+        both -= 2;
+    }
+    if !spanned(bytes, l, g, k, s) {
+        return false;
+    }
+    spanned(bytes, l, g, j, t)
+}
+
+// Has the header of list k the list's identifier?
+fn headed(bytes: &[u8], l: Layout, k: u16) -> bool
+    requires { ⌜ Laid l (wordsIn (now bytes)) × (k < l .lists) ⌝ }
+    ensures { λ r. ⌜ Decides r (viewOf l (wordsIn (now (bytes .entry))) .ident k ≡ identOf k) ⌝ }
+{
+    header(bytes, l, k).ident == Layout::ident(k)
+}
+
+// Does list k hold?
+fn one_holds(bytes: &[u8], l: Layout, g: Grid, k: u16) -> bool
+    requires { ⌜ Gridded l g × Laid l (wordsIn (now bytes)) × (k < l .lists) ⌝ }
+    ensures { λ r. ⌜ Decides r (Held l (viewOf l (wordsIn (now (bytes .entry)))) (countIn l (wordsIn (now (bytes .entry)))) k) ⌝ }
+{
+    if !headed(bytes, l, k) {
+        return false;
+    }
+    spanned(bytes, l, g, k, whole(bytes, l, k))
+}
+
+// Do lists k and k + 1 hold?
+fn two_hold(bytes: &[u8], l: Layout, g: Grid, k: u16) -> bool
+    requires { ⌜ Gridded l g × Laid l (wordsIn (now bytes)) × (k + 1 < l .lists) ⌝ }
+    ensures { λ r. ⌜ Decides r (Held l (viewOf l (wordsIn (now (bytes .entry)))) (countIn l (wordsIn (now (bytes .entry)))) k × Held l (viewOf l (wordsIn (now (bytes .entry)))) (countIn l (wordsIn (now (bytes .entry)))) (k + 1)) ⌝ }
+{
+    if !headed(bytes, l, k) {
+        return false;
+    }
+    if !headed(bytes, l, k + 1) {
+        return false;
+    }
+    let s = whole(bytes, l, k);
+    let t = whole(bytes, l, k + 1);
+    both_spanned(bytes, l, g, k, s, k + 1, t)
+}
+
+// 1 where the word at a is not 0.
+fn one(bytes: &[u8], a: usize) -> u32
+    requires { ⌜ a < length (wordsIn (now bytes)) ⌝ }
+    ensures { λ r. ⌜ r ≡ cond (eqb (getD (wordsIn (now (bytes .entry))) a 0) 0) 0 1 ⌝ }
+{
+    if byte_form::word(bytes, a) != 0 { 1 } else { 0 }
+}
+
+// The number of nodes whose identifier is not 0.
+pub fn used_in(bytes: &[u8], l: Layout, g: Grid) -> u32
+    requires { ⌜ Gridded l g × Laid l (wordsIn (now bytes)) ⌝ }
+    ensures { λ r. ⌜ r ≡ length (used (viewOf l (wordsIn (now (bytes .entry)))) (firstNode l) (l .nodes)) ⌝ }
+{
+    let mut a = g.first;
+    let mut n: u32 = 0;
+    let mut i: u16 = 0;
+    while i < l.nodes {
+        n += one(bytes, a);
+        a += g.step;
+        i += 1;
+    }
+    n
+}
+
+// The sum of the counts, whatever they are.
+fn counted(bytes: &[u8], l: Layout) -> u32
+    requires { ⌜ Laid l (wordsIn (now bytes)) ⌝ }
+    ensures { λ r. ⌜ r ≡ countSum (countIn l (wordsIn (now (bytes .entry)))) (l .lists) ⌝ }
+{
+    let mut n: u32 = 0;
+    let mut k: u16 = 0;
+    while k < l.lists {
+        n += count(bytes, l, k) as u32;
+        k += 1;
+    }
+    n
+}
+
+// Are the lists sound?
+pub fn sound_in(bytes: &[u8], l: Layout) -> bool
+    requires { ⌜ Laid l (wordsIn (now bytes)) ⌝ }
+    ensures { λ r. ⌜ r ≡ soundOf l (wordsIn (now (bytes .entry))) ⌝ }
+{
+    let g = Grid::of(l);
+    if used_in(bytes, l, g) != counted(bytes, l) {
+        return false;
+    }
+    let mut k: u16 = 0;
+    while k + 1 < l.lists {
+        if !two_hold(bytes, l, g, k) {
+            return false;
+        }
+        k += 2;
+    }
+    if k == l.lists {
+        return true;
+    }
+    one_holds(bytes, l, g, k)
+}

@@ -1,0 +1,4 @@
+pub mod Decided
+pub mod Ends
+pub mod Places
+pub mod Counts

@@ -1,0 +1,144 @@
+// A list walked from both ends at once. What the two walks have yet to meet is a span: so many cells between two cells. A round
+// takes its first and its last cell away, if they are right; in the middle nothing is left, or one cell. What stands here is what
+// the walks in lent words and in lent bytes share: they differ only in how they read a cell.
+use layout::Layout;
+ghost use mathlib.Core.Path.{_≡_};
+ghost use Prim.Native.Nat.{_<_};
+ghost use Rattle.layout.specs.Words.{mostLists, InRange, Node, isNode, cellAt};
+ghost use Rattle.spans.specs.Spans.{Gridded, wholeSpan, narrowed, Closed, Single, Decides};
+
+// What the address of a node is computed from: node y begins at word first + step * y - low.
+pub struct Grid {
+    pub first: usize,
+    pub step: usize,
+    pub low: usize,
+    pub from: usize,
+    pub to: usize,
+}
+
+// The words of a cell that a walk compares and follows.
+pub struct Cell {
+    pub ident: u16,
+    pub forward: usize,
+    pub back: usize,
+}
+
+// So many cells between the cells `start` and `end`, of which start leads to the first, and end back to the last.
+pub struct Span {
+    pub count: u16,
+    pub start: usize,
+    pub first: usize,
+    pub last: usize,
+    pub end: usize,
+}
+
+// A round: the span without its first and its last cell, or one of them is wrong.
+pub enum Round {
+    Inner(Span),
+    Broken,
+}
+
+impl Grid {
+    pub fn of(l: Layout) -> Self
+        requires { ⌜ InRange l ⌝ }
+        ensures { λ r. ⌜ Gridded l r ⌝ }
+    {
+        let step = l.node_words();
+        let from = l.first_node() as usize;
+        Self {
+            first: l.nodes_at(),
+            step,
+            low: step * from,
+            from,
+            to: l.cell_count() as usize,
+        }
+    }
+
+    // Is cell y a node?
+    pub fn is_node(self, l: Layout, y: usize) -> bool
+        requires { ⌜ Gridded l self ⌝ }
+        ensures { λ r. ⌜ r ≡ isNode l y ⌝ }
+    {
+        if y < self.from {
+            return false;
+        }
+        y < self.to
+    }
+
+    // The first word of node y.
+    pub fn place(self, l: Layout, y: usize) -> usize
+        requires { ⌜ Gridded l self × InRange l × Node l y ⌝ }
+        ensures { λ r. ⌜ r ≡ cellAt l y ⌝ }
+    {
+        self.step * y + self.first - self.low
+    }
+}
+
+impl Span {
+    // The whole of list k, whose header is h and whose count is n: from the header round to the header.
+    pub fn whole(k: u16, n: u16, h: Cell) -> Self
+        ensures { λ r. ⌜ r ≡ wholeSpan k n h ⌝ }
+    {
+        Self {
+            count: n,
+            start: k as usize,
+            first: h.forward,
+            last: h.back,
+            end: k as usize,
+        }
+    }
+
+    // One round: the first cell is c and the last is d.
+    pub fn round(self, k: u16, c: Cell, d: Cell) -> Round
+        requires { ⌜ (k < mostLists) × (1 < self .count) ⌝ }
+        ensures { λ r. ⌜ narrowed self k c d r ⌝ }
+    {
+        let id = Layout::ident(k);
+        if c.ident != id {
+            return Round::Broken;
+        }
+        if c.back != self.start {
+            return Round::Broken;
+        }
+        if d.ident != id {
+            return Round::Broken;
+        }
+        if d.forward != self.end {
+            return Round::Broken;
+        }
+        Round::Inner(Self {
+            count: self.count - 2,
+            start: self.first,
+            first: c.forward,
+            last: d.back,
+            end: self.last,
+        })
+    }
+
+    // No cell is left: do the two ends lead to each other?
+    pub fn is_closed(self) -> bool
+        ensures { λ r. ⌜ Decides r (Closed self) ⌝ }
+    {
+        if self.first != self.end {
+            return false;
+        }
+        self.last == self.start
+    }
+
+    // One cell is left, m: do the two ends lead to it, and it to them?
+    pub fn is_single(self, k: u16, m: Cell) -> bool
+        requires { ⌜ k < mostLists ⌝ }
+        ensures { λ r. ⌜ Decides r (Single self k m) ⌝ }
+    {
+        if self.first != self.last {
+            return false;
+        }
+        if m.ident != Layout::ident(k) {
+            return false;
+        }
+        if m.back != self.start {
+            return false;
+        }
+        m.forward == self.end
+    }
+}

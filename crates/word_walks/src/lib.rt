@@ -1,0 +1,239 @@
+// The lists of a store, decided in the lent words. The nodes in use are counted in one pass, which fetches the words in order, and
+// compared with the sum of the counts. Then each list is walked from both ends at once, and two lists in one loop: four chains of
+// links, of which none waits for another.
+use layout::Layout;
+use spans::Cell;
+use spans::Grid;
+use spans::Round;
+use spans::Span;
+ghost use mathlib.Core.Path.{_≡_};
+ghost use Prim.Native.Nat.{_+_, _≤_, _<_};
+ghost use mathlib.Core.Bool.{cond};
+ghost use lib.Dec.{eqb};
+ghost use lib.ListN.{length, getD};
+ghost use Rattle.layout.specs.Words.{Laid, Node, firstNode, linkWords, identOf};
+ghost use Rattle.lists.specs.Decide.{viewOf, countIn, used, soundOf};
+ghost use Rattle.spans.specs.Spans.{Gridded, Decides, Held, countSum, cellOf, cellIn, wholeSpan, Spanned, Led, rounded};
+
+// The word at a.
+fn word(words: &[u16], a: usize) -> u16
+    requires { ⌜ a < length (now words) ⌝ }
+    ensures { λ r. ⌜ r ≡ getD (now (words .entry)) a 0 ⌝ }
+{
+    words[a]
+}
+
+// The cell that the word at a names.
+fn link(words: &[u16], a: usize) -> usize
+    requires { ⌜ a < length (now words) ⌝ }
+    ensures { λ r. ⌜ r ≡ getD (now (words .entry)) a 0 ⌝ }
+{
+    word(words, a) as usize
+}
+
+// The cell whose words begin at a.
+fn cell_at(words: &[u16], a: usize) -> Cell
+    requires { ⌜ a + linkWords ≤ length (now words) ⌝ }
+    ensures { λ r. ⌜ r ≡ cellOf (now (words .entry)) a ⌝ }
+{
+    Cell {
+        ident: word(words, a),
+        forward: link(words, a + Layout::FORWARD),
+        back: link(words, a + Layout::BACK),
+    }
+}
+
+// Node y.
+pub fn node(words: &[u16], l: Layout, g: Grid, y: usize) -> Cell
+    requires { ⌜ Gridded l g × Laid l (now words) × Node l y ⌝ }
+    ensures { λ r. ⌜ r ≡ cellIn (viewOf l (now (words .entry))) y ⌝ }
+{
+    cell_at(words, g.place(l, y))
+}
+
+// The header of list k.
+pub fn header(words: &[u16], l: Layout, k: u16) -> Cell
+    requires { ⌜ Laid l (now words) × (k < l .lists) ⌝ }
+    ensures { λ r. ⌜ r ≡ cellIn (viewOf l (now (words .entry))) k ⌝ }
+{
+    cell_at(words, l.header(k))
+}
+
+// The count of list k.
+pub fn count(words: &[u16], l: Layout, k: u16) -> u16
+    requires { ⌜ Laid l (now words) × (k < l .lists) ⌝ }
+    ensures { λ r. ⌜ r ≡ countIn l (now (words .entry)) k ⌝ }
+{
+    word(words, l.header(k) + Layout::COUNT)
+}
+
+// The whole of list k.
+pub fn whole(words: &[u16], l: Layout, k: u16) -> Span
+    requires { ⌜ Laid l (now words) × (k < l .lists) ⌝ }
+    ensures { λ r. ⌜ r ≡ wholeSpan k (countIn l (now (words .entry)) k) (cellIn (viewOf l (now (words .entry))) k) ⌝ }
+{
+    Span::whole(k, count(words, l, k), header(words, l, k))
+}
+
+// One round of the walks through list k.
+fn round(words: &[u16], l: Layout, g: Grid, k: u16, s: Span) -> Round
+    requires { ⌜ Gridded l g × Laid l (now words) × (k < l .lists) × (1 < s .count) ⌝ }
+    ensures { λ r. ⌜ rounded l (viewOf l (now (words .entry))) k s r ⌝ }
+{
+    if !g.is_node(l, s.first) {
+        return Round::Broken;
+    }
+    if !g.is_node(l, s.last) {
+        return Round::Broken;
+    }
+    s.round(k, node(words, l, g, s.first), node(words, l, g, s.last))
+}
+
+// The middle of a list: no cell is left, or one.
+fn middle(words: &[u16], l: Layout, g: Grid, k: u16, s: Span) -> bool
+    requires { ⌜ Gridded l g × Laid l (now words) × (k < l .lists) × (s .count < 2) × Led (viewOf l (now words)) s ⌝ }
+    ensures { λ r. ⌜ Decides r (Spanned l (viewOf l (now (words .entry))) k s) ⌝ }
+{
+    if s.count == 0 {
+        return s.is_closed();
+    }
+    if !g.is_node(l, s.first) {
+        return false;
+    }
+    s.is_single(k, node(words, l, g, s.first))
+}
+
+// Round after round: do the cells of the span lie between its ends?
+fn spanned(words: &[u16], l: Layout, g: Grid, k: u16, s: Span) -> bool
+    requires { ⌜ Gridded l g × Laid l (now words) × (k < l .lists) × Led (viewOf l (now words)) s ⌝ }
+    ensures { λ r. ⌜ Decides r (Spanned l (viewOf l (now (words .entry))) k s) ⌝ }
+{
+    let mut s = s;
+    while 1 < s.count {
+        let Round::Inner(t) = round(words, l, g, k, s) else {
+            return false;
+        };
+        s = t;
+    }
+    middle(words, l, g, k, s)
+}
+
+// The same of a span of list k and one of list j, in one loop as long as both have two cells; then each alone.
+fn both_spanned(words: &[u16], l: Layout, g: Grid, k: u16, s: Span, j: u16, t: Span) -> bool
+    requires { ⌜ Gridded l g × Laid l (now words) × (k < l .lists) × (j < l .lists) × Led (viewOf l (now words)) s × Led (viewOf l (now words)) t ⌝ }
+    ensures { λ r. ⌜ Decides r (Spanned l (viewOf l (now (words .entry))) k s × Spanned l (viewOf l (now (words .entry))) j t) ⌝ }
+{
+    let mut s = s;
+    let mut t = t;
+    let mut both = if s.count < t.count { s.count } else { t.count };
+    while 1 < both {
+        let Round::Inner(a) = round(words, l, g, k, s) else {
+            return false;
+        };
+        let Round::Inner(b) = round(words, l, g, j, t) else {
+            return false;
+        };
+        s = a;
+        t = b;
+        both -= 2;
+    }
+    if !spanned(words, l, g, k, s) {
+        return false;
+    }
+    spanned(words, l, g, j, t)
+}
+
+// Has the header of list k the list's identifier?
+fn headed(words: &[u16], l: Layout, k: u16) -> bool
+    requires { ⌜ Laid l (now words) × (k < l .lists) ⌝ }
+    ensures { λ r. ⌜ Decides r (viewOf l (now (words .entry)) .ident k ≡ identOf k) ⌝ }
+{
+    header(words, l, k).ident == Layout::ident(k)
+}
+
+// Does list k hold?
+fn one_holds(words: &[u16], l: Layout, g: Grid, k: u16) -> bool
+    requires { ⌜ Gridded l g × Laid l (now words) × (k < l .lists) ⌝ }
+    ensures { λ r. ⌜ Decides r (Held l (viewOf l (now (words .entry))) (countIn l (now (words .entry))) k) ⌝ }
+{
+    if !headed(words, l, k) {
+        return false;
+    }
+    spanned(words, l, g, k, whole(words, l, k))
+}
+
+// Do lists k and k + 1 hold?
+fn two_hold(words: &[u16], l: Layout, g: Grid, k: u16) -> bool
+    requires { ⌜ Gridded l g × Laid l (now words) × (k + 1 < l .lists) ⌝ }
+    ensures { λ r. ⌜ Decides r (Held l (viewOf l (now (words .entry))) (countIn l (now (words .entry))) k × Held l (viewOf l (now (words .entry))) (countIn l (now (words .entry))) (k + 1)) ⌝ }
+{
+    if !headed(words, l, k) {
+        return false;
+    }
+    if !headed(words, l, k + 1) {
+        return false;
+    }
+    let s = whole(words, l, k);
+    let t = whole(words, l, k + 1);
+    both_spanned(words, l, g, k, s, k + 1, t)
+}
+
+// 1 where the word at a is not 0.
+fn one(words: &[u16], a: usize) -> u32
+    requires { ⌜ a < length (now words) ⌝ }
+    ensures { λ r. ⌜ r ≡ cond (eqb (getD (now (words .entry)) a 0) 0) 0 1 ⌝ }
+{
+    if word(words, a) != 0 { 1 } else { 0 }
+}
+
+// The number of nodes whose identifier is not 0.
+pub fn used_in(words: &[u16], l: Layout, g: Grid) -> u32
+    requires { ⌜ Gridded l g × Laid l (now words) ⌝ }
+    ensures { λ r. ⌜ r ≡ length (used (viewOf l (now (words .entry))) (firstNode l) (l .nodes)) ⌝ }
+{
+    let mut a = g.first;
+    let mut n: u32 = 0;
+    let mut i: u16 = 0;
+    while i < l.nodes {
+        n += one(words, a);
+        a += g.step;
+        i += 1;
+    }
+    n
+}
+
+// The sum of the counts, whatever they are.
+fn counted(words: &[u16], l: Layout) -> u32
+    requires { ⌜ Laid l (now words) ⌝ }
+    ensures { λ r. ⌜ r ≡ countSum (countIn l (now (words .entry))) (l .lists) ⌝ }
+{
+    let mut n: u32 = 0;
+    let mut k: u16 = 0;
+    while k < l.lists {
+        n += count(words, l, k) as u32;
+        k += 1;
+    }
+    n
+}
+
+// Are the lists sound?
+pub fn sound_in(words: &[u16], l: Layout) -> bool
+    requires { ⌜ Laid l (now words) ⌝ }
+    ensures { λ r. ⌜ r ≡ soundOf l (now (words .entry)) ⌝ }
+{
+    let g = Grid::of(l);
+    if used_in(words, l, g) != counted(words, l) {
+        return false;
+    }
+    let mut k: u16 = 0;
+    while k + 1 < l.lists {
+        if !two_hold(words, l, g, k) {
+            return false;
+        }
+        k += 2;
+    }
+    if k == l.lists {
+        return true;
+    }
+    one_holds(words, l, g, k)
+}
