@@ -15,13 +15,18 @@ ghost use Rattle.recovery.specs.Plan.{recoverPlan};
 ghost use Rattle.axle_store.specs.Calls.{insertPlan, deletePlan};
 ghost use Rattle.axle.specs.Interface.{recordWords, codeOf, checkCode, lengthCode, formatPlan, wholeCode, wholeBytes, byteFormat, byteInsert, byteDelete, byteRecover};
 
+// What stands in front of the number of stores done or of a length, and of the number where stopped.
+const DONE: u32 = 65536;
+
+const STOPPED: u32 = 131072;
+
 // The number of an answer.
 fn code(answer: Answer) -> u32
     ensures { λ r. ⌜ r ≡ codeOf answer ⌝ }
 {
     match answer {
-        Answer::Done(n) => 65536 + n as u32,
-        Answer::Stopped(n) => 131072 + n as u32,
+        Answer::Done(n) => DONE + n as u32,
+        Answer::Stopped(n) => STOPPED + n as u32,
         Answer::Refused(n) => n as u32,
     }
 }
@@ -91,7 +96,7 @@ pub extern "C" fn axle_length(store: &[u8], list: u16) -> u32
     }
     match byte_survey::look(store, Request::Whole(list)) {
         Looked::Refused(n) => n as u32,
-        Looked::At(_, t) => 65536 + t.count as u32,
+        Looked::At(_, t) => DONE + t.count as u32,
     }
 }
 
