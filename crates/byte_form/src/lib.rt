@@ -42,7 +42,7 @@ fn step(bytes: &mut [u8], at: &[u16], values: &[u16], i: usize)
 }
 
 // Makes the stores of the plan, up to the allowance.
-pub fn run(bytes: &mut [u8], at: &[u16], values: &[u16], allowance: u16) -> Answer
+fn run(bytes: &mut [u8], at: &[u16], values: &[u16], allowance: u16) -> Answer
     requires { ⌜ Planned (length (wordsIn (now bytes))) (now at) (now values) × (length (now at) < 65536) ⌝ }
     ensures answer { λ r. ⌜ r ≡ answerOf (stores (writesOf (now (at .entry)) (now (values .entry)))) allowance ⌝ }
     ensures bytes { λ _. ⌜ now (bytes .exit) ≡ appliedBytes (writesOf (now (at .entry)) (now (values .entry))) allowance (now (bytes .entry)) ⌝ }

@@ -5,15 +5,24 @@ use mending::Finding;
 use stores::Answer;
 ghost use mathlib.Core.Path.{_≡_};
 ghost use Prim.Native.Nat.{_≤_};
+ghost use mathlib.Core.List.{[], _∷_};
 ghost use lib.ListN.{length};
-ghost use Rattle.stores.specs.Stores.{stores, answerOf, writesIn, Held};
-ghost use Rattle.byte_form.specs.Bytes.{wordsIn, appliedBytes, bytesAfter};
-ghost use Rattle.layout.specs.Words.{Laid, cellCount, sizeOf};
+ghost use Rattle.stores.specs.Stores.{write, run, stores, answerOf, writesIn, Held};
+ghost use Rattle.byte_form.specs.Bytes.{wordsIn, byteWrites, appliedBytes, bytesAfter};
+ghost use Rattle.layout.specs.Words.{Laid, Node, cellCount, sizeOf, identAt};
 ghost use Rattle.survey.specs.Survey.{short, Columns};
 ghost use Rattle.recovery.specs.Plan.{recoverOf};
 ghost use Rattle.mending.specs.Mending.{clears, planOf};
 
-// Stores 0 to the identifier of each node that has an entry, lowest cell first, up to the allowance.
+// Clears node i: stores 0 to its identifier, and nothing else.
+fn step(bytes: &mut [u8], l: Layout, i: u16)
+    requires { ⌜ Laid l (wordsIn (now bytes)) × Node l i ⌝ }
+    ensures { λ _. ⌜ now (bytes .exit) ≡ run (byteWrites (write (identAt l i) 0 ∷ [])) (now (bytes .entry)) ⌝ }
+{
+    byte_form::put(bytes, l.node(i), 0);
+}
+
+// Clears each node that has an entry, lowest cell first, up to the allowance.
 fn clear(bytes: &mut [u8], idents: &[u16], l: Layout, allowance: u16) -> Answer
     requires { ⌜ Laid l (wordsIn (now bytes)) × (length (now idents) ≡ cellCount l) ⌝ }
     ensures answer { λ r. ⌜ r ≡ answerOf (stores (clears l (now (idents .entry)))) allowance ⌝ }
@@ -27,7 +36,7 @@ fn clear(bytes: &mut [u8], idents: &[u16], l: Layout, allowance: u16) -> Answer
             if n == allowance {
                 return Answer::Stopped(n);
             }
-            byte_form::put(bytes, l.node(i), 0);
+            step(bytes, l, i);
             n += 1;
         }
         i += 1;

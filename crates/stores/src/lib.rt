@@ -1,4 +1,4 @@
-// Word stores under an allowance. A call that changes a store is planned whole before its first store; the plan is a row of
+// Word stores under an allowance. A call that changes a store is decided whole before its first store; a short plan is a row of
 // addresses and a row of values. A step makes one of the stores; a run makes the first of them, up to the allowance, so what a
 // cut leaves is what a smaller allowance leaves.
 use layout::Layout;
@@ -48,7 +48,7 @@ fn step(words: &mut [u16], at: &[u16], values: &[u16], i: usize)
 }
 
 // Makes the stores of the plan, up to the allowance.
-pub fn run(words: &mut [u16], at: &[u16], values: &[u16], allowance: u16) -> Answer
+fn run(words: &mut [u16], at: &[u16], values: &[u16], allowance: u16) -> Answer
     requires { ⌜ Planned (length (now words)) (now at) (now values) × (length (now at) < 65536) ⌝ }
     ensures answer { λ r. ⌜ r ≡ answerOf (stores (writesOf (now (at .entry)) (now (values .entry)))) allowance ⌝ }
     ensures words { λ _. ⌜ now (words .exit) ≡ applied (writesOf (now (at .entry)) (now (values .entry))) allowance (now (words .entry)) ⌝ }

@@ -5,13 +5,21 @@ use mending::Finding;
 use stores::Answer;
 ghost use mathlib.Core.Path.{_≡_};
 ghost use lib.ListN.{length};
-ghost use Rattle.stores.specs.Stores.{stores, answerOf, applied, wordsAfter, writesIn, Held};
-ghost use Rattle.layout.specs.Words.{Laid, cellCount, sizeOf};
+ghost use Rattle.stores.specs.Stores.{write, store, stores, answerOf, applied, wordsAfter, writesIn, Held};
+ghost use Rattle.layout.specs.Words.{Laid, Node, cellCount, sizeOf, identAt};
 ghost use Rattle.survey.specs.Survey.{Columns};
 ghost use Rattle.recovery.specs.Plan.{recoverOf};
 ghost use Rattle.mending.specs.Mending.{clears, planOf};
 
-// Stores 0 to the identifier of each node that has an entry, lowest cell first, up to the allowance.
+// Clears node i: stores 0 to its identifier, and nothing else.
+fn step(words: &mut [u16], l: Layout, i: u16)
+    requires { ⌜ Laid l (now words) × Node l i ⌝ }
+    ensures { λ _. ⌜ now (words .exit) ≡ store (now (words .entry)) (write (identAt l i) 0) ⌝ }
+{
+    words[l.node(i)] = 0;
+}
+
+// Clears each node that has an entry, lowest cell first, up to the allowance.
 fn clear(words: &mut [u16], idents: &[u16], l: Layout, allowance: u16) -> Answer
     requires { ⌜ Laid l (now words) × (length (now idents) ≡ cellCount l) ⌝ }
     ensures answer { λ r. ⌜ r ≡ answerOf (stores (clears l (now (idents .entry)))) allowance ⌝ }
@@ -25,7 +33,7 @@ fn clear(words: &mut [u16], idents: &[u16], l: Layout, allowance: u16) -> Answer
             if n == allowance {
                 return Answer::Stopped(n);
             }
-            words[l.node(i)] = 0;
+            step(words, l, i);
             n += 1;
         }
         i += 1;

@@ -6,12 +6,11 @@ use mathlib.Core.Logic.{⊎-elim}
 use native.Mathlib.Omega.{arith}
 use lib.ListN.{length}
 use Rattle.stores.specs.declared.Answer.the-variants as A
-use Rattle.stores.specs.Stores.{Write, write, run}
+use Rattle.stores.specs.Stores.{Write, run}
 use Rattle.stores.proofs.Laws.{answer-stopped, answer-done}
 use Rattle.byte_form.specs.Bytes.{byteWrites, appliedBytes}
 use Rattle.byte_form.proofs.Laws.{same-words, bytes-none, bytes-more, bytes-all}
 use Rattle.layout.specs.Words.{firstNode, cellCount}
-use Rattle.layout.proofs.Laws.{node-fits, cell-node}
 use Rattle.mending.specs.Mending.{clears}
 use Rattle.mending.proofs.Clearing.{Clearing, clearing-none, clearing-one, clearing-skip, clearing-all}
 use Rattle.byte_mending.proofs.clear.Statement.{statement}
@@ -71,15 +70,11 @@ returns c =
       t .loop .inv .5 ∙ ap (λ (m : ℕ). appliedBytes (all s) m (s .args .bytes .now)) (c .if2 .taken),
     )
 
-node-requires : tie.Need-node-requires Inv-loop μ-loop
-node-requires c κs = c .before .before .before .before .before .loop .inv .0
-
-put-requires : tie.Need-put-requires Inv-loop μ-loop
-put-requires c κs =
-    let t = c .before .before .before .before .before .before in
+step-requires : tie.Need-step-requires Inv-loop μ-loop
+step-requires c κs =
+    let t = c .before .before .before .before .before in
     let s = start t in
-    let f = node-fits (s .args .l) (t .loop .i) (record { low = t .loop .inv .0; high = omega arith }) in
-    omega (arith, c .node .ensures, same-words (t .loop .bytes) (s .args .bytes .now) (t .loop .inv .6), s .pre .0 .exact, f)
+    (record { inRange = s .pre .0 .inRange; exact = same-words _ _ (t .loop .inv .6) ∙ s .pre .0 .exact }, record { low = t .loop .inv .0; high = omega arith })
 
 add-n : tie.Need-add-n Inv-loop μ-loop
 add-n c = omega arith
@@ -97,17 +92,16 @@ loop-again c =
     ⊎-elim
     (λ w.
     let p = clearing-one (s .args .l) (s .args .idents .now) (t .loop .n) (t .loop .i) (t .loop .inv .4) (omega arith) (w .0 .taken) in
-    rw (w .7, w .8) (
+    rw (w .6, w .7) (
       omega arith,
       omega arith,
       t .loop .inv .2,
       omega arith,
       p .2,
-      w .4 .ensures
-          ∙ ap₂ (λ (q : Write) (b : List ℕ). run (byteWrites (q ∷ [])) b)
-          (ap (λ (a : ℕ). write a 0) (w .3 .ensures ∙ sym (cell-node (s .args .l) (t .loop .i) (t .loop .inv .0))) ∙ sym (p .1)) (t .loop .inv .5)
+      w .3 .ensures
+          ∙ ap₂ (λ (q : Write) (b : List ℕ). run (byteWrites (q ∷ [])) b) (sym (p .1)) (t .loop .inv .5)
           ∙ sym (bytes-more (all s) (t .loop .n) (s .args .bytes .now) (p .0)),
-      w .4 .kept .0 ∙ t .loop .inv .6,
+      w .3 .kept .0 ∙ t .loop .inv .6,
     ))
     (λ w. rw (w .1, w .2) (
       omega arith,
@@ -146,8 +140,7 @@ clear-spec =
     shared-slice-read-if1
     same-length
     returns
-    node-requires
-    put-requires
+    step-requires
     add-n
     add-i
     loop-less

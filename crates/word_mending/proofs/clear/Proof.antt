@@ -1,15 +1,14 @@
 -- `word_mending::clear`: at cell i the first n clears are made.
-use Prim.Native.Nat.{ℕ, _-_, _≤_, _<_}
+use Prim.Native.Nat.{ℕ, _-_, _≤_}
 use mathlib.Core.Path.{_≡_, refl, ap, ap₂, sym, _∙_}
 use mathlib.Core.List.{List}
 use mathlib.Core.Logic.{⊎-elim}
 use native.Mathlib.Omega.{arith}
-use lib.ListN.{length, length-set}
+use lib.ListN.{length}
 use Rattle.stores.specs.declared.Answer.the-variants as A
-use Rattle.stores.specs.Stores.{Write, write, store, applied}
+use Rattle.stores.specs.Stores.{Write, store, applied}
 use Rattle.stores.proofs.Laws.{applied-none, applied-more, applied-all, answer-stopped, answer-done}
 use Rattle.layout.specs.Words.{firstNode, cellCount}
-use Rattle.layout.proofs.Laws.{node-fits, cell-node, size-small}
 use Rattle.mending.specs.Mending.{clears}
 use Rattle.mending.proofs.Clearing.{Clearing, clearing-none, clearing-one, clearing-skip, clearing-all}
 use Rattle.word_mending.proofs.clear.Statement.{statement}
@@ -69,24 +68,11 @@ returns c =
       t .loop .inv .5 ∙ ap (λ (m : ℕ). applied (all s) m (s .args .words .now)) (c .if2 .taken),
     )
 
-node-requires : tie.Need-node-requires Inv-loop μ-loop
-node-requires c κs = c .before .before .before .before .loop .inv .0
-
--- the identifier of the cell is a word of the store
-inside : (c : tie.After-node Inv-loop μ-loop) → let t = c .before .before .before .before .before in
-    (c .node .result < length (t .loop .words)) × (length (t .loop .words) ≤ 65536)
-inside c =
+step-requires : tie.Need-step-requires Inv-loop μ-loop
+step-requires c κs =
     let t = c .before .before .before .before .before in
     let s = start t in
-    let f = node-fits (s .args .l) (t .loop .i) (record { low = t .loop .inv .0; high = omega arith }) in
-    let z = size-small (s .args .l) (s .pre .0 .inRange) in
-    (omega (arith, c .node .ensures, s .pre .0 .exact, t .loop .inv .6, f), omega (arith, s .pre .0 .exact, t .loop .inv .6, z))
-
-mul-words : tie.Need-mul-words Inv-loop μ-loop
-mul-words c = omega (arith, inside c)
-
-slice-write-words : tie.Need-slice-write-words Inv-loop μ-loop
-slice-write-words c = inside c .0
+    (record { inRange = s .pre .0 .inRange; exact = t .loop .inv .6 ∙ s .pre .0 .exact }, record { low = t .loop .inv .0; high = omega arith })
 
 add-n : tie.Need-add-n Inv-loop μ-loop
 add-n c = omega arith
@@ -104,16 +90,14 @@ loop-again c =
     ⊎-elim
     (λ w.
     let p = clearing-one (s .args .l) (s .args .idents .now) (t .loop .n) (t .loop .i) (t .loop .inv .4) (omega arith) (w .0 .taken) in
-    rw (w .3, w .4) (
+    rw (w .6, w .7) (
       omega arith,
       omega arith,
       t .loop .inv .2,
       omega arith,
       p .2,
-      ap₂ store (t .loop .inv .5)
-          (ap (λ (a : ℕ). write a 0) (w .2 .ensures ∙ sym (cell-node (s .args .l) (t .loop .i) (t .loop .inv .0))) ∙ sym (p .1))
-          ∙ sym (applied-more (all s) (t .loop .n) (s .args .words .now) (p .0)),
-      length-set (t .loop .words) _ 0 ∙ t .loop .inv .6,
+      w .3 .ensures ∙ ap₂ store (t .loop .inv .5) (sym (p .1)) ∙ sym (applied-more (all s) (t .loop .n) (s .args .words .now) (p .0)),
+      w .3 .kept .0 ∙ t .loop .inv .6,
     ))
     (λ w. rw (w .1, w .2) (
       omega arith,
@@ -152,9 +136,7 @@ clear-spec =
     shared-slice-read-if1
     same-length
     returns
-    node-requires
-    mul-words
-    slice-write-words
+    step-requires
     add-n
     add-i
     loop-less
