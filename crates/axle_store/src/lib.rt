@@ -113,7 +113,7 @@ pub fn check(words: &[u16]) -> Checked
     ensures answer { λ r. ⌜ r ≡ checkAnswer (now (words .entry)) ⌝ }
     ensures number { λ r. ⌜ checkedNumber r ≡ checkNumber (now (words .entry)) ⌝ }
 {
-    match requests::look(words, Request::Check) {
+    match word_requests::look(words, Request::Check) {
         Looked::Refused(n) => Checked::Refused(n),
         Looked::At(_, _) => Checked::Sound,
     }
@@ -125,7 +125,7 @@ pub fn length(words: &[u16], list: u16) -> Counted
     ensures number { λ r. ⌜ countedNumber r ≡ lengthNumber (now (words .entry)) list ⌝ }
     ensures value { λ r. ⌜ countedLength r ≡ lengthValue (now (words .entry)) list ⌝ }
 {
-    match requests::look(words, Request::Whole(list)) {
+    match word_requests::look(words, Request::Whole(list)) {
         Looked::Refused(n) => Counted::Refused(n),
         Looked::At(_, t) => Counted::Length(t.count),
     }
@@ -135,7 +135,7 @@ pub fn length(words: &[u16], list: u16) -> Counted
 pub fn read_number(words: &[u16], list: u16, position: u16) -> u16
     ensures { λ r. ⌜ r ≡ readNumber (now (words .entry)) list position ⌝ }
 {
-    match requests::look(words, Request::Member(list, position)) {
+    match word_requests::look(words, Request::Member(list, position)) {
         Looked::Refused(n) => n,
         Looked::At(_, _) => 0,
     }
@@ -146,7 +146,7 @@ pub fn read(words: &[u16], list: u16, position: u16) -> &[u16]
     ensures contents { λ r. ⌜ now r ≡ readWords (now (words .entry)) list position ⌝ }
     ensures place { λ r. ⌜ (r .ptr .0 ≡ words .entry .ptr .0) × (r .ptr .1 ≡ readStart (now (words .entry)) list position * 2 + words .entry .ptr .1) ⌝ }
 {
-    match requests::look(words, Request::Member(list, position)) {
+    match word_requests::look(words, Request::Member(list, position)) {
         Looked::Refused(_) => &words[0..0],
         Looked::At(l, t) => {
             let a = l.node(t.cell) + Layout::LINK_WORDS;
@@ -170,7 +170,7 @@ pub fn insert(
     ensures number { λ r. ⌜ answerNumber r ≡ planNumber (insertPlan (now (words .entry)) list position start (now (rec .entry))) ⌝ }
     ensures stores { λ r. ⌜ answerStores r ≡ length (madeBy (insertPlan (now (words .entry)) list position start (now (rec .entry))) allowance) ⌝ }
 {
-    match requests::look(words, Request::Gap(list, position, start, rec.len())) {
+    match word_requests::look(words, Request::Gap(list, position, start, rec.len())) {
         Looked::Refused(n) => Answer::Refused(n),
         Looked::At(l, t) => stores::run_rows(words, edits::insert_rows(l, list, t, rec), allowance),
     }
@@ -183,7 +183,7 @@ pub fn delete(words: &mut [u16], list: u16, position: u16, allowance: u16) -> An
     ensures number { λ r. ⌜ answerNumber r ≡ planNumber (deletePlan (now (words .entry)) list position) ⌝ }
     ensures stores { λ r. ⌜ answerStores r ≡ length (madeBy (deletePlan (now (words .entry)) list position) allowance) ⌝ }
 {
-    match requests::look(words, Request::Member(list, position)) {
+    match word_requests::look(words, Request::Member(list, position)) {
         Looked::Refused(n) => Answer::Refused(n),
         Looked::At(l, t) => stores::run_rows(words, edits::delete_rows(l, list, t), allowance),
     }

@@ -11,12 +11,12 @@ ghost use mathlib.Core.Bool.{cond};
 ghost use lib.Dec.{eqb};
 ghost use lib.ListN.{length, getD};
 ghost use Rattle.byte_form.specs.Bytes.{wordsIn};
-ghost use Rattle.layout.specs.Words.{Laid, Node, firstNode, linkWords, identOf};
+ghost use Rattle.layout.specs.Words.{Laid, Node, firstNode, cellCount, linkWords, identOf};
 ghost use Rattle.lists.specs.Decide.{viewOf, countIn, used, soundOf};
 ghost use Rattle.spans.specs.Spans.{Gridded, Decides, Held, countSum, cellOf, cellIn, wholeSpan, Spanned, Led, rounded};
 
 // The cell that the word at a names.
-fn link(bytes: &[u8], a: usize) -> usize
+pub fn link(bytes: &[u8], a: usize) -> usize
     requires { ⌜ a < length (wordsIn (now bytes)) ⌝ }
     ensures { λ r. ⌜ r ≡ getD (wordsIn (now (bytes .entry))) a 0 ⌝ }
 {
@@ -49,6 +49,17 @@ pub fn header(bytes: &[u8], l: Layout, k: u16) -> Cell
     ensures { λ r. ⌜ r ≡ cellIn (viewOf l (wordsIn (now (bytes .entry)))) k ⌝ }
 {
     cell_at(bytes, l.header(k))
+}
+
+// Cell c, header or node.
+pub fn cell(bytes: &[u8], l: Layout, g: Grid, c: usize) -> Cell
+    requires { ⌜ Gridded l g × Laid l (wordsIn (now bytes)) × (c < cellCount l) ⌝ }
+    ensures { λ r. ⌜ r ≡ cellIn (viewOf l (wordsIn (now (bytes .entry)))) c ⌝ }
+{
+    if c < g.from {
+        return header(bytes, l, c as u16);
+    }
+    node(bytes, l, g, c)
 }
 
 // The count of list k.

@@ -50,7 +50,7 @@ isNode l i = leb (firstNode l) i && ltb i (cellCount l)
 abbrev pub linkWords : ℕ
 linkWords = 3
 
--- the words behind its links: the record and, from a later version on, check words
+-- behind its links stands its tail: the record and the check words, of which version 1 has none
 unfoldable pub checkWords : Layout → ℕ
 checkWords l = 0
 
@@ -60,6 +60,7 @@ tailWords l = l .width + checkWords l
 abbrev pub nodeWords : Layout → ℕ
 nodeWords l = linkWords + tailWords l
 
+-- the nodes begin behind the headers
 abbrev pub nodesAt : Layout → ℕ
 nodesAt l = headWords + headerWords * l .lists
 
@@ -130,6 +131,7 @@ layoutOf w = record { version = getD w 3 0; lists = getD w 4 0; nodes = getD w 5
 abbrev pub layoutFor : ℕ → ℕ → ℕ → Layout
 layoutFor lists nodes width = record { version = newest; lists = lists; nodes = nodes; width = width }
 
+-- all of these are in range; the longest tail has as many words as the longest record
 pub record InRange (l : Layout) : Type 0 where
   pub someVersion : 1 ≤ l .version
   pub version : l .version ≤ newest

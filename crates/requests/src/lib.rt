@@ -1,13 +1,13 @@
 // Questions 5 to 10. A request says what a call asks of the lists, and the site is what it gets: a cell with the cells before
-// and after it, and the list's length. All is decided before the first store.
+// and after it, and the list's length. All is decided before the first store. Here the site is found by columns; crate word_requests
+// finds it in the lent words.
 use layout::Layout;
-use layout::Opened;
 ghost use mathlib.Core.Path.{_≡_};
 ghost use Prim.Native.Nat.{_≤_};
 ghost use lib.ListN.{length, getD};
-ghost use Rattle.layout.specs.Words.{InRange, Node, Laid, cellCount};
+ghost use Rattle.layout.specs.Words.{InRange, Node, cellCount};
 ghost use Rattle.survey.specs.Survey.{columns, Columns};
-ghost use Rattle.requests.specs.Requests.{nextCell, around, firstFree, memberAt, askGap, freeGap, gapAt, siteIn, listOf, siteOf, lookOf, sequenceBy, Closed};
+ghost use Rattle.requests.specs.Requests.{nextCell, around, firstFree, memberAt, askGap, freeGap, gapAt, siteIn, listOf, sequenceBy, Closed};
 
 // What a call asks for.
 pub enum Request {
@@ -46,7 +46,7 @@ pub enum Free {
 }
 
 // The node after node c, which after the last is the first.
-fn next_cell(l: Layout, c: u16) -> u16
+pub fn next_cell(l: Layout, c: u16) -> u16
     requires { ⌜ InRange l × Node l c ⌝ }
     ensures { λ r. ⌜ r ≡ nextCell l c ⌝ }
 {
@@ -74,7 +74,7 @@ fn free_cell(idents: &[u16], l: Layout, start: u16) -> Free
 }
 
 // The list that a request names; a check names none, and asks nothing of list 0 that every store does not answer.
-fn list_of(q: Request) -> u16
+pub fn list_of(q: Request) -> u16
     ensures { λ r. ⌜ r ≡ listOf q ⌝ }
 {
     match q {
@@ -105,7 +105,7 @@ fn member(forwards: &[u16], l: Layout, k: u16, n: u16, p: u16) -> Sited
 }
 
 // Questions 7 to 9: the number of the first no, 0 for none.
-fn gap_number(l: Layout, n: u16, p: u16, start: u16, size: usize) -> u16
+pub fn gap_number(l: Layout, n: u16, p: u16, start: u16, size: usize) -> u16
     requires { ⌜ InRange l ⌝ }
     ensures { λ r. ⌜ r ≡ askGap l n p start size (λ x. x) 0 ⌝ }
 {
@@ -204,52 +204,5 @@ pub fn site_by(
         }),
         Request::Member(k, p) => member(forwards, l, k, n, p),
         Request::Gap(k, p, start, size) => gap(idents, forwards, l, k, n, p, start, size),
-    }
-}
-
-// The same by the lent words, which are read into the columns.
-fn site_in(
-    words: &[u16],
-    l: Layout,
-    q: Request,
-    idents: &mut [u16],
-    forwards: &mut [u16],
-    backs: &mut [u16],
-) -> Sited
-    requires { ⌜ Laid l (now words) × Columns l (now idents) (now forwards) (now backs) ⌝ }
-    ensures { λ r. ⌜ r ≡ siteOf l (now (words .entry)) q ⌝ }
-{
-    survey::load(words, l, idents, forwards, backs);
-    site_by(idents, forwards, backs, survey::all_counts(words, l), l, q)
-}
-
-fn site_of(words: &[u16], l: Layout, q: Request) -> Sited
-    requires { ⌜ Laid l (now words) ⌝ }
-    ensures { λ r. ⌜ r ≡ siteOf l (now (words .entry)) q ⌝ }
-{
-    let n = l.cell_count() as usize;
-    let mut idents = survey::column();
-    let mut forwards = survey::column();
-    let mut backs = survey::column();
-    site_in(
-        words,
-        l,
-        q,
-        &mut idents[..n],
-        &mut forwards[..n],
-        &mut backs[..n],
-    )
-}
-
-// All questions of a call, put to the lent words.
-pub fn look(words: &[u16], q: Request) -> Looked
-    ensures { λ r. ⌜ r ≡ lookOf (now (words .entry)) q ⌝ }
-{
-    match layout::open(words) {
-        Opened::Refused(n) => Looked::Refused(n),
-        Opened::Open(l) => match site_of(words, l, q) {
-            Sited::Refused(n) => Looked::Refused(n),
-            Sited::At(t) => Looked::At(l, t),
-        },
     }
 }

@@ -3,3 +3,4 @@ pub mod Pigeonhole
 pub mod Trail
 pub mod Splice
 pub mod Reversed
+pub mod Follow

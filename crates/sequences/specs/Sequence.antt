@@ -42,6 +42,11 @@ unfoldable pub trail : (ℕ → ℕ) → (ℕ → Bool) → ℕ → ℕ → List
 trail link inside zero c = []
 trail link inside (suc n) c = elim (inside c) [ true ↦ c ∷ trail link inside n (link c) | false ↦ [] ]
 
+-- the cell that n links lead to from c
+unfoldable pub follow : (ℕ → ℕ) → ℕ → ℕ → ℕ
+follow link zero c = c
+follow link (suc n) c = follow link n (link c)
+
 -- the n numbers from a on
 unfoldable pub range : ℕ → ℕ → List ℕ
 range a zero = []

@@ -11,7 +11,7 @@ ghost use Prim.Native.Nat.{_+_, _≤_, _<_};
 ghost use mathlib.Core.Bool.{cond};
 ghost use lib.Dec.{eqb};
 ghost use lib.ListN.{length, getD};
-ghost use Rattle.layout.specs.Words.{Laid, Node, firstNode, linkWords, identOf};
+ghost use Rattle.layout.specs.Words.{Laid, Node, firstNode, cellCount, linkWords, identOf};
 ghost use Rattle.lists.specs.Decide.{viewOf, countIn, used, soundOf};
 ghost use Rattle.spans.specs.Spans.{Gridded, Decides, Held, countSum, cellOf, cellIn, wholeSpan, Spanned, Led, rounded};
 
@@ -24,7 +24,7 @@ fn word(words: &[u16], a: usize) -> u16
 }
 
 // The cell that the word at a names.
-fn link(words: &[u16], a: usize) -> usize
+pub fn link(words: &[u16], a: usize) -> usize
     requires { ⌜ a < length (now words) ⌝ }
     ensures { λ r. ⌜ r ≡ getD (now (words .entry)) a 0 ⌝ }
 {
@@ -57,6 +57,17 @@ pub fn header(words: &[u16], l: Layout, k: u16) -> Cell
     ensures { λ r. ⌜ r ≡ cellIn (viewOf l (now (words .entry))) k ⌝ }
 {
     cell_at(words, l.header(k))
+}
+
+// Cell c, header or node.
+pub fn cell(words: &[u16], l: Layout, g: Grid, c: usize) -> Cell
+    requires { ⌜ Gridded l g × Laid l (now words) × (c < cellCount l) ⌝ }
+    ensures { λ r. ⌜ r ≡ cellIn (viewOf l (now (words .entry))) c ⌝ }
+{
+    if c < g.from {
+        return header(words, l, c as u16);
+    }
+    node(words, l, g, c)
 }
 
 // The count of list k.

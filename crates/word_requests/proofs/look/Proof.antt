@@ -1,11 +1,11 @@
--- `requests::look` meets its contract. A refusal is handed on, and an opened store's words are asked for the site.
+-- `word_requests::look` meets its contract. A refusal is handed on, and an opened store's words are asked for the site.
 use mathlib.Core.Path.{_≡_, _∙_, sym}
 use borrow.Author.Needs.{needs}
 use Rattle.layout.specs.declared.Opened.the-variants.{Open}
 use Rattle.layout.specs.Words.{opened}
 use Rattle.requests.proofs.Laws.{opened-laid, look-shut, look-refused, look-at}
-use Rattle.requests.proofs.look.Statement.{statement}
-use Rattle.requests.proofs.look.Tie as tie
+use Rattle.word_requests.proofs.look.Statement.{statement}
+use Rattle.word_requests.proofs.look.Tie as tie
 
 -- the store is opened
 is-open : (c : tie.After-l) → opened (c .before .before .before .before .args .words .now) ≡ Open (c .l .given .0 .0)

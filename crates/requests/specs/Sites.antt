@@ -1,0 +1,23 @@
+-- Where a call works, found by links.
+use Prim.Native.Nat.{ℕ, _+_, _<_}
+use mathlib.Core.Path.{_≡_}
+use mathlib.Core.List.{List, [], _∷_, _++_}
+use mathlib.Core.Bool.{true}
+use lib.ListN.{length, getD}
+use Rattle.layout.specs.declared.Layout.{Layout}
+use Rattle.layout.specs.Words.{cellAt}
+use Rattle.lists.specs.Decide.{View, sequenceIn, holds}
+use Rattle.requests.specs.declared.Site.{Site}
+
+-- list k holds, with n members
+pub record HeldList (l : Layout) (v : View) (k n : ℕ) : Type 0 where
+  pub list : k < l .lists
+  pub held : holds v k n (sequenceIn l v k) ≡ true
+
+-- the link that word f of a cell is
+abbrev pub linkIn : Layout → List ℕ → ℕ → ℕ → ℕ
+linkIn l w f c = getD w (cellAt l c + f) 0
+
+-- the gap of list k at position p, for cell c
+abbrev pub gapSite : ℕ → ℕ → ℕ → List ℕ → Site
+gapSite k p c s = record { before = getD (k ∷ s) p 0; cell = c; after = getD (s ++ k ∷ []) p 0; count = length s }

@@ -1,0 +1,167 @@
+// Questions 1 to 10, put to the lent words. A position is found by links, from the nearer end of its list; a free cell by a search of
+// the identifiers. Nothing is copied.
+use layout::Layout;
+use layout::Opened;
+use requests::Free;
+use requests::Looked;
+use requests::Request;
+use requests::Site;
+use requests::Sited;
+use spans::Grid;
+ghost use mathlib.Core.Path.{_≡_};
+ghost use Prim.Native.Nat.{ℕ, _+_, _<_, _≤_};
+ghost use mathlib.Core.List.{_∷_};
+ghost use lib.ListN.{getD};
+ghost use Rattle.sequences.specs.Sequence.{follow};
+ghost use Rattle.layout.specs.Words.{Laid, Node, linkWords};
+ghost use Rattle.lists.specs.Decide.{viewOf, sequenceOf};
+ghost use Rattle.spans.specs.Spans.{Gridded};
+ghost use Rattle.requests.specs.Requests.{around, firstFree, memberAt, freeGap, gapAt, siteOf, lookOf};
+ghost use Rattle.requests.specs.Sites.{HeldList, linkIn, gapSite};
+
+// The cell that so many links lead to from cell c; a link is word f of a node.
+fn follow_links(words: &[u16], l: Layout, g: Grid, f: usize, c: usize, n: u16) -> usize
+    requires { ⌜ Gridded l g × Laid l (now words) × (f < linkWords) × ((i : ℕ) → i < n → Node l (follow (linkIn l (now words) f) i c)) ⌝ }
+    ensures { λ r. ⌜ r ≡ follow (linkIn l (now (words .entry)) f) n c ⌝ }
+{
+    let mut at = c;
+    let mut left = n;
+    while 0 < left {
+        at = word_walks::link(words, g.place(l, at) + f);
+        left -= 1;
+    }
+    at
+}
+
+// Cell q of the ring of list k, which has n members: the header is cell 0, and from the nearer end it is not far.
+fn seek(words: &[u16], l: Layout, g: Grid, k: u16, n: u16, q: u16) -> usize
+    requires { ⌜ Gridded l g × Laid l (now words) × HeldList l (viewOf l (now words)) k n × (q ≤ n) ⌝ }
+    ensures { λ r. ⌜ r ≡ getD (k ∷ sequenceOf l (now (words .entry)) k) q 0 ⌝ }
+{
+    if q == 0 {
+        return k as usize;
+    }
+    let h = word_walks::header(words, l, k);
+    if q <= n - q {
+        return follow_links(words, l, g, Layout::FORWARD, h.forward, q - 1);
+    }
+    follow_links(words, l, g, Layout::BACK, h.back, n - q)
+}
+
+// The member of list k, which has n members, at position p.
+fn member(words: &[u16], l: Layout, g: Grid, k: u16, n: u16, p: u16) -> Sited
+    requires { ⌜ Gridded l g × Laid l (now words) × HeldList l (viewOf l (now words)) k n ⌝ }
+    ensures { λ r. ⌜ r ≡ memberAt k p (sequenceOf l (now (words .entry)) k) ⌝ }
+{
+    if n <= p {
+        return Sited::Refused(7);
+    }
+    let c = seek(words, l, g, k, n, p + 1);
+    let m = word_walks::node(words, l, g, c);
+    Sited::At(Site {
+        before: m.back as u16,
+        cell: c as u16,
+        after: m.forward as u16,
+        count: n,
+    })
+}
+
+// The first free one of n nodes: from the starting cell on, and on from the first node after the last.
+pub fn free_cell(words: &[u16], l: Layout, g: Grid, start: u16, n: u16) -> Free
+    requires { ⌜ Gridded l g × Laid l (now words) × Node l start ⌝ }
+    ensures { λ r. ⌜ r ≡ firstFree (viewOf l (now (words .entry)) .ident) (around l start n) ⌝ }
+{
+    let mut c = start;
+    let mut rest = n;
+    while 0 < rest {
+        if word_walks::node(words, l, g, c as usize).ident == 0 {
+            return Free::Cell(c);
+        }
+        c = requests::next_cell(l, c);
+        rest -= 1;
+    }
+    Free::Full
+}
+
+// The gap of list k, which has n members, at position p, for a cell.
+fn gap_site(words: &[u16], l: Layout, g: Grid, k: u16, n: u16, p: u16, cell: u16) -> Site
+    requires { ⌜ Gridded l g × Laid l (now words) × HeldList l (viewOf l (now words)) k n × (p ≤ n) ⌝ }
+    ensures { λ r. ⌜ r ≡ gapSite k p cell (sequenceOf l (now (words .entry)) k) ⌝ }
+{
+    let before = seek(words, l, g, k, n, p);
+    let b = word_walks::cell(words, l, g, before);
+    Site {
+        before: before as u16,
+        cell,
+        after: b.forward as u16,
+        count: n,
+    }
+}
+
+// Question 10: the gap of list k, which has n members, at position p, and a free cell.
+fn free_gap(words: &[u16], l: Layout, g: Grid, k: u16, n: u16, p: u16, start: u16) -> Sited
+    requires { ⌜ Gridded l g × Laid l (now words) × HeldList l (viewOf l (now words)) k n × (p ≤ n) × Node l start ⌝ }
+    ensures { λ r. ⌜ r ≡ freeGap l (viewOf l (now (words .entry)) .ident) k p start (sequenceOf l (now (words .entry)) k) ⌝ }
+{
+    match free_cell(words, l, g, start, l.nodes) {
+        Free::Full => Sited::Refused(10),
+        Free::Cell(cell) => Sited::At(gap_site(words, l, g, k, n, p, cell)),
+    }
+}
+
+// The gap of list k, which has n members, at position p, and a free cell for a record of so many words.
+fn gap(words: &[u16], l: Layout, g: Grid, k: u16, n: u16, p: u16, start: u16, size: usize) -> Sited
+    requires { ⌜ Gridded l g × Laid l (now words) × HeldList l (viewOf l (now words)) k n ⌝ }
+    ensures { λ r. ⌜ r ≡ gapAt l (viewOf l (now (words .entry)) .ident) k p start size (sequenceOf l (now (words .entry)) k) ⌝ }
+{
+    let refusal = requests::gap_number(l, n, p, start, size);
+    if refusal != 0 {
+        return Sited::Refused(refusal);
+    }
+    free_gap(words, l, g, k, n, p, start)
+}
+
+// The site that a request gets.
+fn site_of(words: &[u16], l: Layout, q: Request) -> Sited
+    requires { ⌜ Laid l (now words) ⌝ }
+    ensures { λ r. ⌜ r ≡ siteOf l (now (words .entry)) q ⌝ }
+{
+    let k = requests::list_of(q);
+    if l.lists <= k {
+        return Sited::Refused(5);
+    }
+    if !word_walks::sound_in(words, l) {
+        return Sited::Refused(6);
+    }
+    let g = Grid::of(l);
+    let n = word_walks::count(words, l, k);
+    match q {
+        Request::Check => Sited::At(Site {
+            before: 0,
+            cell: 0,
+            after: 0,
+            count: 0,
+        }),
+        Request::Whole(k) => Sited::At(Site {
+            before: k,
+            cell: k,
+            after: k,
+            count: n,
+        }),
+        Request::Member(k, p) => member(words, l, g, k, n, p),
+        Request::Gap(k, p, start, size) => gap(words, l, g, k, n, p, start, size),
+    }
+}
+
+// All questions of a call.
+pub fn look(words: &[u16], q: Request) -> Looked
+    ensures { λ r. ⌜ r ≡ lookOf (now (words .entry)) q ⌝ }
+{
+    match layout::open(words) {
+        Opened::Refused(n) => Looked::Refused(n),
+        Opened::Open(l) => match site_of(words, l, q) {
+            Sited::Refused(n) => Looked::Refused(n),
+            Sited::At(t) => Looked::At(l, t),
+        },
+    }
+}
