@@ -80,7 +80,7 @@ pub extern "C" fn axle_check(store: &[u8]) -> u32
     if store.len() % 2 != 0 {
         return 4;
     }
-    match byte_survey::look(store, Request::Check) {
+    match byte_requests::look(store, Request::Check) {
         Looked::Refused(n) => n as u32,
         Looked::At(_, _) => 0,
     }
@@ -94,7 +94,7 @@ pub extern "C" fn axle_length(store: &[u8], list: u16) -> u32
     if store.len() % 2 != 0 {
         return 4;
     }
-    match byte_survey::look(store, Request::Whole(list)) {
+    match byte_requests::look(store, Request::Whole(list)) {
         Looked::Refused(n) => n as u32,
         Looked::At(_, t) => DONE + t.count as u32,
     }
@@ -137,7 +137,7 @@ fn insert(
     ensures bytes { λ _. ⌜ now (bytes .exit) ≡ bytesAfter (insertPlan (wordsIn (now (bytes .entry))) list position start (recordWords (now (rec .entry)))) allowance (now (bytes .entry)) ⌝ }
 {
     let n = record_size(rec);
-    match byte_survey::look(bytes, Request::Gap(list, position, start, n)) {
+    match byte_requests::look(bytes, Request::Gap(list, position, start, n)) {
         Looked::Refused(r) => Answer::Refused(r),
         Looked::At(l, t) => {
             let words = record_of(rec, n);
@@ -174,7 +174,7 @@ fn delete(bytes: &mut [u8], list: u16, position: u16, allowance: u16) -> Answer
     ensures answer { λ r. ⌜ r ≡ answerOf (deletePlan (wordsIn (now (bytes .entry))) list position) allowance ⌝ }
     ensures bytes { λ _. ⌜ now (bytes .exit) ≡ bytesAfter (deletePlan (wordsIn (now (bytes .entry))) list position) allowance (now (bytes .entry)) ⌝ }
 {
-    match byte_survey::look(bytes, Request::Member(list, position)) {
+    match byte_requests::look(bytes, Request::Member(list, position)) {
         Looked::Refused(n) => Answer::Refused(n),
         Looked::At(l, t) => byte_form::run_rows(bytes, edits::delete_rows(l, list, t), allowance),
     }

@@ -1,17 +1,12 @@
-// The questions of a call, put to a store in byte form. The cells are read from the bytes into the columns of crate survey; all else is
-// decided there, as for lent words.
+// A store in byte form: questions 1 to 4, and the cells read from the bytes into the columns of crate survey.
 use layout::Layout;
 use layout::Opened;
-use requests::Looked;
-use requests::Request;
-use requests::Sited;
 ghost use mathlib.Core.Path.{_≡_};
 ghost use Prim.Native.Nat.{ℕ, _+_, _<_, _≤_};
 ghost use lib.ListN.{length, getD, set};
 ghost use Rattle.byte_form.specs.Bytes.{wordsIn};
-ghost use Rattle.layout.specs.Words.{mostLists, headWords, linkWords, forwardWord, backWord, Laid, cellCount, opened, countAt};
-ghost use Rattle.survey.specs.Survey.{short, Columns, Loaded};
-ghost use Rattle.requests.specs.Requests.{siteOf, lookOf};
+ghost use Rattle.layout.specs.Words.{mostLists, headWords, linkWords, forwardWord, backWord, Laid, opened, countAt};
+ghost use Rattle.survey.specs.Survey.{Columns, Loaded};
 
 // The first eight words.
 fn head(bytes: &[u8]) -> [u16; Layout::HEAD_WORDS]
@@ -84,83 +79,4 @@ pub fn all_counts(bytes: &[u8], l: Layout) -> [u16; Layout::MAX_LISTS]
         k += 1;
     }
     r
-}
-
-// The site that a request gets, with the columns to read the cells into.
-fn site_in(
-    bytes: &[u8],
-    l: Layout,
-    q: Request,
-    idents: &mut [u16],
-    forwards: &mut [u16],
-    backs: &mut [u16],
-) -> Sited
-    requires { ⌜ Laid l (wordsIn (now bytes)) × Columns l (now idents) (now forwards) (now backs) ⌝ }
-    ensures { λ r. ⌜ r ≡ siteOf l (wordsIn (now (bytes .entry))) q ⌝ }
-{
-    load(bytes, l, idents, forwards, backs);
-    requests::site_by(idents, forwards, backs, all_counts(bytes, l), l, q)
-}
-
-// The same, with short columns.
-fn site_small(bytes: &[u8], l: Layout, q: Request) -> Sited
-    requires { ⌜ Laid l (wordsIn (now bytes)) × (cellCount l ≤ short) ⌝ }
-    ensures { λ r. ⌜ r ≡ siteOf l (wordsIn (now (bytes .entry))) q ⌝ }
-{
-    let n = l.cell_count() as usize;
-    let mut idents = survey::short_column();
-    let mut forwards = survey::short_column();
-    let mut backs = survey::short_column();
-    site_in(
-        bytes,
-        l,
-        q,
-        &mut idents[..n],
-        &mut forwards[..n],
-        &mut backs[..n],
-    )
-}
-
-// The same, with whole columns.
-fn site_large(bytes: &[u8], l: Layout, q: Request) -> Sited
-    requires { ⌜ Laid l (wordsIn (now bytes)) ⌝ }
-    ensures { λ r. ⌜ r ≡ siteOf l (wordsIn (now (bytes .entry))) q ⌝ }
-{
-    let n = l.cell_count() as usize;
-    let mut idents = survey::column();
-    let mut forwards = survey::column();
-    let mut backs = survey::column();
-    site_in(
-        bytes,
-        l,
-        q,
-        &mut idents[..n],
-        &mut forwards[..n],
-        &mut backs[..n],
-    )
-}
-
-// The site that a request gets.
-fn site_of(bytes: &[u8], l: Layout, q: Request) -> Sited
-    requires { ⌜ Laid l (wordsIn (now bytes)) ⌝ }
-    ensures { λ r. ⌜ r ≡ siteOf l (wordsIn (now (bytes .entry))) q ⌝ }
-{
-    if l.cell_count() as usize <= survey::SHORT {
-        site_small(bytes, l, q)
-    } else {
-        site_large(bytes, l, q)
-    }
-}
-
-// All questions of a call.
-pub fn look(bytes: &[u8], q: Request) -> Looked
-    ensures { λ r. ⌜ r ≡ lookOf (wordsIn (now (bytes .entry))) q ⌝ }
-{
-    match open(bytes) {
-        Opened::Refused(n) => Looked::Refused(n),
-        Opened::Open(l) => match site_of(bytes, l, q) {
-            Sited::Refused(n) => Looked::Refused(n),
-            Sited::At(t) => Looked::At(l, t),
-        },
-    }
 }

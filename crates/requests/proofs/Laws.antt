@@ -1,31 +1,29 @@
--- Laws of the search for a free node, of the sites of a list, and of the questions of a request.
+-- Laws of the search for a free node, of a list in a column, and of the questions of a request.
 use Prim.Native.Nat.{ℕ, suc, _+_, _-_, _≤_, _<_}
 use mathlib.Core.Path.{_≡_, refl, sym, ap, _∙_}
-use mathlib.Core.List.{List, [], _∷_, _++_}
+use mathlib.Core.List.{List, _∷_}
 use mathlib.Core.Bool.{Bool, true, false}
 use native.Mathlib.Omega.{arith}
-use native.Mathlib.Numerals.{add-one}
 use native.Mathlib.Decide.{ℕ-discrete}
 use lib.Dec.{eqb, leb}
 use lib.ListN.{length, getD}
 use borrow.Author.Tests.{lt-ltb, le-ltb, eq-eqb, ne-eqb, leb-true, eqb-true}
-use Rattle.sequences.proofs.Splice.{forward-at}
 use Rattle.layout.specs.declared.Layout.{Layout}
 use Rattle.layout.specs.declared.Opened.the-variants as O
 use Rattle.layout.specs.Words.{firstNode, cellCount, Node, isNode, InRange, Laid, ask, opened}
 use Rattle.layout.proofs.Laws.{opened-open, is-node}
-use Rattle.lists.specs.Decide.{View, viewOf, countIn, sequenceIn, soundIn}
+use Rattle.lists.specs.Decide.{View, sequenceIn, soundIn}
 use Rattle.lists.proofs.Agree.{holds-true}
 use Rattle.lists.proofs.Stepwise.{sound-hold, sound-count, sound-same}
-use Rattle.survey.specs.Survey.{columns, Columns, Loaded}
-use Rattle.survey.proofs.Laws.{before-next, before-cell, loaded-view}
+use Rattle.survey.specs.Survey.{columns, Columns}
+use Rattle.survey.proofs.Laws.{before-next, before-cell}
 use Rattle.requests.specs.declared.Free.the-variants.{Cell, Full}
 use Rattle.requests.specs.declared.Site.{Site}
 use Rattle.requests.specs.declared.Request.{Request}
 use Rattle.requests.specs.declared.Request.the-variants.{Check, Whole, Member, Gap}
 use Rattle.requests.specs.declared.Sited.the-variants.{At, Refused}
 use Rattle.requests.specs.declared.Looked.the-variants as K
-use Rattle.requests.specs.Requests.{nextCell, around, firstFree, memberAt, askGap, freeGap, gapAt, siteIn, listOf, siteOf, lookOf, sequenceBy, Closed}
+use Rattle.requests.specs.Requests.{nextCell, around, firstFree, memberAt, askGap, gapAt, siteIn, listOf, siteOf, lookOf, sequenceBy, Closed}
 
 -- the node after a node: the first after the last, else the next
 module _ (l : Layout) (c : ℕ) where
@@ -84,56 +82,18 @@ module _ (l : Layout) (n p c m : ℕ) {r : ℕ} (e : r ≡ askGap l n p c m (λ 
       by true false d = refl
       by false b d = refl
 
--- the sites of a list whose links lead round its n members
+-- a list whose links lead round its n members
 module _ {l : Layout} {f : List ℕ} {k n : ℕ} (h : Closed l f k n) (p : ℕ) where
   abbrev members : List ℕ
   members = sequenceBy l f k
 
-  -- the cells before the position and at it are in the column
+  -- the cell before the position is in the column
   pub before-in : p ≤ n → getD (k ∷ members) p 0 < length f
   before-in q = omega (arith, before-cell l (columns f f f) k p (h .list) (omega arith))
 
-  pub member-in : p < n → getD members p 0 < length f
-  member-in q = omega (arith, before-cell l (columns f f f) k (suc p) (h .list) (omega arith))
-
-  -- the first leads to the second, the second to the cell after it
-  pub before-link : p ≤ n → getD f (getD (k ∷ members) p 0) 0 ≡ getD (members ++ k ∷ []) p 0
-  before-link q = forward-at (λ c. getD f c 0) k members k p (h .forward) (omega arith)
-
+  -- it leads to the member at the position
   pub member-before : p < n → getD f (getD (k ∷ members) p 0) 0 ≡ getD members p 0
   member-before q = before-next l (columns f f f) k p (omega arith)
-
-  pub member-link : p < n → getD f (getD members p 0) 0 ≡ getD (members ++ k ∷ []) (p + 1) 0
-  member-link q = forward-at (λ c. getD f c 0) k members k (suc p) (h .forward) (omega arith) ∙ rw add-one
-
-  -- no member at the position, or the site of one
-  pub member-past : n ≤ p → Refused 7 ≡ memberAt k p members
-  unfolding memberAt
-  member-past q = rw (le-ltb p (length members) (omega arith))
-
-  pub member-found : p < n → {b : ℕ} → b ≡ getD (k ∷ members) p 0
-      → At (record { before = b; cell = getD f b 0; after = getD f (getD f b 0) 0; count = n }) ≡ memberAt k p members
-  unfolding memberAt
-  member-found q e = rw (lt-ltb p (length members) (omega arith), e, member-before q, member-link q, h .count)
-
-  -- no free cell, or a site
-  module _ (ident : ℕ → ℕ) (c : ℕ) where
-    pub gap-full : Full ≡ firstFree ident (around l c (l .nodes)) → Refused 10 ≡ freeGap l ident k p c members
-    gap-full g = rw (← g)
-
-    pub gap-found : p ≤ n → {x b : ℕ} → Cell x ≡ firstFree ident (around l c (l .nodes)) → b ≡ getD (k ∷ members) p 0
-        → At (record { before = b; cell = x; after = getD f b 0; count = n }) ≡ freeGap l ident k p c members
-    gap-found q g z = rw (← g, z, before-link q, h .count)
-
-    -- refused by question 7, 8 or 9, or not
-    module _ (m : ℕ) {r : ℕ} (e : r ≡ askGap l n p c m (λ x. x) 0) where
-      pub gap-shut : (r ≡ 0 → ⊥) → Refused r ≡ gapAt l ident k p c m members
-      unfolding gapAt
-      gap-shut z = rw (← h .count) (sym (asked-number l n p c m e Refused _ ∙ rw (ne-eqb r 0 z)))
-
-      pub gap-open : r ≡ 0 → freeGap l ident k p c members ≡ gapAt l ident k p c m members
-      unfolding gapAt
-      gap-open z = rw (← h .count) (sym (asked-number l n p c m e Refused _ ∙ rw (eq-eqb r 0 z)))
 
 -- where the columns are sound, the links of each list lead round
 pub sound-closed : (l : Layout) (i f b : List ℕ) (count : ℕ → ℕ) (k : ℕ) → Columns l i f b → soundIn l (columns i f b) count ≡ true
@@ -185,12 +145,6 @@ module _ (l : Layout) (v : View) (count : ℕ → ℕ) where
   site-same other (Whole k) h = rw (sound-same l v count other h)
   site-same other (Member k p) h = rw (sound-same l v count other h)
   site-same other (Gap k p c m) h = rw (sound-same l v count other h)
-
--- the site by the columns and the counts is that of the words
-pub site-loaded : (l : Layout) (w i f b : List ℕ) (count : ℕ → ℕ) (q : Request) → Loaded l w i f b
-    → ((k : ℕ) → k < l .lists → count k ≡ countIn l w k) → siteIn l (columns i f b) count q ≡ siteOf l w q
-site-loaded l w i f b count q h c =
-    ap (λ (v : View). siteIn l v count q) (loaded-view l w i f b h) ∙ site-same l (viewOf l w) count (countIn l w) q c
 
 -- an opened store is laid out
 pub opened-laid : (w : List ℕ) (l : Layout) → opened w ≡ O.Open l → Laid l w

@@ -1,12 +1,12 @@
--- `byte_survey::look` meets its contract. A refusal is handed on, and an opened store's words are asked for the site.
+-- `byte_requests::look` meets its contract. A refusal is handed on, and an opened store's words are asked for the site.
 use mathlib.Core.Path.{_≡_, _∙_, sym}
 use borrow.Author.Needs.{needs}
-use Rattle.layout.specs.declared.Opened.the-variants.{Open}
 use Rattle.byte_form.specs.Bytes.{wordsIn}
+use Rattle.layout.specs.declared.Opened.the-variants.{Open}
 use Rattle.layout.specs.Words.{opened}
 use Rattle.requests.proofs.Laws.{opened-laid, look-shut, look-refused, look-at}
-use Rattle.byte_survey.proofs.look.Statement.{statement}
-use Rattle.byte_survey.proofs.look.Tie as tie
+use Rattle.byte_requests.proofs.look.Statement.{statement}
+use Rattle.byte_requests.proofs.look.Tie as tie
 
 -- the store is opened
 is-open : (c : tie.After-l) → opened (wordsIn (c .before .before .before .before .args .bytes .now)) ≡ Open (c .l .given .0 .0)

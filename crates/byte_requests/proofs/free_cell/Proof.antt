@@ -1,0 +1,100 @@
+-- `byte_requests::free_cell` meets its contract. The loop's invariant: the first free node is that of the `rest` nodes from c on.
+use Prim.Native.Nat.{ℕ}
+use mathlib.Core.Path.{_≡_, refl, ap, _∙_, sym}
+use native.Mathlib.Omega.{arith}
+use Rattle.byte_form.specs.Bytes.{wordsIn}
+use Rattle.layout.specs.declared.Layout.{Layout}
+use Rattle.layout.specs.Words.{Laid, Node}
+use Rattle.lists.specs.Decide.{viewOf}
+use Rattle.spans.specs.declared.Cell.{Cell}
+use Rattle.spans.specs.Spans.{Gridded}
+use Rattle.requests.specs.Requests.{around, firstFree}
+use Rattle.requests.proofs.Laws.{next-node, free-here, free-later, free-none}
+use Rattle.byte_requests.proofs.free_cell.Statement.{statement}
+use Rattle.byte_requests.proofs.free_cell.Tie as tie
+
+abbrev Inv-loop : tie.InvT-loop
+Inv-loop bytes l g start n c₀ rest₀ c rest =
+    let ident : ℕ → ℕ = viewOf l (wordsIn bytes) .ident in
+    (Gridded l g × Laid l (wordsIn bytes)) × Node l c
+    × (firstFree ident (around l start n) ≡ firstFree ident (around l c rest))
+
+abbrev μ-loop : tie.MeasureT-loop
+μ-loop bytes l g start n c₀ rest₀ c rest = rest
+
+loop-holds : tie.Need-loop-holds Inv-loop μ-loop
+loop-holds c = let p = c .before .pre in ((p .0, p .1), p .2, refl)
+
+-- the places in the loop, and what is known there
+abbrev At : Type 0
+At = tie.At-loop Inv-loop μ-loop
+
+abbrev layout : At → Layout
+layout h = h .before .before .args .l
+
+abbrev ident : At → ℕ → ℕ
+ident h = viewOf (layout h) (wordsIn (h .before .before .args .bytes .now)) .ident
+
+-- the identifier that is read
+read : (c : tie.After-node Inv-loop μ-loop) → let h = c .before .before in c .node .result .ident ≡ ident h (h .loop .c)
+read c = ap (λ (x : Cell). x .ident) (c .node .ensures)
+
+cast-node : tie.Need-cast-node Inv-loop μ-loop
+cast-node c = omega arith
+
+node-requires : tie.Need-node-requires Inv-loop μ-loop
+node-requires c κs =
+    let i = c .before .loop .inv in
+    (i .0 .0, i .0 .1, i .1)
+
+returns : tie.Need-returns Inv-loop μ-loop
+returns c =
+    let n = c .before .before in
+    let h = n .before .before in
+    let t = h .loop in
+    free-here (layout h) (ident h) (t .c) (t .rest) (n .before .loop-test .taken) (sym (read n) ∙ c .if1 .taken) ∙ sym (t .inv .2)
+
+next-cell-requires : tie.Need-next-cell-requires Inv-loop μ-loop
+next-cell-requires c κs =
+    let i = c .before .before .before .before .loop .inv in
+    (i .0 .1 .inRange, i .1)
+
+sub-rest : tie.Need-sub-rest Inv-loop μ-loop
+sub-rest c = omega (arith, c .before .before .before .before .loop-test .taken)
+
+loop-less : tie.Need-loop-less Inv-loop μ-loop
+loop-less c = omega (arith, c .before .before .before .before .loop-test .taken)
+
+loop-again : tie.Need-loop-again Inv-loop μ-loop
+loop-again c =
+    let e = c .before in
+    let n = e .before .before in
+    let h = n .before .before in
+    let t = h .loop in
+    rw (c .next-cell .ensures) (
+      t .inv .0,
+      next-node (layout h) (t .c) (t .inv .0 .1 .inRange) (t .inv .1),
+      t .inv .2 ∙ free-later (layout h) (ident h) (t .c) (t .rest) (n .before .loop-test .taken) (λ q. e .if1 .left (read n ∙ q)),
+    )
+
+returns-2 : tie.Need-returns-2 Inv-loop μ-loop
+returns-2 c =
+    let h = c .before in
+    let t = h .loop in
+    free-none (layout h) (ident h) (t .c) (t .rest) (omega arith) ∙ sym (t .inv .2)
+
+pub free-cell-spec : {M : Type 1} → statement M
+free-cell-spec =
+    tie.close
+    (tie.spec
+    Inv-loop
+    μ-loop
+    loop-holds
+    cast-node
+    node-requires
+    returns
+    next-cell-requires
+    sub-rest
+    loop-less
+    loop-again
+    returns-2)

@@ -1,0 +1,49 @@
+-- `byte_requests::free_gap` meets its contract: no cell is free, or the site has the first that is.
+use Prim.Native.Nat.{ℕ}
+use mathlib.Core.Path.{ap, _∙_, sym}
+use mathlib.Core.List.{List}
+use borrow.Author.Needs.{needs}
+use Rattle.byte_form.specs.Bytes.{wordsIn}
+use Rattle.lists.specs.Decide.{viewOf, sequenceOf}
+use Rattle.requests.specs.declared.Sited.the-variants.{At}
+use Rattle.requests.proofs.Sites.{gap-full, gap-free}
+use Rattle.byte_requests.proofs.free_gap.Statement.{statement}
+use Rattle.byte_requests.proofs.free_gap.Tie as tie
+
+-- what is known at the start
+abbrev ident : tie.Start → ℕ → ℕ
+ident s = viewOf (s .args .l) (wordsIn (s .args .bytes .now)) .ident
+
+abbrev members : tie.Start → List ℕ
+members s = sequenceOf (s .args .l) (wordsIn (s .args .bytes .now)) (s .args .k)
+
+free-cell-requires : tie.Need-free-cell-requires
+free-cell-requires c κs = let s = c .before in (s .pre .0, s .pre .1, s .pre .4)
+
+enum-told : tie.Need-enum-told
+enum-told c = search needs
+
+enum-known-cell : tie.Need-enum-known-cell
+enum-known-cell c = search needs
+
+gap-site-requires : tie.Need-gap-site-requires
+gap-site-requires c κs = search needs
+
+returns : tie.Need-returns
+returns c =
+    let f = c .before .before in
+    let s = f .before .before in
+    let a = s .args in
+    gap-full (a .l) (ident s) (a .k) (a .p) (a .start) (members s) (sym (c .enum-told .given .1) ∙ f .free-cell .ensures)
+
+returns-2 : tie.Need-returns-2
+returns-2 c =
+    let x = c .before .before in
+    let f = x .before .before in
+    let s = f .before .before in
+    let a = s .args in
+    ap At (c .gap-site .ensures)
+    ∙ gap-free (a .l) (ident s) (a .k) (a .p) (a .start) (members s) (sym (x .cell .given .1) ∙ f .free-cell .ensures)
+
+pub free-gap-spec : {M : Type 1} → statement M
+free-gap-spec = tie.close (tie.spec free-cell-requires enum-told enum-known-cell gap-site-requires returns returns-2)

@@ -1,0 +1,168 @@
+// Questions 1 to 10, put to a store in byte form as crate word_requests puts them to lent words: a cell's words are read from its bytes, and
+// all else is the same.
+use layout::Layout;
+use layout::Opened;
+use requests::Free;
+use requests::Looked;
+use requests::Request;
+use requests::Site;
+use requests::Sited;
+use spans::Grid;
+ghost use mathlib.Core.Path.{_≡_};
+ghost use Prim.Native.Nat.{ℕ, _+_, _<_, _≤_};
+ghost use mathlib.Core.List.{_∷_};
+ghost use lib.ListN.{getD};
+ghost use Rattle.sequences.specs.Sequence.{follow};
+ghost use Rattle.byte_form.specs.Bytes.{wordsIn};
+ghost use Rattle.layout.specs.Words.{Laid, Node, linkWords};
+ghost use Rattle.lists.specs.Decide.{viewOf, sequenceOf};
+ghost use Rattle.spans.specs.Spans.{Gridded};
+ghost use Rattle.requests.specs.Requests.{around, firstFree, memberAt, freeGap, gapAt, siteOf, lookOf};
+ghost use Rattle.requests.specs.Sites.{HeldList, linkIn, gapSite};
+
+// The cell that so many links lead to from cell c; a link is word f of a node.
+fn follow_links(bytes: &[u8], l: Layout, g: Grid, f: usize, c: usize, n: u16) -> usize
+    requires { ⌜ Gridded l g × Laid l (wordsIn (now bytes)) × (f < linkWords) × ((i : ℕ) → i < n → Node l (follow (linkIn l (wordsIn (now bytes)) f) i c)) ⌝ }
+    ensures { λ r. ⌜ r ≡ follow (linkIn l (wordsIn (now (bytes .entry))) f) n c ⌝ }
+{
+    let mut at = c;
+    let mut left = n;
+    while 0 < left {
+        at = byte_walks::link(bytes, g.place(l, at) + f);
+        left -= 1;
+    }
+    at
+}
+
+// Cell q of the ring of list k, which has n members: the header is cell 0, and from the nearer end it is not far.
+fn seek(bytes: &[u8], l: Layout, g: Grid, k: u16, n: u16, q: u16) -> usize
+    requires { ⌜ Gridded l g × Laid l (wordsIn (now bytes)) × HeldList l (viewOf l (wordsIn (now bytes))) k n × (q ≤ n) ⌝ }
+    ensures { λ r. ⌜ r ≡ getD (k ∷ sequenceOf l (wordsIn (now (bytes .entry))) k) q 0 ⌝ }
+{
+    if q == 0 {
+        return k as usize;
+    }
+    let h = byte_walks::header(bytes, l, k);
+    if q <= n - q {
+        return follow_links(bytes, l, g, Layout::FORWARD, h.forward, q - 1);
+    }
+    follow_links(bytes, l, g, Layout::BACK, h.back, n - q)
+}
+
+// The member of list k, which has n members, at position p.
+fn member(bytes: &[u8], l: Layout, g: Grid, k: u16, n: u16, p: u16) -> Sited
+    requires { ⌜ Gridded l g × Laid l (wordsIn (now bytes)) × HeldList l (viewOf l (wordsIn (now bytes))) k n ⌝ }
+    ensures { λ r. ⌜ r ≡ memberAt k p (sequenceOf l (wordsIn (now (bytes .entry))) k) ⌝ }
+{
+    if n <= p {
+        return Sited::Refused(7);
+    }
+    let c = seek(bytes, l, g, k, n, p + 1);
+    let m = byte_walks::node(bytes, l, g, c);
+    Sited::At(Site {
+        before: m.back as u16,
+        cell: c as u16,
+        after: m.forward as u16,
+        count: n,
+    })
+}
+
+// The first free one of n nodes: from the starting cell on, and on from the first node after the last.
+fn free_cell(bytes: &[u8], l: Layout, g: Grid, start: u16, n: u16) -> Free
+    requires { ⌜ Gridded l g × Laid l (wordsIn (now bytes)) × Node l start ⌝ }
+    ensures { λ r. ⌜ r ≡ firstFree (viewOf l (wordsIn (now (bytes .entry))) .ident) (around l start n) ⌝ }
+{
+    let mut c = start;
+    let mut rest = n;
+    while 0 < rest {
+        if byte_walks::node(bytes, l, g, c as usize).ident == 0 {
+            return Free::Cell(c);
+        }
+        c = requests::next_cell(l, c);
+        rest -= 1;
+    }
+    Free::Full
+}
+
+// The gap of list k, which has n members, at position p, for a cell.
+fn gap_site(bytes: &[u8], l: Layout, g: Grid, k: u16, n: u16, p: u16, cell: u16) -> Site
+    requires { ⌜ Gridded l g × Laid l (wordsIn (now bytes)) × HeldList l (viewOf l (wordsIn (now bytes))) k n × (p ≤ n) ⌝ }
+    ensures { λ r. ⌜ r ≡ gapSite k p cell (sequenceOf l (wordsIn (now (bytes .entry))) k) ⌝ }
+{
+    let before = seek(bytes, l, g, k, n, p);
+    let b = byte_walks::cell(bytes, l, g, before);
+    Site {
+        before: before as u16,
+        cell,
+        after: b.forward as u16,
+        count: n,
+    }
+}
+
+// Question 10: the gap of list k, which has n members, at position p, and a free cell.
+fn free_gap(bytes: &[u8], l: Layout, g: Grid, k: u16, n: u16, p: u16, start: u16) -> Sited
+    requires { ⌜ Gridded l g × Laid l (wordsIn (now bytes)) × HeldList l (viewOf l (wordsIn (now bytes))) k n × (p ≤ n) × Node l start ⌝ }
+    ensures { λ r. ⌜ r ≡ freeGap l (viewOf l (wordsIn (now (bytes .entry))) .ident) k p start (sequenceOf l (wordsIn (now (bytes .entry))) k) ⌝ }
+{
+    match free_cell(bytes, l, g, start, l.nodes) {
+        Free::Full => Sited::Refused(10),
+        Free::Cell(cell) => Sited::At(gap_site(bytes, l, g, k, n, p, cell)),
+    }
+}
+
+// The gap of list k, which has n members, at position p, and a free cell for a record of so many words.
+fn gap(bytes: &[u8], l: Layout, g: Grid, k: u16, n: u16, p: u16, start: u16, size: usize) -> Sited
+    requires { ⌜ Gridded l g × Laid l (wordsIn (now bytes)) × HeldList l (viewOf l (wordsIn (now bytes))) k n ⌝ }
+    ensures { λ r. ⌜ r ≡ gapAt l (viewOf l (wordsIn (now (bytes .entry))) .ident) k p start size (sequenceOf l (wordsIn (now (bytes .entry))) k) ⌝ }
+{
+    let refusal = requests::gap_number(l, n, p, start, size);
+    if refusal != 0 {
+        return Sited::Refused(refusal);
+    }
+    free_gap(bytes, l, g, k, n, p, start)
+}
+
+// The site that a request gets.
+fn site_of(bytes: &[u8], l: Layout, q: Request) -> Sited
+    requires { ⌜ Laid l (wordsIn (now bytes)) ⌝ }
+    ensures { λ r. ⌜ r ≡ siteOf l (wordsIn (now (bytes .entry))) q ⌝ }
+{
+    let k = requests::list_of(q);
+    if l.lists <= k {
+        return Sited::Refused(5);
+    }
+    if !byte_walks::sound_in(bytes, l) {
+        return Sited::Refused(6);
+    }
+    let g = Grid::of(l);
+    let n = byte_walks::count(bytes, l, k);
+    match q {
+        Request::Check => Sited::At(Site {
+            before: 0,
+            cell: 0,
+            after: 0,
+            count: 0,
+        }),
+        Request::Whole(k) => Sited::At(Site {
+            before: k,
+            cell: k,
+            after: k,
+            count: n,
+        }),
+        Request::Member(k, p) => member(bytes, l, g, k, n, p),
+        Request::Gap(k, p, start, size) => gap(bytes, l, g, k, n, p, start, size),
+    }
+}
+
+// All questions of a call.
+pub fn look(bytes: &[u8], q: Request) -> Looked
+    ensures { λ r. ⌜ r ≡ lookOf (wordsIn (now (bytes .entry))) q ⌝ }
+{
+    match byte_survey::open(bytes) {
+        Opened::Refused(n) => Looked::Refused(n),
+        Opened::Open(l) => match site_of(bytes, l, q) {
+            Sited::Refused(n) => Looked::Refused(n),
+            Sited::At(t) => Looked::At(l, t),
+        },
+    }
+}
