@@ -1,6 +1,6 @@
 -- Laws of a whole listing: its cases, and that it is never too long.
 use Prim.Native.Nat.{ℕ, zero, suc, _+_, _*_, _%_, _≤_, _<_}
-use mathlib.Core.Path.{_≡_, refl, ap}
+use mathlib.Core.Path.{_≡_, refl}
 use mathlib.Core.List.{List, [], _∷_, _++_}
 use mathlib.Core.Bool.{Bool, true, false, and-eq-true-iff}
 use native.Mathlib.Omega.{arith}
@@ -9,29 +9,29 @@ use lib.Dec.{eqb}
 use lib.ListN.{length, getD, drop, length-append, length-take}
 use lib.Seq.{getD-take, getD-drop}
 use borrow.Author.Tests.{le-leb, lt-leb, eq-eqb, ne-eqb, eqb-true}
-use Rattle.sequences.proofs.Trail.{trail-length}
+use Rattle.sequences.proofs.Members.{all-nth}
+use Rattle.sequences.proofs.Trail.{trail-length, trail-inside}
 use Rattle.layout.specs.declared.Layout.{Layout}
 use Rattle.layout.specs.declared.Opened.the-variants as O
-use Rattle.layout.specs.Words.{mostWidth, ask, InRange, firstNode, isNode, recordAt, opened}
-use Rattle.lists.specs.Decide.{View, viewOf, countIn, sequenceIn, soundIn, allHold, members, used, soundOf}
+use Rattle.layout.specs.Words.{mostWidth, InRange, firstNode, isNode, recordAt, opened}
+use Rattle.layout.proofs.Laws.{is-node}
+use Rattle.lists.specs.Decide.{viewOf, countIn, soundIn, allHold, members, used, sequenceOf, soundOf}
 use Rattle.lists.proofs.Stepwise.{members-more, used-length}
-use Rattle.survey.specs.Survey.{columns, Loaded}
-use Rattle.survey.proofs.Laws.{loaded-view, sound-loaded, before-cell}
 use Rattle.requests.specs.Requests.{siteIn, lookOf}
 use Rattle.edits.specs.Edited.{recordIn}
 use Rattle.byte_form.specs.Bytes.{wordsIn}
 use Rattle.writing.specs.Text.{codes, decimal, overwritten, Wrote, Room, spaced}
-use Rattle.listing_text.specs.Listing.{recordLine, recordLines, listLine, listLines, listsFrom, refusedLine, soundLines, listedBy, listedOf, listingOf, mostBytes, byteListing, longest}
+use Rattle.listing_text.specs.Listing.{recordLine, recordLines, listLine, listLines, listsFrom, refusedLine, soundLines, listedOf, listingOf, mostBytes, byteListing, longest}
 use Rattle.writing.proofs.Writing.{decimal-short, wrote-over}
 
 -- the cases of a listing
-module _ (l : Layout) (w : List ℕ) (v : View) (count : ℕ → ℕ) where
-  pub listed-sound : soundIn l v count ≡ true → listedBy l w v count ≡ listsFrom l w (sequenceIn l v) 0 (l .lists) ++ codes "sound\n"
-  unfolding listedBy soundLines
+module _ (l : Layout) (w : List ℕ) where
+  pub listed-sound : soundOf l w ≡ true → listedOf l w ≡ listsFrom l w (sequenceOf l w) 0 (l .lists) ++ codes "sound\n"
+  unfolding listedOf soundLines
   listed-sound e = rw e
 
-  pub listed-unsound : soundIn l v count ≡ false → listedBy l w v count ≡ refusedLine 6
-  unfolding listedBy
+  pub listed-unsound : soundOf l w ≡ false → listedOf l w ≡ refusedLine 6
+  unfolding listedOf
   listed-unsound e = rw e
 
 module _ (w : List ℕ) where
@@ -40,20 +40,12 @@ module _ (w : List ℕ) where
   listing-shut e = rw e
 
   pub listing-open : {l : Layout} → opened w ≡ O.Open l → listingOf w ≡ listedOf l w
-  unfolding listingOf lookOf siteIn listedBy
-  listing-open {l} e = by (soundIn l (viewOf l w) (countIn l w)) refl
+  unfolding listingOf lookOf siteIn listedOf
+  listing-open {l} e = by (soundOf l w) refl
     where
-      by : (b : Bool) → soundIn l (viewOf l w) (countIn l w) ≡ b → listingOf w ≡ listedOf l w
+      by : (b : Bool) → soundOf l w ≡ b → listingOf w ≡ listedOf l w
       by true s = rw (e, s)
       by false s = rw (e, s)
-
--- the listing by the columns and the counts is that of the words
-pub listed-loaded : (l : Layout) (w i f b : List ℕ) (count : ℕ → ℕ) → Loaded l w i f b
-    → ((k : ℕ) → k < l .lists → count k ≡ countIn l w k) → listedBy l w (columns i f b) count ≡ listedOf l w
-unfolding listedBy
-listed-loaded l w i f b count h c =
-    rw (sound-loaded l w i f b count h c refl)
-    (ap (λ (v : View). ask (soundOf l w) (refusedLine 6) (soundLines l w (sequenceIn l v))) (loaded-view l w i f b h))
 
 -- numbers of 16 bits, by their places in a row
 abbrev pub Small : List ℕ → Type 0
@@ -126,59 +118,72 @@ module _ (l : Layout) (w : List ℕ) (r : InRange l) (small : (i : ℕ) → getD
         records-short (suc p) s (λ i g. h (suc i) (omega arith)) (omega arith),
       )
 
-  module _ (v : View) where
-    list-short : (k : ℕ) → k < l .lists → length (listLines l w k (sequenceIn l v k)) ≤ 23 + 90 * length (sequenceIn l v k)
-    unfolding listLines
-    list-short k h =
-        let s = sequenceIn l v k in
-        let few : length s ≤ l .nodes = trail-length (v .forward) (isNode l) (l .nodes) (v .forward k) in
-        omega (
-          arith,
-          length-append (listLine k (length s)) (recordLines l w 0 s),
-          line-short k (length s) (omega (arith, r .lists)) (omega (arith, r .nodes)),
-          records-short 0 s (λ i g. omega (arith, before-cell l v k (suc i) h (omega arith), r .lists, r .nodes)) (omega (arith, r .nodes)),
-        )
+  -- the members of a list are nodes
+  members-small : (k : ℕ) → Small (sequenceOf l w k)
+  members-small k i h =
+      let v = viewOf l w in
+      omega (
+        arith,
+        is-node l (getD (sequenceOf l w k) i 0)
+            (all-nth (λ c. isNode l c ≡ true) (sequenceOf l w k) i 0 (trail-inside (v .forward) (isNode l) (l .nodes) (v .forward k)) h) .high,
+        r .lists,
+        r .nodes,
+      )
 
-    lists-short : (n k : ℕ) → k + n ≤ l .lists
-        → length (listsFrom l w (sequenceIn l v) k n) + 90 * length (members l v k) ≤ 23 * n + 90 * length (members l v (k + n))
-    unfolding listsFrom
-    lists-short zero k h = let e : k + 0 ≡ k = omega arith in rw e (omega arith)
-    lists-short (suc n) k h =
-        let e : k + suc n ≡ suc k + n = omega arith in
-        let m = rw add-one at (members-more l v k) in
-        rw e
-        (omega (
-          arith,
-          length-append (listLines l w k (sequenceIn l v k)) (listsFrom l w (sequenceIn l v) (suc k) n),
-          list-short k (omega arith),
-          m,
-          lists-short n (suc k) (omega arith),
-        ))
+  list-short : (k : ℕ) → k < l .lists → length (listLines l w k (sequenceOf l w k)) ≤ 23 + 90 * length (sequenceOf l w k)
+  unfolding listLines
+  list-short k h =
+      let s = sequenceOf l w k in
+      let v = viewOf l w in
+      let few : length s ≤ l .nodes = trail-length (v .forward) (isNode l) (l .nodes) (v .forward k) in
+      omega (
+        arith,
+        length-append (listLine k (length s)) (recordLines l w 0 s),
+        line-short k (length s) (omega (arith, r .lists)) (omega (arith, r .nodes)),
+        records-short 0 s (members-small k) (omega (arith, r .nodes)),
+      )
 
-    -- as many members as nodes with an identifier
-    members-few : (count : ℕ → ℕ) → soundIn l v count ≡ true → length (members l v (l .lists)) ≤ l .nodes
-    unfolding soundIn
-    members-few count e =
-        let u = used v (firstNode l) (l .nodes) in
-        let b = and-eq-true-iff (allHold l v count (l .lists)) (eqb (length (members l v (l .lists))) (length u)) .0 e in
-        omega (arith, eqb-true (length (members l v (l .lists))) (length u) (b .1), used-length v (firstNode l) (l .nodes))
+  lists-short : (n k : ℕ) → k + n ≤ l .lists
+      → length (listsFrom l w (sequenceOf l w) k n) + 90 * length (members l (viewOf l w) k) ≤ 23 * n + 90 * length (members l (viewOf l w) (k + n))
+  unfolding listsFrom
+  lists-short zero k h = let e : k + 0 ≡ k = omega arith in rw e (omega arith)
+  lists-short (suc n) k h =
+      let e : k + suc n ≡ suc k + n = omega arith in
+      let m = rw add-one at (members-more l (viewOf l w) k) in
+      rw e
+      (omega (
+        arith,
+        length-append (listLines l w k (sequenceOf l w k)) (listsFrom l w (sequenceOf l w) (suc k) n),
+        list-short k (omega arith),
+        m,
+        lists-short n (suc k) (omega arith),
+      ))
 
-    pub listed-short : (count : ℕ → ℕ) → length (listedBy l w v count) ≤ longest
-    listed-short count = by (soundIn l v count) refl
-      where
-        by : (b : Bool) → soundIn l v count ≡ b → length (listedBy l w v count) ≤ longest
-        by false e = rw (listed-unsound l w v count e) (refused-short 6 (omega arith))
-        by true e =
-            let z : 0 + l .lists ≡ l .lists = omega arith in
-            rw (listed-sound l w v count e)
-            (omega (
-              arith,
-              length-append (listsFrom l w (sequenceIn l v) 0 (l .lists)) (codes "sound\n"),
-              rw z at (lists-short (l .lists) 0 (omega arith)),
-              members-few count e,
-              r .lists,
-              r .nodes,
-            ))
+  -- as many members as nodes with an identifier
+  members-few : soundOf l w ≡ true → length (members l (viewOf l w) (l .lists)) ≤ l .nodes
+  unfolding soundIn
+  members-few e =
+      let v = viewOf l w in
+      let u = used v (firstNode l) (l .nodes) in
+      let b = and-eq-true-iff (allHold l v (countIn l w) (l .lists)) (eqb (length (members l v (l .lists))) (length u)) .0 e in
+      omega (arith, eqb-true (length (members l v (l .lists))) (length u) (b .1), used-length v (firstNode l) (l .nodes))
+
+  pub listed-short : length (listedOf l w) ≤ longest
+  listed-short = by (soundOf l w) refl
+    where
+      by : (b : Bool) → soundOf l w ≡ b → length (listedOf l w) ≤ longest
+      by false e = rw (listed-unsound l w e) (refused-short 6 (omega arith))
+      by true e =
+          let z : 0 + l .lists ≡ l .lists = omega arith in
+          rw (listed-sound l w e)
+          (omega (
+            arith,
+            length-append (listsFrom l w (sequenceOf l w) 0 (l .lists)) (codes "sound\n"),
+            rw z at (lists-short (l .lists) 0 (omega arith)),
+            members-few e,
+            r .lists,
+            r .nodes,
+          ))
 
 -- the cases of a listing of bytes
 module _ (bytes : List ℕ) where

@@ -12,7 +12,7 @@ use Rattle.layout.specs.Words.{layoutOf, checkWords, nodeAt, cellAt, sizeOf, ma
 use Rattle.layout.proofs.Laws.{size-most}
 use Rattle.sequences.specs.Sequence.{trail}
 use Rattle.lists.specs.Lists.{Sound}
-use Rattle.lists.specs.Decide.{viewOf, countIn, sequenceOf, turn, holds, allHold, members, used, soundIn}
+use Rattle.lists.specs.Decide.{sequenceOf, turn, holds, allHold, members, used, soundIn}
 use Rattle.lists.proofs.Unique.{list-sequence}
 use Rattle.requests.specs.declared.Request.the-variants.{Check}
 use Rattle.requests.specs.declared.Looked.{Looked}
@@ -48,7 +48,7 @@ pub listing-sound : (w : List ℕ) (s : Sound w) → listingOf w ≡ soundLines 
 unfolding soundLines
 listing-sound w s =
     let l = layoutOf w in
-    listing-open w (sound-opened w s) ∙ listed-sound l w (viewOf l w) (countIn l w) (sound-decided w s)
+    listing-open w (sound-opened w s) ∙ listed-sound l w (sound-decided w s)
     ∙ ap (λ (x : List ℕ). x ++ codes "sound\n")
     (lists-same l w (sequenceOf l w) (s .lists .sequence) 0 (l .lists) (omega arith)
     (λ k h. list-sequence l w k h (s .lists .sequence k) (s .lists .lists k h)))

@@ -1,13 +1,13 @@
 -- The listing of a store.
-use Prim.Native.Nat.{ℕ, zero, suc, _+_, _*_, _%_, _<_}
+use Prim.Native.Nat.{ℕ, zero, suc, _+_, _*_, _%_}
 use mathlib.Core.List.{List, [], _∷_, _++_}
 use lib.Dec.{eqb, leb}
-use lib.ListN.{length, getD}
+use lib.ListN.{length}
 use Rattle.layout.specs.declared.Layout.{Layout}
 use Rattle.layout.specs.Words.{mostLists, mostNodes, ask}
-use Rattle.lists.specs.Decide.{View, viewOf, countIn, sequenceIn, soundIn, sequenceOf}
+use Rattle.lists.specs.Decide.{sequenceOf, soundOf}
 use Rattle.requests.specs.declared.Request.the-variants.{Check}
-use Rattle.requests.specs.Requests.{lookOf, withLook, Closed}
+use Rattle.requests.specs.Requests.{lookOf, withLook}
 use Rattle.edits.specs.Edited.{recordIn}
 use Rattle.byte_form.specs.Bytes.{wordsIn}
 use Rattle.writing.specs.Text.{codes, decimal, spaced}
@@ -56,18 +56,10 @@ byteListing bytes =
     (ask (eqb (length bytes % 2) 0) (refusedLine 4)
     (listingOf (wordsIn bytes)))
 
--- the same as the code comes to it: by a view of the cells and the counts of the lists, question 6 and then the lists
-unfoldable pub listedBy : Layout → List ℕ → View → (ℕ → ℕ) → List ℕ
-listedBy l w v count = ask (soundIn l v count) (refusedLine 6) (soundLines l w (sequenceIn l v))
-
--- and by the words of a store with layout l
-abbrev pub listedOf : Layout → List ℕ → List ℕ
-listedOf l w = listedBy l w (viewOf l w) (countIn l w)
+-- the listing of the words of a store with layout l, as the code comes to it: question 6, and then the lists
+unfoldable pub listedOf : Layout → List ℕ → List ℕ
+listedOf l w = ask (soundOf l w) (refusedLine 6) (soundLines l w (sequenceOf l w))
 
 -- no listing is longer: 8 lines of at most 23 characters, 2,000 of at most 90, and one of 6
 abbrev pub longest : ℕ
 longest = mostLists * 23 + mostNodes * 90 + 6
-
--- a forward column in which the links of each list lead round as many members as it counts
-abbrev pub AllClosed : Layout → List ℕ → List ℕ → Type 0
-AllClosed l f counts = (k : ℕ) → k < l .lists → Closed l f k (getD counts k 0)

@@ -4,16 +4,19 @@
 // Each function writes its text from place n of the buffer on, and answers the place behind it.
 use layout::Layout;
 use layout::Opened;
+use spans::Grid;
 ghost use mathlib.Core.Path.{_≡_};
-ghost use Prim.Native.Nat.{_*_, _≤_};
-ghost use lib.ListN.{length, getD};
+ghost use Prim.Native.Nat.{_*_, _≤_, _<_};
+ghost use mathlib.Core.Bool.{true};
+ghost use lib.ListN.{length};
 ghost use Rattle.layout.specs.Words.{Laid, Node};
-ghost use Rattle.survey.specs.Survey.{columns, Columns};
-ghost use Rattle.requests.specs.Requests.{sequenceBy, Closed};
+ghost use Rattle.lists.specs.Decide.{viewOf, sequenceOf, soundOf};
+ghost use Rattle.spans.specs.Spans.{Gridded};
+ghost use Rattle.requests.specs.Sites.{HeldList};
 ghost use Rattle.edits.specs.Edited.{recordIn};
 ghost use Rattle.writing.specs.Text.{overwritten, Wrote, Room};
 ghost use Rattle.byte_form.specs.Bytes.{wordsIn};
-ghost use Rattle.listing_text.specs.Listing.{recordLine, recordLines, listLine, listLines, listsFrom, refusedLine, listedBy, listedOf, listingOf, mostBytes, byteListing, longest, AllClosed};
+ghost use Rattle.listing_text.specs.Listing.{recordLine, recordLines, listLine, listLines, listsFrom, refusedLine, listedOf, listingOf, mostBytes, byteListing, longest};
 
 // The most bytes of a store.
 pub const MAX_BYTES: usize = 2 * Layout::MAX_WORDS;
@@ -66,19 +69,19 @@ fn record_lines(
     out: &mut [u8],
     n: usize,
     words: &[u16],
-    forwards: &[u16],
     l: Layout,
+    g: Grid,
     k: u16,
     count: u16,
 ) -> usize
-    requires { ⌜ Laid l (now words) × Closed l (now forwards) k count × Room n (recordLines l (now words) 0 (sequenceBy l (now forwards) k)) ⌝ }
-    ensures { λ r. ⌜ Wrote (now (out .entry)) n (recordLines l (now (words .entry)) 0 (sequenceBy l (now (forwards .entry)) k)) (now (out .exit)) r ⌝ }
+    requires { ⌜ Gridded l g × Laid l (now words) × HeldList l (viewOf l (now words)) k count × Room n (recordLines l (now words) 0 (sequenceOf l (now words) k)) ⌝ }
+    ensures { λ r. ⌜ Wrote (now (out .entry)) n (recordLines l (now (words .entry)) 0 (sequenceOf l (now (words .entry)) k)) (now (out .exit)) r ⌝ }
 {
     let mut m = n;
     let mut c = k;
     let mut p: u16 = 0;
     while p < count {
-        c = forwards[c as usize];
+        c = word_walks::cell(words, l, g, c as usize).forward as u16;
         m = record_line(out, m, p, c, record_of(words, l, c));
         p += 1;
     }
@@ -86,104 +89,39 @@ fn record_lines(
 }
 
 // All lines of list k.
-fn list_lines(
-    out: &mut [u8],
-    n: usize,
-    words: &[u16],
-    forwards: &[u16],
-    l: Layout,
-    k: u16,
-    count: u16,
-) -> usize
-    requires { ⌜ Laid l (now words) × Closed l (now forwards) k count × Room n (listLines l (now words) k (sequenceBy l (now forwards) k)) ⌝ }
-    ensures { λ r. ⌜ Wrote (now (out .entry)) n (listLines l (now (words .entry)) k (sequenceBy l (now (forwards .entry)) k)) (now (out .exit)) r ⌝ }
+fn list_lines(out: &mut [u8], n: usize, words: &[u16], l: Layout, g: Grid, k: u16) -> usize
+    requires { ⌜ Gridded l g × Laid l (now words) × (k < l .lists) × (soundOf l (now words) ≡ true) × Room n (listLines l (now words) k (sequenceOf l (now words) k)) ⌝ }
+    ensures { λ r. ⌜ Wrote (now (out .entry)) n (listLines l (now (words .entry)) k (sequenceOf l (now (words .entry)) k)) (now (out .exit)) r ⌝ }
 {
+    let count = word_walks::count(words, l, k);
     let m = list_line(out, n, k, count);
-    record_lines(out, m, words, forwards, l, k, count)
+    record_lines(out, m, words, l, g, k, count)
 }
 
 // The lines of all lists.
-fn all_lists(
-    out: &mut [u8],
-    n: usize,
-    words: &[u16],
-    forwards: &[u16],
-    counts: [u16; Layout::MAX_LISTS],
-    l: Layout,
-) -> usize
-    requires { ⌜ Laid l (now words) × AllClosed l (now forwards) counts × Room n (listsFrom l (now words) (sequenceBy l (now forwards)) 0 (l .lists)) ⌝ }
-    ensures { λ r. ⌜ Wrote (now (out .entry)) n (listsFrom l (now (words .entry)) (sequenceBy l (now (forwards .entry))) 0 (l .lists)) (now (out .exit)) r ⌝ }
+fn all_lists(out: &mut [u8], n: usize, words: &[u16], l: Layout, g: Grid) -> usize
+    requires { ⌜ Gridded l g × Laid l (now words) × (soundOf l (now words) ≡ true) × Room n (listsFrom l (now words) (sequenceOf l (now words)) 0 (l .lists)) ⌝ }
+    ensures { λ r. ⌜ Wrote (now (out .entry)) n (listsFrom l (now (words .entry)) (sequenceOf l (now (words .entry))) 0 (l .lists)) (now (out .exit)) r ⌝ }
 {
     let mut m = n;
     let mut k: u16 = 0;
     while k < l.lists {
-        m = list_lines(out, m, words, forwards, l, k, counts[k as usize]);
+        m = list_lines(out, m, words, l, g, k);
         k += 1;
     }
     m
 }
 
-// The listing by the columns and the counts: question 6, and the lists.
-fn listing_by(
-    out: &mut [u8],
-    words: &[u16],
-    idents: &[u16],
-    forwards: &[u16],
-    backs: &[u16],
-    counts: [u16; Layout::MAX_LISTS],
-    l: Layout,
-) -> usize
-    requires { ⌜ Laid l (now words) × Columns l (now idents) (now forwards) (now backs) × Room 0 (listedBy l (now words) (columns (now idents) (now forwards) (now backs)) (λ k. getD counts k 0)) ⌝ }
-    ensures { λ r. ⌜ Wrote (now (out .entry)) 0 (listedBy l (now (words .entry)) (columns (now (idents .entry)) (now (forwards .entry)) (now (backs .entry))) (λ k. getD counts k 0)) (now (out .exit)) r ⌝ }
-{
-    if !survey::sound(idents, forwards, backs, counts, l) {
-        return refused_line(out, 0, 6);
-    }
-    let m = all_lists(out, 0, words, forwards, counts, l);
-    writing::text(out, m, b"sound\n")
-}
-
-// The same by the lent words, which are read into the columns.
-fn listing_in(
-    out: &mut [u8],
-    words: &[u16],
-    l: Layout,
-    idents: &mut [u16],
-    forwards: &mut [u16],
-    backs: &mut [u16],
-) -> usize
-    requires { ⌜ Laid l (now words) × Columns l (now idents) (now forwards) (now backs) × Room 0 (listedOf l (now words)) ⌝ }
-    ensures { λ r. ⌜ Wrote (now (out .entry)) 0 (listedOf l (now (words .entry))) (now (out .exit)) r ⌝ }
-{
-    survey::load(words, l, idents, forwards, backs);
-    listing_by(
-        out,
-        words,
-        idents,
-        forwards,
-        backs,
-        survey::all_counts(words, l),
-        l,
-    )
-}
-
-// The same with columns of its own.
-fn listing_with(out: &mut [u8], words: &[u16], l: Layout) -> usize
+// The listing of words with a layout: question 6, and the lists.
+fn listing_in(out: &mut [u8], words: &[u16], l: Layout) -> usize
     requires { ⌜ Laid l (now words) × Room 0 (listedOf l (now words)) ⌝ }
     ensures { λ r. ⌜ Wrote (now (out .entry)) 0 (listedOf l (now (words .entry))) (now (out .exit)) r ⌝ }
 {
-    let n = l.cell_count() as usize;
-    let mut idents = survey::column();
-    let mut forwards = survey::column();
-    let mut backs = survey::column();
-    listing_in(
-        out,
-        words,
-        l,
-        &mut idents[..n],
-        &mut forwards[..n],
-        &mut backs[..n],
-    )
+    if !word_walks::sound_in(words, l) {
+        return refused_line(out, 0, 6);
+    }
+    let m = all_lists(out, 0, words, l, Grid::of(l));
+    writing::text(out, m, b"sound\n")
 }
 
 // The listing of the lent words.
@@ -194,7 +132,7 @@ pub fn listing(words: &[u16], out: &mut [u8]) -> usize
 {
     match layout::open(words) {
         Opened::Refused(n) => refused_line(out, 0, n),
-        Opened::Open(l) => listing_with(out, words, l),
+        Opened::Open(l) => listing_in(out, words, l),
     }
 }
 

@@ -1,29 +1,25 @@
--- Laws of the search for a free node, of a list in a column, and of the questions of a request.
+-- Laws of the search for a free node, and of the questions of a request.
 use Prim.Native.Nat.{ℕ, suc, _+_, _-_, _≤_, _<_}
 use mathlib.Core.Path.{_≡_, refl, sym, ap, _∙_}
-use mathlib.Core.List.{List, _∷_}
+use mathlib.Core.List.{List}
 use mathlib.Core.Bool.{Bool, true, false}
 use native.Mathlib.Omega.{arith}
 use native.Mathlib.Decide.{ℕ-discrete}
 use lib.Dec.{eqb, leb}
-use lib.ListN.{length, getD}
 use borrow.Author.Tests.{lt-ltb, le-ltb, eq-eqb, ne-eqb, leb-true, eqb-true}
 use Rattle.layout.specs.declared.Layout.{Layout}
 use Rattle.layout.specs.declared.Opened.the-variants as O
 use Rattle.layout.specs.Words.{firstNode, cellCount, Node, isNode, InRange, Laid, ask, opened}
 use Rattle.layout.proofs.Laws.{opened-open, is-node}
 use Rattle.lists.specs.Decide.{View, sequenceIn, soundIn}
-use Rattle.lists.proofs.Agree.{holds-true}
-use Rattle.lists.proofs.Stepwise.{sound-hold, sound-count, sound-same}
-use Rattle.survey.specs.Survey.{columns, Columns}
-use Rattle.survey.proofs.Laws.{before-next, before-cell}
+use Rattle.lists.proofs.Stepwise.{sound-count, sound-same}
 use Rattle.requests.specs.declared.Free.the-variants.{Cell, Full}
 use Rattle.requests.specs.declared.Site.{Site}
 use Rattle.requests.specs.declared.Request.{Request}
 use Rattle.requests.specs.declared.Request.the-variants.{Check, Whole, Member, Gap}
 use Rattle.requests.specs.declared.Sited.the-variants.{At, Refused}
 use Rattle.requests.specs.declared.Looked.the-variants as K
-use Rattle.requests.specs.Requests.{nextCell, around, firstFree, memberAt, askGap, gapAt, siteIn, listOf, siteOf, lookOf, sequenceBy, Closed}
+use Rattle.requests.specs.Requests.{nextCell, around, firstFree, memberAt, askGap, gapAt, siteIn, listOf, siteOf, lookOf}
 
 -- the node after a node: the first after the last, else the next
 module _ (l : Layout) (c : ℕ) where
@@ -81,27 +77,6 @@ module _ (l : Layout) (n p c m : ℕ) {r : ℕ} (e : r ≡ askGap l n p c m (λ 
       by true true false = refl
       by true false d = refl
       by false b d = refl
-
--- a list whose links lead round its n members
-module _ {l : Layout} {f : List ℕ} {k n : ℕ} (h : Closed l f k n) (p : ℕ) where
-  abbrev members : List ℕ
-  members = sequenceBy l f k
-
-  -- the cell before the position is in the column
-  pub before-in : p ≤ n → getD (k ∷ members) p 0 < length f
-  before-in q = omega (arith, before-cell l (columns f f f) k p (h .list) (omega arith))
-
-  -- it leads to the member at the position
-  pub member-before : p < n → getD f (getD (k ∷ members) p 0) 0 ≡ getD members p 0
-  member-before q = before-next l (columns f f f) k p (omega arith)
-
--- where the columns are sound, the links of each list lead round
-pub sound-closed : (l : Layout) (i f b : List ℕ) (count : ℕ → ℕ) (k : ℕ) → Columns l i f b → soundIn l (columns i f b) count ≡ true
-    → k < l .lists → Closed l f k (count k)
-sound-closed l i f b count k c e h =
-    let v = columns i f b in
-    let r = holds-true v k (count k) (sequenceIn l v k) (sound-hold l v count e k h) in
-    record { inRange = c .inRange; column = c .forwards; list = h; count = r .count; forward = r .turn .forwards }
 
 module _ (l : Layout) (v : View) (count : ℕ → ℕ) where
   -- question 5 of a request that names a list beyond the last; a check names none

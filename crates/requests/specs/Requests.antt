@@ -1,15 +1,12 @@
 -- Questions 5 to 10: what a call asks for, and the site in the lists that it gets.
-use Prim.Native.Nat.{ℕ, zero, suc, _+_, _<_}
-use mathlib.Core.Path.{_≡_}
+use Prim.Native.Nat.{ℕ, zero, suc, _+_}
 use mathlib.Core.List.{List, [], _∷_, _++_}
 use mathlib.Core.Bool.{cond}
 use lib.Dec.{eqb, leb, ltb}
 use lib.ListN.{length, getD}
-use Rattle.sequences.specs.Sequence.{Forward}
 use Rattle.layout.specs.declared.Layout.{Layout}
-use Rattle.layout.specs.Words.{InRange, ask, firstNode, cellCount, isNode, opened, afterOpen}
+use Rattle.layout.specs.Words.{ask, firstNode, cellCount, isNode, opened, afterOpen}
 use Rattle.lists.specs.Decide.{View, viewOf, countIn, sequenceIn, soundIn}
-use Rattle.survey.specs.Survey.{columns}
 use Rattle.requests.specs.declared.Free.{Free}
 use Rattle.requests.specs.declared.Free.the-variants.{Cell, Full}
 use Rattle.requests.specs.declared.Site.{Site}
@@ -97,14 +94,3 @@ lookOf w q = afterOpen (opened w) K.Refused (λ l. withSite (siteOf l w q) K.Ref
 abbrev pub withLook {ℓ} : {A : Type ℓ} → Looked → (ℕ → A) → (Layout → Site → A) → A
 withLook (K.Refused n) refuse rest = refuse n
 withLook (K.At l t) refuse rest = rest l t
-
--- a forward column in which the links of list k lead round its n members
-abbrev pub sequenceBy : Layout → List ℕ → ℕ → List ℕ
-sequenceBy l f k = sequenceIn l (columns f f f) k
-
-pub record Closed (l : Layout) (f : List ℕ) (k n : ℕ) : Type 0 where
-  pub inRange : InRange l
-  pub column : length f ≡ cellCount l
-  pub list : k < l .lists
-  pub count : n ≡ length (sequenceBy l f k)
-  pub forward : Forward (λ c. getD f c 0) k (sequenceBy l f k) k

@@ -6,7 +6,6 @@ use native.Mathlib.Omega.{arith}
 use lib.ListN.{length}
 use Rattle.layout.specs.declared.Opened.the-variants.{Open}
 use Rattle.layout.specs.Words.{opened, Laid}
-use Rattle.lists.specs.Decide.{viewOf, countIn}
 use Rattle.requests.proofs.Laws.{opened-laid}
 use Rattle.listing_text.specs.Listing.{refusedLine, listedOf, longest}
 use Rattle.listing_text.proofs.Listed.{listing-shut, listing-open, refused-short, short-room, wrote-all, listed-short}
@@ -24,7 +23,7 @@ open-short : (c : tie.After-l) → length (listedOf (c .l .given .0 .0) (c .befo
 open-short c =
     let w = c .before .before .before .before .before .args .words .now in
     let l = c .l .given .0 .0 in
-    listed-short l w (laid c .inRange) (λ i. omega (arith, c .before .before .before .before .shared-slice-known .given i)) (viewOf l w) (countIn l w)
+    listed-short l w (laid c .inRange) (λ i. omega (arith, c .before .before .before .before .shared-slice-known .given i))
 
 shut-short : (c : tie.After-known-told) → length (refusedLine (c .before .n .given .0 .0)) ≤ longest
 shut-short c = refused-short (c .before .n .given .0 .0) (omega (arith, c .known-told .given))
@@ -41,8 +40,8 @@ refused-line-requires c κs = short-room (shut-short (c .before))
 enum-known-l : tie.Need-enum-known-l
 enum-known-l c = search needs
 
-listing-with-requires : tie.Need-listing-with-requires
-listing-with-requires c κs = (laid (c .before .before), short-room (open-short (c .before .before)))
+listing-in-requires : tie.Need-listing-in-requires
+listing-in-requires c κs = (laid (c .before .before), short-room (open-short (c .before .before)))
 
 same-length : tie.Need-same-length
 same-length c = search needs
@@ -56,7 +55,7 @@ same-length-2 : tie.Need-same-length-2
 same-length-2 c = search needs
 
 returns-2 : tie.Need-returns-2
-returns-2 c = let l = c .before .before .before .before .before in wrote-all (listing-open _ (is-open l)) (open-short l) (c .before .before .listing-with .ensures)
+returns-2 c = let l = c .before .before .before .before .before in wrote-all (listing-open _ (is-open l)) (open-short l) (c .before .before .listing-in .ensures)
 
 pub listing-spec : {M : Type 1} → statement M
 listing-spec =
@@ -66,7 +65,7 @@ listing-spec =
     enum-known-n
     refused-line-requires
     enum-known-l
-    listing-with-requires
+    listing-in-requires
     same-length
     returns
     same-length-2

@@ -16,7 +16,10 @@ same-length : tie.Need-same-length
 same-length c = search needs
 
 returns : tie.Need-returns
-returns c = wrote-all (bytes-long _ (c .before .before .before .before .if1 .taken)) (refused-short 4 (omega arith)) (c .before .before .refused-line .ensures)
+returns c =
+    let t = c .before .before .before .before in
+    wrote-all (bytes-long (t .before .before .before .args .bytes .now) (omega (arith, t .if1 .taken))) (refused-short 4 (omega arith))
+    (c .before .before .refused-line .ensures)
 
 refused-line-requires-2 : tie.Need-refused-line-requires-2
 refused-line-requires-2 c κs = short-room (refused-short 4 (omega arith))
@@ -25,7 +28,11 @@ same-length-2 : tie.Need-same-length-2
 same-length-2 c = search needs
 
 returns-2 : tie.Need-returns-2
-returns-2 c = wrote-all (bytes-odd _ (c .before .before .before .before .before .if1 .left) (c .before .before .before .before .if2 .taken)) (refused-short 4 (omega arith)) (c .before .before .refused-line2 .ensures)
+returns-2 c =
+    let t = c .before .before .before .before in
+    let e = t .before in
+    wrote-all (bytes-odd (e .before .before .before .args .bytes .now) (omega (arith, e .if1 .left)) (λ z. omega (arith, z, t .if2 .taken)))
+    (refused-short 4 (omega arith)) (c .before .before .refused-line2 .ensures)
 
 most-words-requires : tie.Need-most-words-requires
 most-words-requires c κs = search needs
@@ -43,7 +50,11 @@ same-length-3 : tie.Need-same-length-3
 same-length-3 c = search needs
 
 returns-3 : tie.Need-returns-3
-returns-3 c = rw (bytes-even (c .before .before .before .before .before .before .before .before .before .before .before .args .bytes .now) (c .before .before .before .before .before .before .before .before .if1 .left) (c .before .before .before .before .before .before .before .if2 .left)) (c .before .before .before .listing-through .ensures)
+returns-3 c =
+    let t = c .before .before .before .before .before .before .before in
+    let e = t .before in
+    rw (bytes-even (e .before .before .before .args .bytes .now) (omega (arith, e .if1 .left)) (omega (arith, t .if2 .left)))
+    (c .before .before .before .listing-through .ensures)
 
 pub listing-of-bytes-spec : {M : Type 1} → statement M
 listing-of-bytes-spec =

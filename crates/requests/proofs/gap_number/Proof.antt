@@ -7,7 +7,9 @@ use Rattle.requests.proofs.gap_number.Statement.{statement}
 use Rattle.requests.proofs.gap_number.Tie as tie
 
 returns : tie.Need-returns
-returns c = rw (lt-leb _ _ (c .if1 .taken))
+returns c =
+    let a = c .before .args in
+    rw (lt-leb (a .p) (a .n) (omega (arith, c .if1 .taken)))
 
 is-node-requires : tie.Need-is-node-requires
 is-node-requires c κs = search needs

@@ -1,5 +1,6 @@
 -- `requests::next_cell` meets its contract.
 use mathlib.Core.Path.{sym, _∙_}
+use native.Mathlib.Omega.{arith}
 use borrow.Author.Needs.{needs}
 use Rattle.requests.proofs.Laws.{next-wraps, next-follows}
 use Rattle.requests.proofs.next_cell.Statement.{statement}
@@ -17,7 +18,7 @@ first-node-requires c κs = search needs
 returns : tie.Need-returns
 returns c =
     let s = c .before .before .before .args in
-    c .first-node .ensures ∙ sym (next-wraps (s .l) (s .c) (c .before .if1 .taken ∙ c .before .before .cell-count .ensures))
+    c .first-node .ensures ∙ sym (next-wraps (s .l) (s .c) (omega (arith, c .before .if1 .taken, c .before .before .cell-count .ensures)))
 
 add-result : tie.Need-add-result
 add-result c = search needs
@@ -25,7 +26,7 @@ add-result c = search needs
 returns-2 : tie.Need-returns-2
 returns-2 c =
     let s = c .before .before .args in
-    sym (next-follows (s .l) (s .c) (λ e. c .if1 .left (e ∙ sym (c .before .cell-count .ensures))))
+    sym (next-follows (s .l) (s .c) (λ e. omega (arith, e, c .if1 .left, c .before .cell-count .ensures)))
 
 pub next-cell-spec : {M : Type 1} → statement M
 next-cell-spec =
