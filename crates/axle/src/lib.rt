@@ -8,8 +8,8 @@ use stores::Answer;
 ghost use mathlib.Core.Path.{_≡_};
 ghost use Prim.Native.Nat.{_+_, _≤_};
 ghost use lib.ListN.{length, take};
-ghost use Rattle.stores.specs.Stores.{answerOf};
-ghost use Rattle.byte_form.specs.Bytes.{wordsIn, bytesAfter};
+ghost use Rattle.stores.specs.Stores.{run, inRow, answerOf};
+ghost use Rattle.byte_form.specs.Bytes.{wordsIn, byteWrites, bytesAfter};
 ghost use Rattle.layout.specs.Words.{mostWidth, layoutFor, Laid};
 ghost use Rattle.recovery.specs.Plan.{recoverPlan};
 ghost use Rattle.axle_store.specs.Calls.{insertPlan, deletePlan};
@@ -31,16 +31,32 @@ fn code(answer: Answer) -> u32
     }
 }
 
-// Writes the words of a formatted store: the head and the headers, then 0.
+// Stores the row of words, from word at on.
+fn put_row(bytes: &mut [u8], at: usize, row: &[u16])
+    requires { ⌜ at + length (now row) ≤ length (wordsIn (now bytes)) ⌝ }
+    ensures { λ _. ⌜ now (bytes .exit) ≡ run (byteWrites (inRow at (now (row .entry)))) (now (bytes .entry)) ⌝ }
+{
+    let mut i: usize = 0;
+    while i < row.len() {
+        byte_form::put(bytes, at + i, row[i]);
+        i += 1;
+    }
+}
+
+// Writes the words of a formatted store: the head, the headers, then 0.
 fn fill(bytes: &mut [u8], l: Layout)
     requires { ⌜ Laid l (wordsIn (now bytes)) ⌝ }
     ensures { λ _. ⌜ now (bytes .exit) ≡ wholeBytes (formatPlan l (wordsIn (now (bytes .entry)))) (now (bytes .entry)) ⌝ }
 {
-    let mut i: usize = 0;
-    while i < l.nodes_at() {
-        byte_form::put(bytes, i, l.initial(i));
-        i += 1;
+    let head = l.head();
+    put_row(bytes, 0, &head);
+    let mut k: u16 = 0;
+    while k < l.lists {
+        let header = Layout::empty_header(k);
+        put_row(bytes, l.header(k), &header);
+        k += 1;
     }
+    let mut i = l.nodes_at();
     while i < l.size() {
         byte_form::put(bytes, i, 0);
         i += 1;

@@ -1,4 +1,5 @@
 pub mod Laws
+pub mod Formatting
 pub mod Cases
 pub mod Numbers
 pub mod Sites

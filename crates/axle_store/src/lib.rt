@@ -6,9 +6,9 @@ use requests::Looked;
 use requests::Request;
 use stores::Answer;
 ghost use mathlib.Core.Path.{_≡_};
-ghost use Prim.Native.Nat.{_+_, _*_};
+ghost use Prim.Native.Nat.{_+_, _*_, _≤_};
 ghost use lib.ListN.{length};
-ghost use Rattle.stores.specs.Stores.{answerOf, wordsAfter, answerNumber, answerStores, planNumber, madeBy};
+ghost use Rattle.stores.specs.Stores.{run, inRow, answerOf, wordsAfter, answerNumber, answerStores, planNumber, madeBy};
 ghost use Rattle.layout.specs.Words.{InRange, sizeOf, layoutFor, formatted};
 ghost use Rattle.recovery.specs.Plan.{recoverPlan};
 ghost use Rattle.axle_store.specs.Answers.{checkedNumber, formattedNumber, countedNumber, countedLength};
@@ -74,14 +74,34 @@ impl Counted {
     }
 }
 
-// Writes the words of a formatted store.
+// Stores the row of words, from word at on.
+fn put_row(words: &mut [u16], at: usize, row: &[u16])
+    requires { ⌜ at + length (now row) ≤ length (now words) ⌝ }
+    ensures { λ _. ⌜ now (words .exit) ≡ run (inRow at (now (row .entry))) (now (words .entry)) ⌝ }
+{
+    let mut i: usize = 0;
+    while i < row.len() {
+        words[at + i] = row[i];
+        i += 1;
+    }
+}
+
+// Writes the words of a formatted store: the head, the headers, then 0.
 fn fill(words: &mut [u16], l: Layout)
     requires { ⌜ InRange l × (length (now words) ≡ sizeOf l) ⌝ }
     ensures { λ _. ⌜ now (words .exit) ≡ formatted l ⌝ }
 {
-    let mut i: usize = 0;
-    while i < words.len() {
-        words[i] = l.initial(i);
+    let head = l.head();
+    put_row(words, 0, &head);
+    let mut k: u16 = 0;
+    while k < l.lists {
+        let header = Layout::empty_header(k);
+        put_row(words, l.header(k), &header);
+        k += 1;
+    }
+    let mut i = l.nodes_at();
+    while i < l.size() {
+        words[i] = 0;
         i += 1;
     }
 }

@@ -1,7 +1,7 @@
 -- Laws of the words of a store: where its cells stand, what its questions tell, and what a formatted store holds.
-use Prim.Native.Nat.{ℕ, zero, suc, _+_, _*_, _-_, _/_, _%_, _≤_, _<_}
+use Prim.Native.Nat.{ℕ, zero, suc, _+_, _*_, _-_, _≤_, _<_}
 use mathlib.Core.Path.{_≡_, refl, sym, ap, _∙_}
-use mathlib.Core.List.{List, [], _∷_, _++_}
+use mathlib.Core.List.{List, _++_}
 use mathlib.Core.Bool.{Bool, true, false, cond, _&&_, not, and-eq-true-iff}
 use native.Mathlib.Omega.{arith}
 use native.Mathlib.Nat.{mul-le-mul, mul-le-mul-left, mul-suc}
@@ -12,7 +12,7 @@ use borrow.Author.Tests.{lt-ltb, le-ltb, le-leb, eq-eqb, ltb-true, ltb-false, le
 use Rattle.layout.specs.declared.Layout.{Layout}
 use Rattle.layout.specs.declared.Opened.{Opened}
 use Rattle.layout.specs.declared.Opened.the-variants.{Open, Refused}
-use Rattle.layout.specs.Words.{newest, mostLists, mostNodes, mostWidth, headWords, headerWords, linkWords, identWord, countWord, headerAt, firstNode, cellCount, Node, isNode, checkWords, tailWords, nodeWords, nodesAt, nodeAt, cellAt, sizeOf, identOf, marked, layoutOf, InRange, between, inRange, openedBy, opened, head, emptyHeaders, formatted}
+use Rattle.layout.specs.Words.{newest, mostLists, mostNodes, mostWidth, headWords, headerWords, linkWords, headerAt, firstNode, cellCount, Node, isNode, checkWords, tailWords, nodeWords, nodesAt, nodeAt, cellAt, sizeOf, marked, layoutOf, InRange, between, inRange, openedBy, opened, head, emptyHeader, emptyHeaders, formatted}
 
 -- a test b that a call answered by r, where the code asked `!r`: it held, or it did not
 pub answered-no : {r b : Bool} → r ≡ b → not r ≡ true → b ≡ false
@@ -158,10 +158,6 @@ open-opened w m r e =
     let n : headWords ≤ length w = omega (arith, size-head (layoutOf w)) in
     rw (le-leb headWords (length w) n, m, range-in (layoutOf w) r, eq-eqb (length w) (sizeOf (layoutOf w)) e)
 
--- the words of the header of an empty list
-abbrev pub emptyHeader : ℕ → List ℕ
-emptyHeader k = identOf k ∷ k ∷ k ∷ 0 ∷ []
-
 -- the words of n headers
 length-headers : (k n : ℕ) → length (emptyHeaders k n) ≡ headerWords * n
 unfolding emptyHeaders
@@ -212,8 +208,12 @@ length-formatted l =
       length-replicate {A = ℕ} (nodeWords l * l .nodes) 0,
     )
 
--- what a formatted store holds: its headers
-pub formatted-header : (l : Layout) (k j : ℕ) → k < l .lists → j < headerWords → getD (formatted l) (headerAt l k + j) 0 ≡ getD (identOf k ∷ k ∷ k ∷ 0 ∷ []) j 0
+-- what a formatted store holds: its head, its headers
+pub formatted-head : (l : Layout) (j : ℕ) → j < headWords → getD (formatted l) j 0 ≡ getD (head l) j 0
+unfolding formatted
+formatted-head l j h = front (head l) (headersOf l ++ nodesOf l) j j refl h
+
+pub formatted-header : (l : Layout) (k j : ℕ) → k < l .lists → j < headerWords → getD (formatted l) (headerAt l k + j) 0 ≡ getD (emptyHeader k) j 0
 unfolding formatted
 formatted-header l k j h g =
     behind (head l) (headersOf l ++ nodesOf l) (headerAt l k + j) (headerWords * k + j) (omega arith)
@@ -232,20 +232,3 @@ formatted-node l a h =
 pub formatted-marked : (l : Layout) → InRange l → marked (formatted l) ≡ true
 unfolding marked formatted
 formatted-marked l r = rw (between-is 1 newest (l .version) (r .someVersion) (r .version))
-
--- the word of a header by its place in the store
-pub formatted-at : (l : Layout) (i : ℕ) → headWords ≤ i → i < nodesAt l
-    → getD (formatted l) i 0 ≡ getD (emptyHeader ((i - headWords) / headerWords)) ((i - headWords) % headerWords) 0
-formatted-at l i h g =
-    let k = (i - headWords) / headerWords in
-    let j = (i - headWords) % headerWords in
-    let e : i ≡ headerAt l k + j = omega arith in
-    ap (λ (n : ℕ). getD (formatted l) n 0) e ∙ formatted-header l k j (omega arith) (omega arith)
-
--- forward and back of an empty list lead to its header
-pub empty-link : (k j : ℕ) → j < headerWords → (j ≡ identWord → ⊥) → (j ≡ countWord → ⊥) → getD (emptyHeader k) j 0 ≡ k
-empty-link k zero h a b = absurd (a refl)
-empty-link k (suc zero) h a b = refl
-empty-link k (suc (suc zero)) h a b = refl
-empty-link k (suc (suc (suc zero))) h a b = absurd (b refl)
-empty-link k (suc (suc (suc (suc j)))) h a b = absurd (omega arith)

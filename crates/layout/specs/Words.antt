@@ -177,10 +177,14 @@ pub record Laid (l : Layout) (w : List ℕ) : Type 0 where
 abbrev pub head : Layout → List ℕ
 head l = 82 ∷ 66 ∷ 83 ∷ l .version ∷ l .lists ∷ l .nodes ∷ l .width ∷ 0 ∷ []
 
--- "An empty list's header points to itself both ways": n of them from k on
+-- "An empty list's header points to itself both ways."
+abbrev pub emptyHeader : ℕ → List ℕ
+emptyHeader k = identOf k ∷ k ∷ k ∷ 0 ∷ []
+
+-- n of them, from list k on
 unfoldable pub emptyHeaders : ℕ → ℕ → List ℕ
 emptyHeaders k zero = []
-emptyHeaders k (suc n) = identOf k ∷ k ∷ k ∷ 0 ∷ emptyHeaders (suc k) n
+emptyHeaders k (suc n) = emptyHeader k ++ emptyHeaders (suc k) n
 
 unfoldable pub formatted : Layout → List ℕ
 formatted l = head l ++ (emptyHeaders 0 (l .lists) ++ replicate (nodeWords l * l .nodes) 0)

@@ -6,9 +6,9 @@
 //
 // Cells 0 to L - 1 are the headers and cells L to L + N - 1 the nodes. Every number of the layout stands here, once.
 ghost use mathlib.Core.Path.{_≡_};
-ghost use Prim.Native.Nat.{_+_, _*_, _-_, _<_, _≤_};
-ghost use lib.ListN.{length, getD};
-ghost use Rattle.layout.specs.Words.{newest, mostLists, headWords, firstNode, cellCount, isNode, headerAt, checkWords, nodeWords, nodesAt, nodeAt, cellAt, sizeOf, identOf, between, inRange, InRange, marked, openedBy, opened, formatted};
+ghost use Prim.Native.Nat.{_≤_};
+ghost use lib.ListN.{length};
+ghost use Rattle.layout.specs.Words.{newest, mostLists, headWords, firstNode, cellCount, isNode, headerAt, checkWords, nodeWords, nodesAt, nodeAt, cellAt, sizeOf, identOf, between, inRange, InRange, marked, openedBy, opened, head, emptyHeader};
 
 // Version, L, N and P of a store.
 pub struct Layout {
@@ -185,42 +185,28 @@ impl Layout {
         self.nodes_at() + self.node_words() * (self.nodes as usize)
     }
 
-    // Word i of the first eight.
-    fn head_word(self, i: usize) -> u16
-        requires { ⌜ i < headWords ⌝ }
-        ensures { λ r. ⌜ r ≡ getD (formatted self) i 0 ⌝ }
+    // The first eight words of a store.
+    pub fn head(self) -> [u16; Layout::HEAD_WORDS]
+        ensures { λ r. ⌜ r ≡ head self ⌝ }
     {
-        match i {
-            0 => Layout::MARK_0,
-            1 => Layout::MARK_1,
-            2 => Layout::MARK_2,
-            Layout::VERSION_AT => self.version,
-            Layout::LISTS_AT => self.lists,
-            Layout::NODES_AT => self.nodes,
-            Layout::WIDTH_AT => self.width,
-            _ => Layout::SPARE,
-        }
+        [
+            Layout::MARK_0,
+            Layout::MARK_1,
+            Layout::MARK_2,
+            self.version,
+            self.lists,
+            self.nodes,
+            self.width,
+            Layout::SPARE,
+        ]
     }
 
-    // Word i of a formatted store.
-    pub fn initial(self, i: usize) -> u16
-        requires { ⌜ InRange self ⌝ }
-        ensures { λ r. ⌜ r ≡ getD (formatted self) i 0 ⌝ }
+    // The words of the header of list k, while it is empty.
+    pub fn empty_header(k: u16) -> [u16; Layout::HEADER_WORDS]
+        requires { ⌜ k ≤ mostLists ⌝ }
+        ensures { λ r. ⌜ r ≡ emptyHeader k ⌝ }
     {
-        if i < Layout::HEAD_WORDS {
-            return self.head_word(i);
-        }
-        if self.nodes_at() <= i {
-            return 0;
-        }
-        let at = i - Layout::HEAD_WORDS;
-        let k = (at / Layout::HEADER_WORDS) as u16;
-        let field = at % Layout::HEADER_WORDS;
-        match field {
-            Layout::IDENTIFIER => Layout::ident(k),
-            Layout::COUNT => 0,
-            _ => k,
-        }
+        [Layout::ident(k), k, k, 0]
     }
 }
 

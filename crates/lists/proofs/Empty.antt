@@ -1,19 +1,19 @@
 -- A formatted store is sound, and all its lists are empty.
 use Prim.Native.Nat.{ℕ, _+_, _*_, _-_, _<_, _≤_}
 use mathlib.Core.Path.{_≡_, refl, ap, _∙_, sym}
-use mathlib.Core.List.{[], _∷_}
+use mathlib.Core.List.{[]}
 use native.Mathlib.Omega.{arith}
 use native.Mathlib.Nat.{add-zero}
 use lib.ListN.{getD}
 use Rattle.sequences.specs.Sequence.{steps}
 use Rattle.layout.specs.declared.Layout.{Layout}
-use Rattle.layout.specs.Words.{headerWords, forwardWord, backWord, countWord, nodesAt, nodeAt, cellAt, InRange, layoutOf, identOf, formatted}
+use Rattle.layout.specs.Words.{headerWords, forwardWord, backWord, countWord, nodesAt, nodeAt, cellAt, InRange, layoutOf, emptyHeader, formatted}
 use Rattle.layout.proofs.Laws.{cell-header, cell-node, length-formatted, formatted-header, formatted-node, formatted-marked}
 use Rattle.lists.specs.Lists.{IsList, SoundLists, Sound}
 use Rattle.lists.proofs.Agree.{holds-agrees}
 
 -- word j of a cell that is a header
-header-word : (l : Layout) (k j : ℕ) → k < l .lists → j < headerWords → getD (formatted l) (cellAt l k + j) 0 ≡ getD (identOf k ∷ k ∷ k ∷ 0 ∷ []) j 0
+header-word : (l : Layout) (k j : ℕ) → k < l .lists → j < headerWords → getD (formatted l) (cellAt l k + j) 0 ≡ getD (emptyHeader k) j 0
 header-word l k j h g = rw (cell-header l k h) (formatted-header l k j h g)
 
 pub formatted-list : (l : Layout) (k : ℕ) → k < l .lists → IsList l (formatted l) k []

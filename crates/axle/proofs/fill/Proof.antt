@@ -1,138 +1,147 @@
--- `axle::fill`: the bytes are filled in word by word, from the front; the words behind the headers are 0.
-use Prim.Native.Nat.{ℕ, _+_, _-_, _≤_, _<_}
-use mathlib.Core.Path.{_≡_, refl, ap₂, sym, _∙_}
+-- `axle::fill`: what is left to store, in the bytes as they are, gives what format's stores give from the start.
+use Prim.Native.Nat.{ℕ, _-_, _≤_}
+use mathlib.Core.Path.{_≡_, refl, ap, ap₂, _∙_, sym}
 use mathlib.Core.List.{List, [], _∷_}
 use native.Mathlib.Omega.{arith}
-use lib.ListN.{length, getD}
+use lib.ListN.{length}
 use borrow.Author.Tests.{eq-eqb}
-use Rattle.stores.specs.Stores.{write, run}
+use Rattle.stores.specs.Stores.{Write, write, run, inRow}
 use Rattle.byte_form.specs.Bytes.{wordsIn, byteWrites}
 use Rattle.byte_form.proofs.Laws.{same-words}
-use Rattle.layout.specs.declared.Layout.{Layout}
-use Rattle.layout.specs.Words.{Laid, nodesAt, sizeOf, formatted}
-use Rattle.layout.proofs.Laws.{range-in, length-formatted, formatted-node}
+use Rattle.layout.specs.Words.{InRange, headWords, headerAt, nodesAt, sizeOf, head, emptyHeader}
+use Rattle.layout.proofs.Laws.{range-in, header-fits}
+use Rattle.axle_store.proofs.Formatting.{headers-fit, left, left-head, left-header, left-node, left-none}
 use Rattle.axle.specs.Interface.{formatPlan}
-use Rattle.axle.proofs.Laws.{filled, filled-none, filled-next, filled-all}
+use Rattle.axle.proofs.Laws.{made}
 use borrow.Author.Needs.{needs}
 use Rattle.axle.proofs.fill.Statement.{statement}
 use Rattle.axle.proofs.fill.Tie as tie
 
--- the headers end within the store
-headers-fit : (l : Layout) → nodesAt l ≤ sizeOf l
-unfolding sizeOf
-headers-fit l = omega arith
-
--- the first i words are written
-abbrev Written : List ℕ → Layout → List ℕ → ℕ → Type 0
-Written bytes₀ l bytes i =
-    (Laid l (wordsIn bytes₀)) × (i ≤ sizeOf l) × (length bytes ≡ length bytes₀) × (bytes ≡ filled (formatted l) i bytes₀)
-
--- there is a word i
-inside : (bytes₀ : List ℕ) (l : Layout) (bytes : List ℕ) (i : ℕ) → Written bytes₀ l bytes i → i < sizeOf l → i < length (wordsIn bytes)
-inside bytes₀ l bytes i w h = omega (arith, same-words bytes bytes₀ (w .2), w .0 .exact)
-
--- and then it is written too
-written-more : (bytes₀ : List ℕ) (l : Layout) (bytes next : List ℕ) (i v : ℕ) → Written bytes₀ l bytes i → i < sizeOf l
-    → v ≡ getD (formatted l) i 0 → length next ≡ length bytes → next ≡ run (byteWrites (write i v ∷ [])) bytes
-    → Written bytes₀ l next (i + 1)
-written-more bytes₀ l bytes next i v w h e n p = (
-  w .0,
-  omega arith,
-  n ∙ w .2,
-  p
-      ∙ ap₂ (λ (v : ℕ) (b : List ℕ). run (byteWrites (write i v ∷ [])) b) e (w .3)
-      ∙ filled-next (formatted l) bytes₀ i (omega (arith, length-formatted l)),
-)
-
 abbrev Inv-loop : tie.InvT-loop
-Inv-loop bytes₀ l i₀ bytes i = Written bytes₀ l bytes i × (i ≤ nodesAt l)
+Inv-loop bytes₀ l k₀ bytes k =
+    (InRange l) × (k ≤ l .lists) × (length (wordsIn bytes) ≡ sizeOf l) × (length bytes ≡ length bytes₀)
+    × (run (byteWrites (left l (headerAt l k))) bytes ≡ run (byteWrites (left l headWords)) bytes₀)
 
 abbrev μ-loop : tie.MeasureT-loop
-μ-loop bytes₀ l i₀ bytes i = sizeOf l - i
+μ-loop bytes₀ l k₀ bytes k = l .lists - k
 
 abbrev Inv-loop2 : tie.InvT-loop2
-Inv-loop2 bytes₀ l i₀ bytes i = ((b : List ℕ) → Written b l bytes₀ i₀ → Written b l bytes i) × (nodesAt l ≤ i)
+Inv-loop2 bytes₀ l k i₀ bytes i =
+    (nodesAt l ≤ i) × (i ≤ sizeOf l) × (length (wordsIn bytes) ≡ sizeOf l) × (length bytes ≡ length bytes₀)
+    × (run (byteWrites (left l i)) bytes ≡ run (byteWrites (left l (nodesAt l))) bytes₀)
 
 abbrev μ-loop2 : tie.MeasureT-loop2
-μ-loop2 bytes₀ l i₀ bytes i = sizeOf l - i
+μ-loop2 bytes₀ l k i₀ bytes i = sizeOf l - i
+
+head-requires : tie.Need-head-requires Inv-loop μ-loop Inv-loop2 μ-loop2
+head-requires c κs = search needs
+
+slice-aggregate-put-row : tie.Need-slice-aggregate-put-row Inv-loop μ-loop Inv-loop2 μ-loop2
+slice-aggregate-put-row c = sym (ap length (c .before .before .head .ensures))
+
+put-row-requires : tie.Need-put-row-requires Inv-loop μ-loop Inv-loop2 μ-loop2
+put-row-requires c κs =
+    let s = c .before .before .before .before in
+    omega (arith, ap length (c .before .before .head .ensures), s .pre .exact, headers-fit (s .args .l))
 
 loop-holds : tie.Need-loop-holds Inv-loop μ-loop Inv-loop2 μ-loop2
 loop-holds c =
-    let a = c .before .args in
-    ((c .before .pre, omega arith, refl, sym (filled-none (formatted (a .l)) (a .bytes .now))), omega arith)
+    let s = c .before .before .before .before .before .before .before in
+    (s .pre .inRange, omega arith, same-words _ _ (c .before .before .put-row .kept .0) ∙ s .pre .exact, refl, refl)
+
+empty-header-requires : tie.Need-empty-header-requires Inv-loop μ-loop Inv-loop2 μ-loop2
+empty-header-requires c κs = omega arith
+
+header-requires : tie.Need-header-requires Inv-loop μ-loop Inv-loop2 μ-loop2
+header-requires c κs = search needs
+
+slice-aggregate-put-row-2 : tie.Need-slice-aggregate-put-row-2 Inv-loop μ-loop Inv-loop2 μ-loop2
+slice-aggregate-put-row-2 c = sym (ap length (c .before .before .before .empty-header .ensures))
+
+put-row-requires-2 : tie.Need-put-row-requires-2 Inv-loop μ-loop Inv-loop2 μ-loop2
+put-row-requires-2 c κs =
+    let l = c .before .before .before .before .before .before .before .before .before .before .before .before .before .before .args .l in
+    omega (arith, ap length (c .before .before .before .empty-header .ensures), header-fits l (c .before .before .before .before .before .before .loop .k) (omega arith))
+
+add-k : tie.Need-add-k Inv-loop μ-loop Inv-loop2 μ-loop2
+add-k c = omega arith
+
+loop-less : tie.Need-loop-less Inv-loop μ-loop Inv-loop2 μ-loop2
+loop-less c = omega arith
+
+loop-again : tie.Need-loop-again Inv-loop μ-loop Inv-loop2 μ-loop2
+loop-again c =
+    let l = c .before .before .before .before .before .before .before .before .before .before .before .before .before .before .before .before .before .args .l in
+    let t = c .before .before .before .before .before .before .before .before .before .loop in
+    let p = c .before .before .put-row2 in (
+      t .inv .0,
+      omega arith,
+      same-words _ _ (p .kept .0) ∙ t .inv .2,
+      p .kept .0 ∙ t .inv .3,
+      made (inRow (headerAt l (t .k)) (emptyHeader (t .k))) _ (t .bytes) (left-header l (t .k) (omega arith))
+          (p .ensures
+          ∙ ap₂ (λ (a : ℕ) (vs : List ℕ). run (byteWrites (inRow a vs)) (t .bytes)) (c .before .before .before .before .header .ensures)
+          (c .before .before .before .before .before .before .empty-header .ensures))
+          ∙ t .inv .4,
+    )
 
 nodes-at-requires : tie.Need-nodes-at-requires Inv-loop μ-loop Inv-loop2 μ-loop2
 nodes-at-requires c κs = search needs
 
-initial-requires : tie.Need-initial-requires Inv-loop μ-loop Inv-loop2 μ-loop2
-initial-requires c κs = c .before .before .before .loop .inv .0 .0 .inRange
-
-put-requires : tie.Need-put-requires Inv-loop μ-loop Inv-loop2 μ-loop2
-put-requires c κs =
-    let t = c .before .before .before .before .loop in
-    let a = c .before .before .before .before .before .before .args in
-    inside (a .bytes .now) (a .l) (t .bytes) (t .i) (t .inv .0) (omega (arith, headers-fit (a .l)))
-
-add-i : tie.Need-add-i Inv-loop μ-loop Inv-loop2 μ-loop2
-add-i c = omega arith
-
-loop-less : tie.Need-loop-less Inv-loop μ-loop Inv-loop2 μ-loop2
-loop-less c = omega (arith, headers-fit (c .before .before .before .before .before .before .before .before .before .args .l))
-
-loop-again : tie.Need-loop-again Inv-loop μ-loop Inv-loop2 μ-loop2
-loop-again c =
-    let a = c .before .before .before .before .before .before .before .before .before .args in
-    let t = c .before .before .before .before .before .before .before .loop in
-    let p = c .before .before .put in (
-      written-more (a .bytes .now) (a .l) (t .bytes) _ (t .i) _ (t .inv .0) (omega (arith, headers-fit (a .l)))
-          (c .before .before .before .initial .ensures) (p .kept .0) (p .ensures),
-      omega arith,
-    )
-
 loop2-holds : tie.Need-loop2-holds Inv-loop μ-loop Inv-loop2 μ-loop2
-loop2-holds c = (λ b w. w, omega arith)
+loop2-holds c =
+    let l = c .before .before .before .before .before .before .before .before .before .before .before .args .l in
+    let t = c .before .before .before .loop in (
+      omega arith,
+      omega (arith, headers-fit l),
+      t .inv .2,
+      refl,
+      ap (λ (a : ℕ). run (byteWrites (left l a)) (t .bytes)) (c .nodes-at .ensures),
+    )
 
 size-requires : tie.Need-size-requires Inv-loop μ-loop Inv-loop2 μ-loop2
 size-requires c κs = search needs
 
-put-requires-2 : tie.Need-put-requires-2 Inv-loop μ-loop Inv-loop2 μ-loop2
-put-requires-2 c κs =
-    let t = c .before .before .before .loop2 in
-    let a = c .before .before .before .before .before .before .before .before .args in
-    let w = c .before .before .before .before .before .before .loop .inv .0 in
-    inside (a .bytes .now) (a .l) (t .bytes) (t .i) (t .inv .0 (a .bytes .now) w) (omega arith)
+put-requires : tie.Need-put-requires Inv-loop μ-loop Inv-loop2 μ-loop2
+put-requires c κs = omega arith
 
-add-i-2 : tie.Need-add-i-2 Inv-loop μ-loop Inv-loop2 μ-loop2
-add-i-2 c = omega arith
+add-i : tie.Need-add-i Inv-loop μ-loop Inv-loop2 μ-loop2
+add-i c = omega arith
 
 loop2-less : tie.Need-loop2-less Inv-loop μ-loop Inv-loop2 μ-loop2
 loop2-less c = omega arith
 
 loop2-again : tie.Need-loop2-again Inv-loop μ-loop Inv-loop2 μ-loop2
 loop2-again c =
-    let a = c .before .before .before .before .before .before .before .before .before .before .before .args in
+    let l = c .before .before .before .before .before .before .before .before .before .before .before .before .before .before .before .before .before .before .args .l in
     let t = c .before .before .before .before .before .before .loop2 in
-    let p = c .before .before .put2 in
-    let h : t .i < sizeOf (a .l) = omega arith in (
-      λ b w. written-more b (a .l) (t .bytes) _ (t .i) _ (t .inv .0 b w) h
-          (sym (formatted-node (a .l) (t .i) (t .inv .1))) (p .kept .0) (p .ensures),
+    let p = c .before .before .put in (
       omega arith,
+      omega arith,
+      same-words _ _ (p .kept .0) ∙ t .inv .2,
+      p .kept .0 ∙ t .inv .3,
+      made (write (t .i) 0 ∷ []) _ (t .bytes) (left-node l (t .i) (t .inv .0) (omega arith)) (p .ensures) ∙ t .inv .4,
     )
 
 same-length : tie.Need-same-length Inv-loop μ-loop Inv-loop2 μ-loop2
-same-length c =
-    let b = c .before .before .before .before .before .before .before .args .bytes .now in
-    c .before .before .loop2 .inv .0 b (c .before .before .before .before .before .loop .inv .0) .2
+same-length c = c .before .before .loop2 .inv .3 ∙ c .before .before .before .before .before .before .loop .inv .3 ∙ c .before .before .before .before .before .before .before .before .before .put-row .kept .0
 
 returns : tie.Need-returns Inv-loop μ-loop Inv-loop2 μ-loop2
-unfolding formatPlan
+unfolding formatPlan run byteWrites
 returns c =
-    let a = c .before .before .before .before .before .before .before .args in
-    let b = a .bytes .now in
+    let s = c .before .before .before .before .before .before .before .before .before .before .before .before .before .before in
+    let l = s .args .l in
+    let b = s .args .bytes .now in
+    let h = c .before .before .before .before .before .before .loop in
     let t = c .before .before .loop2 in
-    let w = t .inv .0 b (c .before .before .before .before .before .loop .inv .0) in
-    rw (range-in (a .l) (w .0 .inRange), eq-eqb (length (wordsIn b)) (sizeOf (a .l)) (w .0 .exact))
-    (w .3 ∙ filled-all (formatted (a .l)) b (t .i) (omega (arith, length-formatted (a .l))))
+    let e : nodesAt l ≡ headerAt l (h .k) = omega arith in
+    rw (range-in l (s .pre .inRange), eq-eqb (length (wordsIn b)) (sizeOf l) (s .pre .exact))
+    (ap (λ (ps : List Write). run (byteWrites ps) (t .bytes)) (sym (left-none l (t .i) (omega arith)))
+    ∙ t .inv .4
+    ∙ ap (λ (n : ℕ). run (byteWrites (left l n)) (h .bytes)) e
+    ∙ h .inv .4
+    ∙ made (inRow 0 (head l)) (left l headWords) b (left-head l)
+    (c .before .before .before .before .before .before .before .before .before .put-row .ensures ∙ ap (λ (vs : List ℕ). run (byteWrites (inRow 0 vs)) b) (c .before .before .before .before .before .before .before .before .before .before .before .before .head .ensures)))
 
 pub fill-spec : {M : Type 1} → statement M
 fill-spec =
@@ -142,17 +151,22 @@ fill-spec =
     μ-loop
     Inv-loop2
     μ-loop2
+    head-requires
+    slice-aggregate-put-row
+    put-row-requires
     loop-holds
-    nodes-at-requires
-    initial-requires
-    put-requires
-    add-i
+    empty-header-requires
+    header-requires
+    slice-aggregate-put-row-2
+    put-row-requires-2
+    add-k
     loop-less
     loop-again
+    nodes-at-requires
     loop2-holds
     size-requires
-    put-requires-2
-    add-i-2
+    put-requires
+    add-i
     loop2-less
     loop2-again
     same-length
