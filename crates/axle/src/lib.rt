@@ -213,7 +213,7 @@ fn recover(bytes: &mut [u8], allowance: u16) -> Answer
     ensures answer { λ r. ⌜ r ≡ answerOf (recoverPlan (wordsIn (now (bytes .entry)))) allowance ⌝ }
     ensures bytes { λ _. ⌜ now (bytes .exit) ≡ bytesAfter (recoverPlan (wordsIn (now (bytes .entry)))) allowance (now (bytes .entry)) ⌝ }
 {
-    match byte_survey::open(bytes) {
+    match byte_requests::open(bytes) {
         Opened::Refused(n) => Answer::Refused(n),
         Opened::Open(l) => byte_mending::recover_in(bytes, l, allowance),
     }

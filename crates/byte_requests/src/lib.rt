@@ -11,14 +11,43 @@ use spans::Grid;
 ghost use mathlib.Core.Path.{_≡_};
 ghost use Prim.Native.Nat.{ℕ, _+_, _<_, _≤_};
 ghost use mathlib.Core.List.{_∷_};
-ghost use lib.ListN.{getD};
+ghost use lib.ListN.{length, getD};
 ghost use Rattle.sequences.specs.Sequence.{follow};
 ghost use Rattle.byte_form.specs.Bytes.{wordsIn};
-ghost use Rattle.layout.specs.Words.{Laid, Node, linkWords};
+ghost use Rattle.layout.specs.Words.{headWords, linkWords, Laid, Node, openedBy, opened};
 ghost use Rattle.lists.specs.Decide.{viewOf, sequenceOf};
 ghost use Rattle.spans.specs.Spans.{Gridded};
 ghost use Rattle.requests.specs.Requests.{around, firstFree, memberAt, freeGap, gapAt, siteOf, lookOf};
 ghost use Rattle.requests.specs.Sites.{HeldList, linkIn, gapSite};
+
+// The first eight words.
+fn head(bytes: &[u8]) -> [u16; Layout::HEAD_WORDS]
+    requires { ⌜ headWords ≤ length (wordsIn (now bytes)) ⌝ }
+    ensures { λ r. ⌜ (headWords ≡ length r) × ((n : ℕ) → openedBy n r ≡ openedBy n (wordsIn (now (bytes .entry)))) ⌝ }
+{
+    [
+        byte_form::word(bytes, 0),
+        byte_form::word(bytes, 1),
+        byte_form::word(bytes, 2),
+        byte_form::word(bytes, Layout::VERSION_AT),
+        byte_form::word(bytes, Layout::LISTS_AT),
+        byte_form::word(bytes, Layout::NODES_AT),
+        byte_form::word(bytes, Layout::WIDTH_AT),
+        byte_form::word(bytes, Layout::SPARE_AT),
+    ]
+}
+
+// Questions 1 to 4.
+pub fn open(bytes: &[u8]) -> Opened
+    ensures { λ r. ⌜ r ≡ opened (wordsIn (now (bytes .entry))) ⌝ }
+{
+    let n = bytes.len() / 2;
+    if n < Layout::HEAD_WORDS {
+        return Opened::Refused(1);
+    }
+    let h = head(bytes);
+    layout::open_with(n, &h)
+}
 
 // The cell that so many links lead to from cell c; a link is word f of a node.
 fn follow_links(bytes: &[u8], l: Layout, g: Grid, f: usize, c: usize, n: u16) -> usize
@@ -158,7 +187,7 @@ fn site_of(bytes: &[u8], l: Layout, q: Request) -> Sited
 pub fn look(bytes: &[u8], q: Request) -> Looked
     ensures { λ r. ⌜ r ≡ lookOf (wordsIn (now (bytes .entry))) q ⌝ }
 {
-    match byte_survey::open(bytes) {
+    match open(bytes) {
         Opened::Refused(n) => Looked::Refused(n),
         Opened::Open(l) => match site_of(bytes, l, q) {
             Sited::Refused(n) => Looked::Refused(n),

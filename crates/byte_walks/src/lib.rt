@@ -155,7 +155,7 @@ fn headed(bytes: &[u8], l: Layout, k: u16) -> bool
 }
 
 // Does list k hold?
-fn one_holds(bytes: &[u8], l: Layout, g: Grid, k: u16) -> bool
+pub fn one_holds(bytes: &[u8], l: Layout, g: Grid, k: u16) -> bool
     requires { ⌜ Gridded l g × Laid l (wordsIn (now bytes)) × (k < l .lists) ⌝ }
     ensures { λ r. ⌜ Decides r (Held l (viewOf l (wordsIn (now (bytes .entry)))) (countIn l (wordsIn (now (bytes .entry)))) k) ⌝ }
 {
@@ -165,20 +165,20 @@ fn one_holds(bytes: &[u8], l: Layout, g: Grid, k: u16) -> bool
     spanned(bytes, l, g, k, whole(bytes, l, k))
 }
 
-// Do lists k and k + 1 hold?
-fn two_hold(bytes: &[u8], l: Layout, g: Grid, k: u16) -> bool
-    requires { ⌜ Gridded l g × Laid l (wordsIn (now bytes)) × (k + 1 < l .lists) ⌝ }
-    ensures { λ r. ⌜ Decides r (Held l (viewOf l (wordsIn (now (bytes .entry)))) (countIn l (wordsIn (now (bytes .entry)))) k × Held l (viewOf l (wordsIn (now (bytes .entry)))) (countIn l (wordsIn (now (bytes .entry)))) (k + 1)) ⌝ }
+// Do lists k and j hold?
+pub fn two_hold(bytes: &[u8], l: Layout, g: Grid, k: u16, j: u16) -> bool
+    requires { ⌜ Gridded l g × Laid l (wordsIn (now bytes)) × (k < l .lists) × (j < l .lists) ⌝ }
+    ensures { λ r. ⌜ Decides r (Held l (viewOf l (wordsIn (now (bytes .entry)))) (countIn l (wordsIn (now (bytes .entry)))) k × Held l (viewOf l (wordsIn (now (bytes .entry)))) (countIn l (wordsIn (now (bytes .entry)))) j) ⌝ }
 {
     if !headed(bytes, l, k) {
         return false;
     }
-    if !headed(bytes, l, k + 1) {
+    if !headed(bytes, l, j) {
         return false;
     }
     let s = whole(bytes, l, k);
-    let t = whole(bytes, l, k + 1);
-    both_spanned(bytes, l, g, k, s, k + 1, t)
+    let t = whole(bytes, l, j);
+    both_spanned(bytes, l, g, k, s, j, t)
 }
 
 // 1 where the word at a is not 0.
@@ -230,7 +230,7 @@ pub fn sound_in(bytes: &[u8], l: Layout) -> bool
     }
     let mut k: u16 = 0;
     while k + 1 < l.lists {
-        if !two_hold(bytes, l, g, k) {
+        if !two_hold(bytes, l, g, k, k + 1) {
             return false;
         }
         k += 2;

@@ -1,4 +1,5 @@
 pub mod Walks
+pub mod Trails
 pub mod Inside
 pub mod Told
 pub mod Members

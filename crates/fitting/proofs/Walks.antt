@@ -7,7 +7,6 @@ use native.Mathlib.Omega.{arith}
 use lib.Dec.{eqb}
 use lib.ListN.{length}
 use borrow.Author.Tests.{eq-eqb, ne-eqb, not-true}
-use Rattle.sequences.specs.Sequence.{trail}
 use Rattle.sequences.proofs.Trail.{trail-on, trail-out, trail-none}
 use Rattle.layout.specs.declared.Layout.{Layout}
 use Rattle.layout.specs.Words.{identWord, backWord, countWord, isNode, identOf}
@@ -16,7 +15,7 @@ use Rattle.fitting.specs.declared.Faults.{Faults}
 use Rattle.fitting.specs.declared.Faults.the-variants as F
 use Rattle.fitting.specs.declared.Fitted.the-variants as G
 use Rattle.fitting.specs.Fitting.{areMany, decides, choose}
-use Rattle.fitting.specs.Fitting.{Each, plus, fault, turnFaults, faultsOf, walked, walkFaults}
+use Rattle.fitting.specs.Fitting.{Each, plus, fault, turnFaults, faultsOf, walked, walkFaults, rest, Walking}
 
 -- no faults more
 pub plus-none : (f : Faults) → plus f F.None ≡ f
@@ -72,19 +71,6 @@ pub decided-alone : (f g : Faults) → decides f ≡ true → choose f g ≡ G.F
 decided-alone F.None g e = refl
 decided-alone (F.One c w v) g e = rw (not-true (eqb w backWord) e)
 decided-alone F.Many g e = absurd (false≢true e)
-
--- the cells that a walk has yet to meet when it comes to y with `left` steps left
-abbrev pub rest : Layout → View → ℕ → ℕ → List ℕ
-rest l v left y = trail (v .forward) (isNode l) left y
-
--- where a walk of list k stands: it has summed up f, x is the last cell that it met, and it comes to y
-pub record Walking (l : Layout) (v : View) (a b k : ℕ) (f : Faults) (x y left : ℕ) : Type 0 where
-  pub link : v .forward x ≡ y
-  pub few : left ≤ l .nodes
-  pub same
-      : plus f (turnFaults v a b k x (rest l v left y))
-      ≡ plus (fault (v .ident k) k identWord (identOf k)) (turnFaults v a b k k (walked l v k))
-  pub count : length (walked l v k) ≡ l .nodes - left + length (rest l v left y)
 
 -- at the header its identifier is compared
 pub walking-first : (l : Layout) (v : View) (a b k : ℕ) {i : ℕ} {f : Faults} → i ≡ identOf k

@@ -1,7 +1,8 @@
 -- The wrong words of the two candidates, summed up as none, one or many, and which of the two fits a list by them.
-use Prim.Native.Nat.{ℕ, _+_, _<_}
+use Prim.Native.Nat.{ℕ, _+_, _-_, _≤_, _<_}
+use mathlib.Core.Path.{_≡_}
 use mathlib.Core.List.{List, [], _∷_}
-use mathlib.Core.Bool.{Bool, true, false, not, cond}
+use mathlib.Core.Bool.{Bool, true, false, not, cond, _&&_}
 use lib.Dec.{eqb}
 use lib.ListN.{length}
 use Rattle.sequences.specs.Sequence.{trail}
@@ -9,10 +10,12 @@ use Rattle.stores.specs.Stores.{Write, write}
 use Rattle.layout.specs.declared.Layout.{Layout}
 use Rattle.layout.specs.Words.{identWord, forwardWord, backWord, countWord, isNode, cellAt, identOf, cellCount, sizeOf}
 use Rattle.lists.specs.Decide.{View}
+use Rattle.spans.specs.declared.Cell.{Cell}
 use Rattle.fitting.specs.declared.Faults.{Faults}
 use Rattle.fitting.specs.declared.Faults.the-variants as F
 use Rattle.fitting.specs.declared.Fitted.{Fitted}
 use Rattle.fitting.specs.declared.Fitted.the-variants as G
+use Rattle.fitting.specs.declared.Trail.{Trail}
 
 -- the faults of two parts
 abbrev pub plus : Faults → Faults → Faults
@@ -58,6 +61,75 @@ walkFaults l v a b k n = faultsOf v a b k n (walked l v k)
 -- the view the other way round
 abbrev pub turned : View → View
 turned v = record { ident = v .ident; forward = v .back; back = v .forward }
+
+-- by the direction of a walk: the words of the links onward and back, a cell, the view, and the faults
+abbrev pub onwardWord : Bool → ℕ
+onwardWord back = cond back backWord forwardWord
+
+abbrev pub backwardWord : Bool → ℕ
+backwardWord back = cond back forwardWord backWord
+
+abbrev pub byWay : Bool → Cell → Cell
+byWay false c = c
+byWay true c = record { ident = c .ident; forward = c .back; back = c .forward }
+
+abbrev pub viewBy : Bool → View → View
+viewBy false v = v
+viewBy true v = turned v
+
+abbrev pub wayFaults : Layout → View → Bool → ℕ → ℕ → Faults
+wayFaults l v back k n = walkFaults l (viewBy back v) (onwardWord back) (backwardWord back) k n
+
+-- a walk: at the header h of list k; whether it goes on; behind the node c; and, at its end, all faults of list k with the count n
+abbrev pub firstTrail : Layout → Bool → ℕ → Cell → Trail
+firstTrail l back k h =
+    record {
+      back = back;
+      faults = fault (h .ident) k identWord (identOf k);
+      last = k;
+      at = byWay back h .forward;
+      left = l .nodes;
+    }
+
+abbrev pub isOpen : Layout → Trail → Bool
+isOpen l t = not (areMany (t .faults)) && (not (eqb (t .left) 0) && isNode l (t .at))
+
+abbrev pub nextTrail : ℕ → Cell → Trail → Trail
+nextTrail k c t =
+    record {
+      back = t .back;
+      faults =
+          plus (plus (t .faults) (fault (c .ident) (t .at) identWord (identOf k)))
+          (fault (byWay (t .back) c .back) (t .at) (backwardWord (t .back)) (t .last));
+      last = t .at;
+      at = byWay (t .back) c .forward;
+      left = t .left - 1;
+    }
+
+abbrev pub endFaults : Layout → ℕ → Cell → ℕ → Trail → Faults
+endFaults l k h n t =
+    plus
+    (plus (plus (t .faults) (fault (t .at) (t .last) (onwardWord (t .back)) k))
+    (fault (byWay (t .back) h .back) k (backwardWord (t .back)) (t .last)))
+    (fault n k countWord (l .nodes - t .left))
+
+-- the cells that a walk has yet to meet when it comes to y with `left` steps left
+abbrev pub rest : Layout → View → ℕ → ℕ → List ℕ
+rest l v left y = trail (v .forward) (isNode l) left y
+
+-- where a walk of list k stands: it has summed up f, x is the last cell that it met, and it comes to y
+pub record Walking (l : Layout) (v : View) (a b k : ℕ) (f : Faults) (x y left : ℕ) : Type 0 where
+  pub link : v .forward x ≡ y
+  pub few : left ≤ l .nodes
+  pub same
+      : plus f (turnFaults v a b k x (rest l v left y))
+      ≡ plus (fault (v .ident k) k identWord (identOf k)) (turnFaults v a b k k (walked l v k))
+  pub count : length (walked l v k) ≡ l .nodes - left + length (rest l v left y)
+
+-- the same of a trail
+abbrev pub Trailing : Layout → View → ℕ → Trail → Type 0
+Trailing l v k t =
+    Walking l (viewBy (t .back) v) (onwardWord (t .back)) (backwardWord (t .back)) k (t .faults) (t .last) (t .at) (t .left)
 
 -- which of the two candidates fit. With a wrong back link in the forward walk and a wrong forward link in the back walk they are
 -- two; otherwise, if both fit, they are one.

@@ -1,12 +1,14 @@
 // Which sequence fits a list. Only two can: what the forward links lead through, and what the back links do. Each is walked at most once
-// and its wrong words are summed up as none, one or many; no sequence is kept.
+// and its wrong words are summed up as none, one or many; no sequence is kept. What stands here is what the walks in lent words and in lent
+// bytes share: they differ only in how they read a cell.
 use layout::Layout;
+use spans::Cell;
+use spans::Grid;
 ghost use mathlib.Core.Path.{_≡_};
-ghost use Prim.Native.Nat.{_<_};
-ghost use mathlib.Core.Bool.{false};
-ghost use lib.ListN.{length, getD};
-ghost use Rattle.survey.specs.Survey.{columns, Columns};
-ghost use Rattle.fitting.specs.Fitting.{plus, fault, areMany, walkFaults, decides, lengthBy, carries, choose, fitIn, numberOf, faultIn, isBackward, Each};
+ghost use Prim.Native.Nat.{_<_, _≤_};
+ghost use Rattle.layout.specs.Words.{mostLists, mostCells};
+ghost use Rattle.spans.specs.Spans.{Gridded};
+ghost use Rattle.fitting.specs.Fitting.{plus, fault, areMany, decides, lengthBy, choose, numberOf, faultIn, isBackward, onwardWord, backwardWord, byWay, isOpen, firstTrail, nextTrail, endFaults};
 
 // The words of a cell, as a fault names them.
 const IDENTIFIER: u16 = Layout::IDENTIFIER as u16;
@@ -34,10 +36,10 @@ pub enum Fitted {
 
 impl Faults {
     // One word more is compared: it holds found and is to hold v.
-    fn and(self, found: u16, c: u16, f: u16, v: u16) -> Faults
+    fn and(self, found: usize, c: u16, f: u16, v: u16) -> Faults
         ensures { λ r. ⌜ r ≡ plus self (fault found c f v) ⌝ }
     {
-        if found == v {
+        if found == v as usize {
             return self;
         }
         match self {
@@ -60,7 +62,7 @@ impl Faults {
 
     // Do these faults of the forward walk decide alone? With none, or with one that is no back link, the back links lead through the
     // same sequence.
-    fn decide(self) -> bool
+    pub fn decide(self) -> bool
         ensures { λ r. ⌜ r ≡ decides self ⌝ }
     {
         match self {
@@ -78,18 +80,6 @@ impl Faults {
             Faults::None => n,
             Faults::One(_, w, v) => { if w == COUNT { v } else { n } }
             Faults::Many => n,
-        }
-    }
-
-    // Does every member carry an identifier, right or wrong?
-    pub fn carried(self, idents: &[u16]) -> bool
-        requires { ⌜ Each (λ c f. c < length (now idents)) self ⌝ }
-        ensures { λ r. ⌜ r ≡ carries (λ c. getD (now (idents .entry)) c 0) self ⌝ }
-    {
-        match self {
-            Faults::None => true,
-            Faults::One(c, w, _) => w != IDENTIFIER || idents[c as usize] != 0,
-            Faults::Many => true,
         }
     }
 }
@@ -132,48 +122,136 @@ impl Fitted {
     }
 }
 
-// The faults of what the links onward lead through from the header of list k. The link onward is word a of a cell, back word b.
-fn walk(
-    idents: &[u16],
-    onward: &[u16],
-    back: &[u16],
-    n: u16,
-    l: Layout,
-    k: u16,
-    a: u16,
-    b: u16,
-) -> Faults
-    requires { ⌜ Columns l (now idents) (now onward) (now back) × (k < l .lists) ⌝ }
-    ensures { λ r. ⌜ r ≡ walkFaults l (columns (now (idents .entry)) (now (onward .entry)) (now (back .entry))) a b k n ⌝ }
-{
-    let id = Layout::ident(k);
-    let mut faults = Faults::None.and(idents[k as usize], k, IDENTIFIER, id);
-    let mut x = k;
-    let mut y = onward[k as usize];
-    let mut left = l.nodes;
-    while 0 < left {
-        if !l.is_node(y) {
-            break;
-        }
-        faults = faults.and(idents[y as usize], y, IDENTIFIER, id);
-        faults = faults.and(back[y as usize], y, b, x);
-        if faults.are_many() {
-            return faults;
-        }
-        x = y;
-        y = onward[y as usize];
-        left -= 1;
-    }
-    faults = faults.and(y, x, a, k);
-    faults = faults.and(back[k as usize], k, b, x);
-    faults.and(n, k, COUNT, l.nodes - left)
+// Where a walk through a list stands: by the back links or the forward links, with the wrong words that it met; the last cell that it met,
+// the cell that it comes to, and how many nodes it may meet yet.
+pub struct Trail {
+    pub back: bool,
+    pub faults: Faults,
+    pub last: u16,
+    pub at: usize,
+    pub left: u16,
 }
 
-// Of the two candidates, which fit, where the first does not decide alone.
-fn choice(f: Faults, g: Faults) -> Fitted
-    requires { ⌜ decides f ≡ false ⌝ }
+// The faults of walks through two lists.
+pub struct Walked {
+    pub first: Faults,
+    pub second: Faults,
+}
+
+// Which sequences fit two lists.
+pub struct Fits {
+    pub first: Fitted,
+    pub second: Fitted,
+}
+
+// The word of a cell that a walk follows.
+fn onward(back: bool) -> u16
+    ensures { λ r. ⌜ r ≡ onwardWord back ⌝ }
+{
+    if back { BACK } else { FORWARD }
+}
+
+// The word of a cell that leads back.
+fn backward(back: bool) -> u16
+    ensures { λ r. ⌜ r ≡ backwardWord back ⌝ }
+{
+    if back { FORWARD } else { BACK }
+}
+
+// A cell as a walk sees it: by the back links the other way round.
+fn seen(c: Cell, back: bool) -> Cell
+    ensures { λ r. ⌜ r ≡ byWay back c ⌝ }
+{
+    if back {
+        Cell {
+            ident: c.ident,
+            forward: c.back,
+            back: c.forward,
+        }
+    } else {
+        c
+    }
+}
+
+impl Trail {
+    // At the header h of list k.
+    pub fn first(l: Layout, back: bool, k: u16, h: Cell) -> Self
+        requires { ⌜ k < mostLists ⌝ }
+        ensures { λ r. ⌜ r ≡ firstTrail l back k h ⌝ }
+    {
+        Self {
+            back,
+            faults: Faults::None.and(h.ident as usize, k, IDENTIFIER, Layout::ident(k)),
+            last: k,
+            at: seen(h, back).forward,
+            left: l.nodes,
+        }
+    }
+
+    // Does it go on? Not with many faults, not behind N nodes, and not to a cell that is no node.
+    pub fn open(self, l: Layout, g: Grid) -> bool
+        requires { ⌜ Gridded l g ⌝ }
+        ensures { λ r. ⌜ r ≡ isOpen l self ⌝ }
+    {
+        let faults = self.faults;
+        if faults.are_many() {
+            return false;
+        }
+        if self.left == 0 {
+            return false;
+        }
+        g.is_node(l, self.at)
+    }
+
+    // The cell that it comes to is c, of list k. Most often nothing is wrong.
+    pub fn step(self, k: u16, c: Cell) -> Self
+        requires { ⌜ (k < mostLists) × (self .at ≤ mostCells) × (0 < self .left) ⌝ }
+        ensures { λ r. ⌜ r ≡ nextTrail k c self ⌝ }
+    {
+        let s = seen(c, self.back);
+        let at = self.at as u16;
+        let met = self.faults;
+        let id = Layout::ident(k);
+        if c.ident == id {
+            if s.back == self.last as usize {
+                return Self {
+                    back: self.back,
+                    faults: met,
+                    last: at,
+                    at: s.forward,
+                    left: self.left - 1,
+                };
+            }
+        }
+        let faults = met.and(c.ident as usize, at, IDENTIFIER, id);
+        Self {
+            back: self.back,
+            faults: faults.and(s.back, at, backward(self.back), self.last),
+            last: at,
+            at: s.forward,
+            left: self.left - 1,
+        }
+    }
+
+    // At the end of list k, whose header is h and whose count is n: all its faults.
+    pub fn end(self, l: Layout, k: u16, h: Cell, n: u16) -> Faults
+        requires { ⌜ self .left ≤ l .nodes ⌝ }
+        ensures { λ r. ⌜ r ≡ endFaults l k h n self ⌝ }
+    {
+        let met = self.faults;
+        let f = met.and(self.at, self.last, onward(self.back), k);
+        let g = f.and(seen(h, self.back).back, k, backward(self.back), self.last);
+        g.and(n as usize, k, COUNT, l.nodes - self.left)
+    }
+}
+
+// Of the two candidates, which fit.
+pub fn choice(f: Faults, g: Faults) -> Fitted
     ensures { λ r. ⌜ r ≡ choose f g ⌝ }
 {
+    if f.decide() {
+        return Fitted::Forward(f);
+    }
     match f {
         Faults::None => Fitted::Forward(f),
         Faults::One(_, _, _) => match g {
@@ -193,16 +271,4 @@ fn choice(f: Faults, g: Faults) -> Fitted
             Faults::Many => Fitted::Nothing,
         },
     }
-}
-
-// Which sequence fits list k, whose count is n. The back links are walked only if the forward walk does not decide.
-pub fn fit(idents: &[u16], forwards: &[u16], backs: &[u16], n: u16, l: Layout, k: u16) -> Fitted
-    requires { ⌜ Columns l (now idents) (now forwards) (now backs) × (k < l .lists) ⌝ }
-    ensures { λ r. ⌜ r ≡ fitIn l (columns (now (idents .entry)) (now (forwards .entry)) (now (backs .entry))) k n ⌝ }
-{
-    let f = walk(idents, forwards, backs, n, l, k, FORWARD, BACK);
-    if f.decide() {
-        return Fitted::Forward(f);
-    }
-    choice(f, walk(idents, backs, forwards, n, l, k, BACK, FORWARD))
 }

@@ -1,4 +1,4 @@
--- Laws of the mends of all lists, and of the columns after all of them are erased.
+-- Laws of the mends of all lists, and of the column after all of them are erased.
 use Prim.Native.Nat.{ℕ, suc, _+_, _-_, _≤_, _<_}
 use mathlib.Core.Path.{_≡_, refl, ap, ap₂, _∙_, sym}
 use mathlib.Core.List.{List, [], _∷_, _++_, append-nil, append-assoc}

@@ -14,7 +14,7 @@ use Rattle.sequences.specs.Sequence.{_∈_}
 use Rattle.sequences.proofs.Members.{member?}
 use Rattle.stores.specs.Stores.{Write, write}
 use Rattle.layout.specs.declared.Layout.{Layout}
-use Rattle.layout.specs.Words.{firstNode, cellCount, identAt}
+use Rattle.layout.specs.Words.{Node, firstNode, identAt}
 use Rattle.lists.specs.Decide.{View}
 use Rattle.recovery.specs.Fits.{wrong}
 use Rattle.recovery.specs.Plan.{joined, outOf, clearsAsked}
@@ -89,7 +89,7 @@ module _ (l : Layout) (v : View) (back : ℕ → Bool) where
 
 -- an entry is 0 at a member, and elsewhere as in the words: the clears are what is wrong of those required
 clears-told : (l : Layout) (w idents ms : List ℕ) (a n : ℕ)
-    → ((c : ℕ) → c < a + n → (c ∈ ms → getD idents c 0 ≡ 0) × ((c ∈ ms → ⊥) → getD idents c 0 ≡ getD w (identAt l c) 0))
+    → ((c : ℕ) → a ≤ c → c < a + n → (c ∈ ms → getD idents c 0 ≡ 0) × ((c ∈ ms → ⊥) → getD idents c 0 ≡ getD w (identAt l c) 0))
     → clearsIn l idents a n ≡ wrong w (map (λ c. write (identAt l c) 0) (outOf ms a n))
 unfolding clearsIn outOf wrong
 clears-told l w idents ms a zero h = refl
@@ -97,8 +97,8 @@ clears-told l w idents ms a (suc n) h =
     let p = write (identAt l a) 0 in
     let step : ℕ → List Write → List Write = λ v t. cond (eqb v 0) t (p ∷ t) in
     let required : List ℕ → List Write = λ cs. map (λ c. write (identAt l c) 0) cs in
-    let here = h a (omega arith) in
-    let below = clears-told l w idents ms (suc a) n (λ c q. h c (omega arith)) in
+    let here = h a (omega arith) (omega arith) in
+    let below = clears-told l w idents ms (suc a) n (λ c p q. h c (omega arith) (omega arith)) in
     ⊎-elim
     (λ m. ap₂ step (here .0 m) below ∙ ap (λ (cs : List ℕ). wrong w (required cs)) (sym (out-member ms a n m)))
     (λ o.
@@ -112,17 +112,17 @@ clears-told l w idents ms a (suc n) h =
 
 -- the clears of the identifiers without the members of the lists are those of the plan
 pub cleared-told : (l : Layout) (w idents : List ℕ) (v : View) (back : ℕ → Bool) (s : ℕ → List ℕ)
-    → ((c : ℕ) → c < cellCount l → getD idents c 0 ≡ getD w (identAt l c) 0)
+    → ((c : ℕ) → Node l c → getD idents c 0 ≡ getD w (identAt l c) 0)
     → ((k : ℕ) → k < l .lists → (c : ℕ) → (c ∈ membersBy l v (back k) k → c ∈ s k) × (c ∈ s k → c ∈ membersBy l v (back k) k))
     → clears l (erasedFrom l v back 0 (l .lists) idents) ≡ wrong w (clearsAsked l s)
 cleared-told l w idents v back s same members =
     clears-told l w (erasedFrom l v back 0 (l .lists) idents) (joined s (l .lists)) (firstNode l) (l .nodes)
-    (λ c q. (
+    (λ c p q. (
       (λ m.
           let r = joined-one s (l .lists) c m in
           from-in l v back 0 (l .lists) idents c (r .0) (omega arith) (omega (arith, r .1)) (members (r .0) (r .1) c .1 (r .2))),
       (λ o.
           from-other l v back 0 (l .lists) idents c
           (λ j _ h m. let k : j < l .lists = omega arith in o (one-joined s (l .lists) j c k (members j k c .0 m)))
-          ∙ same c q),
+          ∙ same c (record { low = p; high = q })),
     ))

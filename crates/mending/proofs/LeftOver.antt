@@ -34,7 +34,7 @@ unfolding joined total
 length-joined s zero = refl
 length-joined s (suc n) = length-append (joined s n) (s n) ∙ ap (λ (m : ℕ). m + length (s n)) (length-joined s n)
 
-pub total-same : (f g : ℕ → ℕ) (n : ℕ) → ((k : ℕ) → k < n → f k ≡ g k) → total f n ≡ total g n
+total-same : (f g : ℕ → ℕ) (n : ℕ) → ((k : ℕ) → k < n → f k ≡ g k) → total f n ≡ total g n
 unfolding total
 total-same f g zero h = refl
 total-same f g (suc n) h = ap₂ _+_ (total-same f g n (λ k q. h k (omega arith))) (h n (omega arith))

@@ -1,7 +1,7 @@
--- What the columns told is the plan of recovery.
+-- What is found of all lists is the plan of recovery.
 use Prim.Native.Nat.{ℕ, zero, suc, _+_, _<_, _≤_}
 use mathlib.Core.Path.{_≡_, refl, ap, ap₂, _∙_, sym, subst}
-use mathlib.Core.List.{List, [], _++_, append-nil, append-assoc}
+use mathlib.Core.List.{List, _++_, append-nil, append-assoc}
 use mathlib.Core.Bool.{Bool, true, false, cond, _&&_, and-eq-true-iff}
 use native.Mathlib.Omega.{arith}
 use native.Mathlib.Nat.{eq-or-lt-of-le}
@@ -12,23 +12,20 @@ use borrow.Author.Tests.{eq-eqb, ne-eqb, eqb-true}
 use Rattle.sequences.specs.Sequence.{_∈_}
 use Rattle.stores.specs.Stores.{Write, refuse, stores, writesIn}
 use Rattle.layout.specs.declared.Layout.{Layout}
-use Rattle.layout.specs.Words.{firstNode}
+use Rattle.layout.specs.Words.{firstNode, Node}
 use Rattle.lists.specs.Lists.{asked}
 use Rattle.lists.specs.Decide.{View, viewOf, countIn, used}
-use Rattle.lists.proofs.Stepwise.{used-same}
-use Rattle.survey.specs.Survey.{columns, Loaded}
-use Rattle.survey.proofs.Laws.{loaded-view}
 use Rattle.recovery.specs.Fits.{wrong}
 use Rattle.recovery.specs.Plan.{joined, listsAsked, clearsAsked, fittingOf, refusalFrom, recoverOf}
 use Rattle.recovery.proofs.Required.{wrong-append}
 use Rattle.fitting.specs.declared.Fitted.{Fitted}
 use Rattle.fitting.specs.declared.Fitted.the-variants as G
-use Rattle.fitting.specs.Fitting.{fitIn, mendOf, numberOf, faultIn, isBackward, lengthBy, carries, membersBy}
+use Rattle.fitting.specs.Fitting.{fitIn, mendOf, numberOf, faultIn, membersBy}
 use Rattle.fitting.proofs.Told.{Told, fit-told, members-told}
 use Rattle.mending.specs.declared.Mends.{Mends}
-use Rattle.mending.specs.Mending.{refusalIn, mendsIn, total, erasedFrom, clears, MendsOf}
+use Rattle.mending.specs.Mending.{refusalIn, mendsIn, erasedFrom, clears, MendsOf}
 use Rattle.mending.proofs.Cleared.{cleared-told}
-use Rattle.mending.proofs.LeftOver.{total-same, nothing-left}
+use Rattle.mending.proofs.LeftOver.{nothing-left}
 
 -- the first list that is refused is the same
 pub refusal-told
@@ -79,22 +76,6 @@ mends-told l w z (suc n) h =
     ∙ ap₂ _++_ (mends-told l w z n (omega arith)) (mend-told l w n (omega arith) (z n (omega arith)))
     ∙ sym (wrong-append w (joined (λ k. asked l k (fittingOf l w k)) n) (asked l n (fittingOf l w n)))
 
--- the counts of lists below L are all that matters
-refusal-counts : (l : Layout) (v : View) (c d : ℕ → ℕ) (k n : ℕ) → ((j : ℕ) → k ≤ j → j < k + n → c j ≡ d j)
-    → refusalIn l v c k n ≡ refusalIn l v d k n
-unfolding refusalIn
-refusal-counts l v c d k zero h = refl
-refusal-counts l v c d k (suc n) h =
-    ap₂ (λ (x r : ℕ). cond (eqb (numberOf (fitIn l v k x)) 0) r (numberOf (fitIn l v k x)))
-    (h k (omega arith) (omega arith)) (refusal-counts l v c d (suc k) n (λ j p q. h j (omega arith) (omega arith)))
-
-mends-counts : (l : Layout) (v : View) (c d : ℕ → ℕ) (k n : ℕ) → ((j : ℕ) → k ≤ j → j < k + n → c j ≡ d j) → mendsIn l v c k n ≡ mendsIn l v d k n
-unfolding mendsIn
-mends-counts l v c d k zero h = refl
-mends-counts l v c d k (suc n) h =
-    ap₂ (λ (x : ℕ) (r : List Write). mendOf l (faultIn (fitIn l v k x)) ++ r)
-    (h k (omega arith) (omega arith)) (mends-counts l v c d (suc k) n (λ j p q. h j (omega arith) (omega arith)))
-
 -- where none is refused, every list is not
 none-refused : (l : Layout) (v : View) (c : ℕ → ℕ) (k n : ℕ) → refusalIn l v c k n ≡ 0 → (j : ℕ) → k ≤ j → j < k + n → numberOf (fitIn l v j (c j)) ≡ 0
 unfolding refusalIn
@@ -108,19 +89,12 @@ none-refused l v c k (suc n) e j p q =
     by true z e = (eqb-true _ _ z, e)
     by false z e = let y : true ≡ false = sym (eq-eqb _ _ e) ∙ z in let o : _≡_ {A = ℕ} 1 0 = ap (λ (b : Bool). cond b 1 0) y in absurd (omega arith)
 
-module _ (l : Layout) (w idents forwards backs : List ℕ) (loaded : Loaded l w idents forwards backs) (counts : ℕ → ℕ)
-    (same : (k : ℕ) → k < l .lists → counts k ≡ countIn l w k) (m : Mends) (told : MendsOf l (columns idents forwards backs) counts m) where
+module _ (l : Layout) (w : List ℕ) (m : Mends) (told : MendsOf l (viewOf l w) (countIn l w) m) where
   abbrev v : View
   v = viewOf l w
 
-  told-words : MendsOf l v counts m
-  told-words = subst (λ (u : View). MendsOf l u counts m) (loaded-view l w idents forwards backs loaded) told
-
-  counted : refusalIn l v counts 0 (l .lists) ≡ refusalIn l v (countIn l w) 0 (l .lists)
-  counted = refusal-counts l v counts (countIn l w) 0 (l .lists) (λ j p q. same j (omega arith))
-
   refusal : m .refusal ≡ refusalFrom l w 0 (l .lists)
-  refusal = told-words .refusal ∙ counted ∙ refusal-told l w 0 (l .lists) (omega arith)
+  refusal = told .refusal ∙ refusal-told l w 0 (l .lists) (omega arith)
 
   -- a refusal
   pub recover-refused : (m .refusal ≡ 0 → ⊥) → recoverOf l w ≡ refuse (m .refusal)
@@ -129,11 +103,8 @@ module _ (l : Layout) (w idents forwards backs : List ℕ) (loaded : Loaded l w 
 
   -- no refusal
   module _ (z : m .refusal ≡ 0) where
-    none : refusalIn l v (countIn l w) 0 (l .lists) ≡ 0
-    none = sym counted ∙ sym (told-words .refusal) ∙ z
-
     fitted : (k : ℕ) → k < l .lists → numberOf (fitIn l v k (countIn l w k)) ≡ 0
-    fitted k h = none-refused l v (countIn l w) 0 (l .lists) none k (omega arith) (omega arith)
+    fitted k h = none-refused l v (countIn l w) 0 (l .lists) (sym (told .refusal) ∙ z) k (omega arith) (omega arith)
 
     -- the stores: the mends, and the clears ..
     abbrev Left : List Write
@@ -145,47 +116,24 @@ module _ (l : Layout) (w idents forwards backs : List ℕ) (loaded : Loaded l w 
         rw (eq-eqb _ _ (sym refusal ∙ z))
         (ap stores
         (wrong-append w (listsAsked l (fittingOf l w)) (clearsAsked l (fittingOf l w))
-        ∙ ap (λ (ps : List Write). ps ++ Left)
+        ∙ ap (λ (ps : List Write). ps ++ Left) (sym (told .rows z ∙ mends-told l w fitted (l .lists) (omega arith)))))
+
+    -- .. by what is left of the nodes' identifiers
+    pub recover-stores : (idents : List ℕ) → ((c : ℕ) → Node l c → getD idents c 0 ≡ v .ident c)
+        → recoverOf l w ≡ stores (writesIn (m .rows) ++ clears l (erasedFrom l v (λ k. getD (m .back) k false) 0 (l .lists) idents))
+    recover-stores idents same =
+        stores-told
+        ∙ ap (λ (ps : List Write). stores (writesIn (m .rows) ++ ps))
         (sym
-        (told-words .rows z ∙ mends-counts l v counts (countIn l w) 0 (l .lists) (λ j p q. same j (omega arith))
-        ∙ mends-told l w fitted (l .lists) (omega arith)))))
-
-    -- .. by what is left of the identifiers
-    abbrev Clears : List Write
-    Clears = clears l (erasedFrom l (columns idents forwards backs) (λ k. getD (m .back) k false) 0 (l .lists) idents)
-
-    pub recover-stores : recoverOf l w ≡ stores (writesIn (m .rows) ++ Clears)
-    recover-stores = stores-told ∙ ap (λ (ps : List Write). stores (writesIn (m .rows) ++ ps)) (sym cleared)
-      where
-        back : (k : ℕ) → k < l .lists → getD (m .back) k false ≡ isBackward (fitIn l v k (countIn l w k))
-        back k h = told-words .back z k h ∙ ap (λ (n : ℕ). isBackward (fitIn l v k n)) (same k h)
-
-        cleared : Clears ≡ Left
-        cleared =
-            ap (λ (u : View). clears l (erasedFrom l u (λ k. getD (m .back) k false) 0 (l .lists) idents))
-            (loaded-view l w idents forwards backs loaded)
-            ∙ cleared-told l w idents v (λ k. getD (m .back) k false) (fittingOf l w) (λ c _. loaded .idents c)
-            (λ k h. subst (λ (b : Bool). (c : ℕ) → (c ∈ membersBy l v b k → c ∈ fittingOf l w k) × (c ∈ fittingOf l w k → c ∈ membersBy l v b k)) (sym (back k h))
-            (members-told l w k h (fitted k h)))
+        (cleared-told l w idents v (λ k. getD (m .back) k false) (fittingOf l w) same
+        (λ k h. subst (λ (b : Bool). (c : ℕ) → (c ∈ membersBy l v b k → c ∈ fittingOf l w k) × (c ∈ fittingOf l w k → c ∈ membersBy l v b k))
+        (sym (told .back z k h)) (members-told l w k h (fitted k h)))))
 
     -- .. or none, if nobody is left over
-    pub recover-mends : (m .carried && eqb (m .members) (length (used (columns idents idents idents) (firstNode l) (l .nodes)))) ≡ true
-        → recoverOf l w ≡ stores (writesIn (m .rows) ++ [])
-    recover-mends e = stores-told ∙ ap (λ (ps : List Write). stores (writesIn (m .rows) ++ ps)) (nothing-left l w fitted carried number)
-      where
-        both : (m .carried ≡ true) × (eqb (m .members) (length (used (columns idents idents idents) (firstNode l) (l .nodes))) ≡ true)
-        both = and-eq-true-iff _ _ .0 e
-
-        carried : (k : ℕ) → k < l .lists → carries (v .ident) (faultIn (fitIn l v k (countIn l w k))) ≡ true
-        carried k h =
-            ap (λ (n : ℕ). carries (v .ident) (faultIn (fitIn l v k n))) (sym (same k h)) ∙ told-words .carried z (both .0) k h
-
-        idents-same : columns idents idents idents .ident ≡ v .ident
-        idents-same = ap (λ (u : View). u .ident) (loaded-view l w idents forwards backs loaded)
-
-        number : total (λ k. lengthBy (faultIn (fitIn l v k (countIn l w k))) (countIn l w k)) (l .lists) ≡ length (used v (firstNode l) (l .nodes))
-        number =
-            total-same _ _ (l .lists) (λ k h. ap (λ (n : ℕ). lengthBy (faultIn (fitIn l v k n)) n) (sym (same k h)))
-            ∙ sym (told-words .members z)
-            ∙ eqb-true _ _ (both .1)
-            ∙ ap length (used-same (columns idents idents idents) v (firstNode l) (l .nodes) idents-same)
+    pub recover-mends : (m .carried && eqb (m .members) (length (used v (firstNode l) (l .nodes)))) ≡ true → recoverOf l w ≡ stores (writesIn (m .rows))
+    recover-mends e =
+        let both = and-eq-true-iff _ _ .0 e in
+        stores-told
+        ∙ ap (λ (ps : List Write). stores (writesIn (m .rows) ++ ps))
+        (nothing-left l w fitted (told .carried z (both .0)) (sym (told .members z) ∙ eqb-true _ _ (both .1)))
+        ∙ ap stores (append-nil (writesIn (m .rows)))

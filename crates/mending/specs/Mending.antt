@@ -1,21 +1,19 @@
--- Recovery as it is decided from the columns: the mends of all lists, and the clears of the nodes in none.
+-- Recovery as it is decided: the mends of all lists, and the clears of the nodes in none.
 use Prim.Native.Nat.{ℕ, zero, suc, _+_, _<_, _≤_}
 use mathlib.Core.Path.{_≡_}
 use mathlib.Core.List.{List, [], _∷_, _++_}
 use mathlib.Core.Bool.{Bool, true, false, cond}
 use lib.Dec.{eqb}
 use lib.ListN.{getD, set, take}
-use Rattle.sequences.specs.Sequence.{All}
-use Rattle.stores.specs.Stores.{Write, write, writesIn, Held, Plan, refuse, stores}
+use Rattle.sequences.specs.Sequence.{All, trail}
+use Rattle.stores.specs.Stores.{Write, write, writesIn, Held}
 use Rattle.layout.specs.declared.Layout.{Layout}
-use Rattle.layout.specs.Words.{firstNode, identAt, sizeOf}
-use Rattle.lists.specs.Decide.{View, countIn}
-use Rattle.survey.specs.Survey.{Loaded}
+use Rattle.layout.specs.Words.{firstNode, isNode, identAt, sizeOf}
+use Rattle.lists.specs.Decide.{View}
 use Rattle.fitting.specs.declared.Faults.{Faults}
 use Rattle.fitting.specs.Fitting.{fitIn, mendOf, numberOf, faultIn, isBackward, lengthBy, carries, membersBy}
 use Rattle.mending.specs.declared.Mend.{Mend}
 use Rattle.mending.specs.declared.Mends.{Mends}
-use Rattle.mending.specs.declared.Finding.{Finding}
 
 -- the sum of the first n
 unfoldable pub total : (ℕ → ℕ) → ℕ → ℕ
@@ -37,6 +35,14 @@ unfoldable pub erased : List ℕ → List ℕ → List ℕ
 erased [] xs = xs
 erased (c ∷ cs) xs = erased cs (set xs c 0)
 
+-- the link of a cell that a walk follows
+abbrev pub linkBy : View → Bool → ℕ → ℕ
+linkBy v back c = cond back (v .back c) (v .forward c)
+
+-- a column with 0 at the cells that the links lead through from y on, n at most
+abbrev pub erasedAlong : Layout → View → Bool → ℕ → ℕ → List ℕ → List ℕ
+erasedAlong l v back n y idents = erased (trail (linkBy v back) (isNode l) n y) idents
+
 -- the identifiers with 0 at every member of the n lists from k on
 unfoldable pub erasedFrom : Layout → View → (ℕ → Bool) → ℕ → ℕ → List ℕ → List ℕ
 erasedFrom l v back k zero xs = xs
@@ -51,16 +57,6 @@ clearsIn l idents a (suc n) =
 -- the clears of the nodes that have an entry
 abbrev pub clears : Layout → List ℕ → List Write
 clears l idents = clearsIn l idents (firstNode l) (l .nodes)
-
--- what recovery comes to: the mends, and then the clears if a node may be left over
-abbrev pub planOf : Layout → Finding → List ℕ → Plan
-planOf l f idents =
-    cond (eqb (f .refusal) 0) (stores (writesIn (f .mends) ++ cond (f .left) (clears l idents) [])) (refuse (f .refusal))
-
--- the columns and the counts tell the words
-pub record Told (l : Layout) (w idents forwards backs counts : List ℕ) : Type 0 where
-  pub loaded : Loaded l w idents forwards backs
-  pub counted : (k : ℕ) → k < l .lists → getD counts k 0 ≡ countIn l w k
 
 -- the mend of a fault: as many of this one store as there are
 pub record IsMend (l : Layout) (f : Faults) (m : Mend) : Type 0 where

@@ -163,7 +163,7 @@ fn headed(words: &[u16], l: Layout, k: u16) -> bool
 }
 
 // Does list k hold?
-fn one_holds(words: &[u16], l: Layout, g: Grid, k: u16) -> bool
+pub fn one_holds(words: &[u16], l: Layout, g: Grid, k: u16) -> bool
     requires { ⌜ Gridded l g × Laid l (now words) × (k < l .lists) ⌝ }
     ensures { λ r. ⌜ Decides r (Held l (viewOf l (now (words .entry))) (countIn l (now (words .entry))) k) ⌝ }
 {
@@ -173,20 +173,20 @@ fn one_holds(words: &[u16], l: Layout, g: Grid, k: u16) -> bool
     spanned(words, l, g, k, whole(words, l, k))
 }
 
-// Do lists k and k + 1 hold?
-fn two_hold(words: &[u16], l: Layout, g: Grid, k: u16) -> bool
-    requires { ⌜ Gridded l g × Laid l (now words) × (k + 1 < l .lists) ⌝ }
-    ensures { λ r. ⌜ Decides r (Held l (viewOf l (now (words .entry))) (countIn l (now (words .entry))) k × Held l (viewOf l (now (words .entry))) (countIn l (now (words .entry))) (k + 1)) ⌝ }
+// Do lists k and j hold?
+pub fn two_hold(words: &[u16], l: Layout, g: Grid, k: u16, j: u16) -> bool
+    requires { ⌜ Gridded l g × Laid l (now words) × (k < l .lists) × (j < l .lists) ⌝ }
+    ensures { λ r. ⌜ Decides r (Held l (viewOf l (now (words .entry))) (countIn l (now (words .entry))) k × Held l (viewOf l (now (words .entry))) (countIn l (now (words .entry))) j) ⌝ }
 {
     if !headed(words, l, k) {
         return false;
     }
-    if !headed(words, l, k + 1) {
+    if !headed(words, l, j) {
         return false;
     }
     let s = whole(words, l, k);
-    let t = whole(words, l, k + 1);
-    both_spanned(words, l, g, k, s, k + 1, t)
+    let t = whole(words, l, j);
+    both_spanned(words, l, g, k, s, j, t)
 }
 
 // 1 where the word at a is not 0.
@@ -238,7 +238,7 @@ pub fn sound_in(words: &[u16], l: Layout) -> bool
     }
     let mut k: u16 = 0;
     while k + 1 < l.lists {
-        if !two_hold(words, l, g, k) {
+        if !two_hold(words, l, g, k, k + 1) {
             return false;
         }
         k += 2;

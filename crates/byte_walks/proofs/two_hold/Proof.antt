@@ -1,6 +1,5 @@
 -- `byte_walks::two_hold` meets its contract. Both headers have their list's identifier, and the walks that begin there decide.
-use Prim.Native.Nat.{ℕ, _+_, _<_}
-use native.Mathlib.Omega.{arith}
+use Prim.Native.Nat.{ℕ}
 use borrow.Author.Needs.{needs}
 use Rattle.byte_form.specs.Bytes.{wordsIn}
 use Rattle.lists.specs.Decide.{View, viewOf, countIn}
@@ -16,19 +15,13 @@ view s = viewOf (s .args .l) (wordsIn (s .args .bytes .now))
 abbrev counts : tie.Start → ℕ → ℕ
 counts s = countIn (s .args .l) (wordsIn (s .args .bytes .now))
 
-below : (s : tie.Start) → s .args .k < s .args .l .lists
-below s = omega arith
-
 headed-requires : tie.Need-headed-requires
 headed-requires c κs = search needs
 
 returns : tie.Need-returns
 returns c =
     let s = c .before .before .before in
-    refused (λ h. denied (c .before .headed .ensures) (c .if1 .taken) (held-ident (s .args .l) (view s) (counts s) (s .args .k) (below s) (h .0)))
-
-add-headed : tie.Need-add-headed
-add-headed c = search needs
+    refused (λ h. denied (c .before .headed .ensures) (c .if1 .taken) (held-ident (s .args .l) (view s) (counts s) (s .args .k) (s .pre .2) (h .0)))
 
 headed-requires-2 : tie.Need-headed-requires-2
 headed-requires-2 c κs = search needs
@@ -36,19 +29,13 @@ headed-requires-2 c κs = search needs
 returns-2 : tie.Need-returns-2
 returns-2 c =
     let s = c .before .before .before .before .before in
-    refused (λ h. denied (c .before .headed2 .ensures) (c .if2 .taken) (held-ident (s .args .l) (view s) (counts s) (s .args .k + 1) (s .pre .2) (h .1)))
+    refused (λ h. denied (c .before .headed2 .ensures) (c .if2 .taken) (held-ident (s .args .l) (view s) (counts s) (s .args .j) (s .pre .3) (h .1)))
 
 whole-requires : tie.Need-whole-requires
 whole-requires c κs = search needs
 
-add-whole : tie.Need-add-whole
-add-whole c = search needs
-
 whole-requires-2 : tie.Need-whole-requires-2
 whole-requires-2 c κs = search needs
-
-add-both-spanned : tie.Need-add-both-spanned
-add-both-spanned c = search needs
 
 both-spanned-requires : tie.Need-both-spanned-requires
 both-spanned-requires c κs =
@@ -56,10 +43,10 @@ both-spanned-requires c κs =
     let s = w .before .before .before .before .before .before in (
       s .pre .0,
       s .pre .1,
-      below s,
       s .pre .2,
-      whole-led (s .args .l) (view s) (counts s) (s .args .k) (below s) (w .whole .ensures),
-      whole-led (s .args .l) (view s) (counts s) (s .args .k + 1) (s .pre .2) (c .whole2 .ensures),
+      s .pre .3,
+      whole-led (s .args .l) (view s) (counts s) (s .args .k) (s .pre .2) (w .whole .ensures),
+      whole-led (s .args .l) (view s) (counts s) (s .args .j) (s .pre .3) (c .whole2 .ensures),
     )
 
 returns-3 : tie.Need-returns-3
@@ -71,11 +58,12 @@ returns-3 c =
     let s = d .before .before .before in
     let l = s .args .l in
     let k = s .args .k in
+    let j = s .args .j in
     let i = granted (d .before .headed .ensures) (d .if1 .left) in
-    let j = granted (e .before .headed2 .ensures) (e .if2 .left) in
+    let h = granted (e .before .headed2 .ensures) (e .if2 .left) in
     decides-same
-    (λ b. (whole-held l (view s) (counts s) k (below s) (w .whole .ensures) i (b .0), whole-held l (view s) (counts s) (k + 1) (s .pre .2) (x .whole2 .ensures) j (b .1)))
-    (λ h. (held-whole l (view s) (counts s) k (below s) (w .whole .ensures) (h .0), held-whole l (view s) (counts s) (k + 1) (s .pre .2) (x .whole2 .ensures) (h .1)))
+    (λ b. (whole-held l (view s) (counts s) k (s .pre .2) (w .whole .ensures) i (b .0), whole-held l (view s) (counts s) j (s .pre .3) (x .whole2 .ensures) h (b .1)))
+    (λ h. (held-whole l (view s) (counts s) k (s .pre .2) (w .whole .ensures) (h .0), held-whole l (view s) (counts s) j (s .pre .3) (x .whole2 .ensures) (h .1)))
     (c .both-spanned .ensures)
 
 pub two-hold-spec : {M : Type 1} → statement M
@@ -84,12 +72,9 @@ two-hold-spec =
     (tie.spec
     headed-requires
     returns
-    add-headed
     headed-requires-2
     returns-2
     whole-requires
-    add-whole
     whole-requires-2
-    add-both-spanned
     both-spanned-requires
     returns-3)

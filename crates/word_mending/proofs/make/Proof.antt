@@ -1,37 +1,30 @@
 -- `word_mending::make`: the mends and the clears are two segments of one run.
 use Prim.Native.Nat.{ℕ, _+_, _-_, _≤_}
-use mathlib.Core.Path.{_≡_, refl, ap, ap₂, sym, subst, _∙_}
-use mathlib.Core.List.{List, _++_, append-nil}
-use mathlib.Core.Bool.{true, false}
+use mathlib.Core.Path.{_≡_, ap, ap₂, sym, subst, _∙_}
+use mathlib.Core.List.{List, _++_}
 use mathlib.Core.Logic.{⊎-elim}
 use native.Mathlib.Omega.{arith}
-use lib.Dec.{eqb}
 use lib.ListN.{length}
 use borrow.Author.Needs.{needs}
-use borrow.Author.Tests.{eq-eqb, ne-eqb}
 use Rattle.stores.specs.declared.Answer.the-variants as A
 use Rattle.stores.specs.Stores.{Write, Held, writesIn, stores, answerOf, applied, more}
 use Rattle.stores.proofs.Laws.{answer-stopped}
 use Rattle.stores.proofs.Segments.{applied-append, applied-first, answer-first, answer-second, undone-short, done-whole}
-use Rattle.layout.proofs.Laws.{answered-no, answered-yes}
 use Rattle.mending.specs.Mending.{clears}
 use Rattle.word_mending.proofs.make.Statement.{statement}
 use Rattle.word_mending.proofs.make.Tie as tie
 
 -- the start and the mends, by the place where the mends were tried
 abbrev start : tie.After-run-rows → tie.Start
-start c = c .before .before .before .before .before .before
+start c = c .before .before .before
 
 abbrev mends : tie.After-run-rows → List Write
-mends c = writesIn (start c .args .f .mends)
-
-returns : tie.Need-returns
-returns c = let e = ne-eqb (c .before .before .before .before .args .f .refusal) 0 (c .if1 .taken) in (rw e, rw e)
+mends c = writesIn (start c .args .mends)
 
 run-rows-requires : tie.Need-run-rows-requires
 run-rows-requires c κs =
-    let s = c .before .before .before .before .before in
-    subst (λ (n : ℕ). Held n (s .args .f .mends) (writesIn (s .args .f .mends))) (sym (s .pre .0 .exact)) (s .pre .2)
+    let s = c .before .before in
+    subst (λ (n : ℕ). Held n (s .args .mends) (writesIn (s .args .mends))) (sym (s .pre .0 .exact)) (s .pre .1)
 
 enum-known-n : tie.Need-enum-known-n
 enum-known-n c = search needs
@@ -39,16 +32,11 @@ enum-known-n c = search needs
 same-length : tie.Need-same-length
 same-length c = search needs
 
--- nothing is refused
-accepted : (c : tie.After-run-rows) → eqb (start c .args .f .refusal) 0 ≡ true
-accepted c = eq-eqb (start c .args .f .refusal) 0 (c .before .before .if1 .left)
-
-returns-2 : tie.Need-returns-2
-returns-2 c =
+returns : tie.Need-returns
+returns c =
     let x = c .before .before .before in
     let a = start x .args in
-    let h = undone-short (mends x) (a .allowance) (λ n q. ⊎-elim (λ z. absurd (omega arith)) (λ z. absurd (omega arith)) (rw (x .run-rows .ensures .0 ∙ q) at (c .match .keys2))) in
-    rw (accepted x) (
+    let h = undone-short (mends x) (a .allowance) (λ n q. ⊎-elim (λ z. absurd (omega arith)) (λ z. absurd (omega arith)) (rw (x .run-rows .ensures .0 ∙ q) at (c .match .keys2))) in (
       sym (answer-first (mends x) _ (a .allowance) h),
       x .run-rows .ensures .1 ∙ sym (applied-first (mends x) _ (a .allowance) (a .words .now) (omega (arith, h))),
     )
@@ -61,44 +49,27 @@ made : (c : tie.After-n) → let x = tried c in
     (length (mends x) ≤ start x .args .allowance) × (c .n .given .0 .0 ≡ length (mends x))
 made c = let x = tried c in done-whole (mends x) (start x .args .allowance) _ (sym (x .run-rows .ensures .0) ∙ c .n .given .1)
 
-same-length-2 : tie.Need-same-length-2
-same-length-2 c = search needs
-
-returns-3 : tie.Need-returns-3
-returns-3 c =
-    let n = c .before .before .before in
-    let x = tried n in
-    let a = start x .args in
-    let f : a .f .left ≡ false = answered-no refl (c .if2 .taken) in
-    rw (accepted x, f) (
-      sym (n .n .given .1) ∙ x .run-rows .ensures .0 ∙ ap (λ (ps : List Write). answerOf (stores ps) (a .allowance)) (sym (append-nil (mends x))),
-      x .run-rows .ensures .1 ∙ ap (λ (ps : List Write). applied ps (a .allowance) (a .words .now)) (sym (append-nil (mends x))),
-    )
-
 sub-clear : tie.Need-sub-clear
-sub-clear c = omega (arith, made (c .before .before .before .before))
+sub-clear c = omega (arith, made (c .before .before))
 
 clear-requires : tie.Need-clear-requires
 clear-requires c κs =
-    let x = c .before .before .before .before .before .before .before .before in
+    let x = tried (c .before .before) in
     let s = start x in
-    (record { inRange = s .pre .0 .inRange; exact = x .run-rows .kept .0 ∙ s .pre .0 .exact }, s .pre .1)
+    record { inRange = s .pre .0 .inRange; exact = x .run-rows .kept .0 ∙ s .pre .0 .exact }
 
 enum-known-m : tie.Need-enum-known-m
 enum-known-m c = search needs
 
-same-length-3 : tie.Need-same-length-3
-same-length-3 c = search needs
+same-length-2 : tie.Need-same-length-2
+same-length-2 c = search needs
 
--- the mends by the place where the clears were tried; the clears; that they are asked for
+-- the mends by the place where the clears were tried; the clears
 abbrev mended : tie.After-clear → tie.After-n
-mended c = c .before .before .before .before .before
+mended c = c .before .before .before
 
 abbrev cleared : tie.After-clear → List Write
 cleared c = let a = start (tried (mended c)) .args in clears (a .l) (a .idents .now)
-
-left-over : (c : tie.After-clear) → start (tried (mended c)) .args .f .left ≡ true
-left-over c = answered-yes refl (c .before .before .if2 .left)
 
 -- the words after both
 both : (c : tie.After-clear) → let x = tried (mended c) in let a = start x .args in
@@ -121,51 +92,44 @@ answered c =
     ∙ ap (λ (n : ℕ). more n (answerOf (stores (cleared c)) (m - n))) (d .1)
     ∙ sym (answer-second (mends x) (cleared c) m (d .0))
 
-returns-4 : tie.Need-returns-4
-returns-4 c =
+returns-2 : tie.Need-returns-2
+returns-2 c =
     let y = c .before .before .before in
-    let x = tried (mended y) in
-    let m = start x .args .allowance in
+    let m = start (tried (mended y)) .args .allowance in
     let n = mended y .n .given .0 .0 in
     let h = undone-short (cleared y) (m - n) (λ n q. ⊎-elim (λ z. absurd (omega arith)) (λ z. absurd (omega arith)) (rw (y .clear .ensures .0 ∙ q) at (c .match2 .keys2))) in
     let e : m ≡ n + (m - n) = omega (arith, made (mended y)) in
-    rw (accepted x, left-over y) (
-      ap A.Stopped e ∙ ap (more n) (answer-stopped (cleared y) (m - n) h ∙ sym (y .clear .ensures .0)) ∙ answered y,
-      both y,
-    )
+    (ap A.Stopped e ∙ ap (more n) (answer-stopped (cleared y) (m - n) h ∙ sym (y .clear .ensures .0)) ∙ answered y, both y)
 
 -- all of the clears are made
 all : (c : tie.After-m) → let y = c .before .before .before .before in
     (length (cleared y) ≤ start (tried (mended y)) .args .allowance - mended y .n .given .0 .0) × (c .m .given .0 .0 ≡ length (cleared y))
 all c = let y = c .before .before .before .before in done-whole (cleared y) _ _ (sym (y .clear .ensures .0) ∙ c .m .given .1)
 
-add-t15 : tie.Need-add-t15
-add-t15 c = omega (arith, made (mended (c .before .before .before .before .before)), all (c .before))
+add-t14 : tie.Need-add-t14
+add-t14 c = omega (arith, made (mended (c .before .before .before .before .before)), all (c .before))
 
-same-length-4 : tie.Need-same-length-4
-same-length-4 c = search needs
+same-length-3 : tie.Need-same-length-3
+same-length-3 c = search needs
 
-returns-5 : tie.Need-returns-5
-returns-5 c =
+returns-3 : tie.Need-returns-3
+returns-3 c =
     let y = c .before .before .before .before .before in
-    rw (accepted (tried (mended y)), left-over y) (ap (more (mended y .n .given .0 .0)) (sym (c .before .m .given .1)) ∙ answered y, both y)
+    (ap (more (mended y .n .given .0 .0)) (sym (c .before .m .given .1)) ∙ answered y, both y)
 
 pub make-spec : {M : Type 1} → statement M
 make-spec =
     tie.close
     (tie.spec
-    returns
     run-rows-requires
     enum-known-n
     same-length
-    returns-2
-    same-length-2
-    returns-3
+    returns
     sub-clear
     clear-requires
     enum-known-m
+    same-length-2
+    returns-2
+    add-t14
     same-length-3
-    returns-4
-    add-t15
-    same-length-4
-    returns-5)
+    returns-3)

@@ -1,0 +1,114 @@
+// Which sequences fit the lists of a store, decided in the lent bytes as they are in lent words: a cell's words are read from its bytes, and
+// all else is the same.
+use fitting::Faults;
+use fitting::Fits;
+use fitting::Fitted;
+use fitting::Trail;
+use fitting::Walked;
+use layout::Layout;
+use spans::Grid;
+ghost use mathlib.Core.Path.{_≡_};
+ghost use Prim.Native.Nat.{_<_};
+ghost use mathlib.Core.Bool.{true};
+ghost use Rattle.byte_form.specs.Bytes.{wordsIn};
+ghost use Rattle.layout.specs.Words.{Laid};
+ghost use Rattle.lists.specs.Decide.{viewOf, countIn};
+ghost use Rattle.spans.specs.Spans.{Gridded, cellIn};
+ghost use Rattle.fitting.specs.Fitting.{isOpen, nextTrail, wayFaults, fitIn, Trailing};
+
+// One step of a walk through list k.
+fn step(bytes: &[u8], l: Layout, g: Grid, k: u16, t: Trail) -> Trail
+    requires { ⌜ Gridded l g × Laid l (wordsIn (now bytes)) × (k < l .lists) × (isOpen l t ≡ true) ⌝ }
+    ensures { λ r. ⌜ r ≡ nextTrail k (cellIn (viewOf l (wordsIn (now (bytes .entry)))) (t .at)) t ⌝ }
+{
+    t.step(k, byte_walks::node(bytes, l, g, t.at))
+}
+
+// Step after step: all faults of a walk through list k.
+fn rest(bytes: &[u8], l: Layout, g: Grid, k: u16, t: Trail) -> Faults
+    requires { ⌜ Gridded l g × Laid l (wordsIn (now bytes)) × (k < l .lists) × Trailing l (viewOf l (wordsIn (now bytes))) k t ⌝ }
+    ensures { λ r. ⌜ r ≡ wayFaults l (viewOf l (wordsIn (now (bytes .entry)))) (t .back) k (countIn l (wordsIn (now (bytes .entry))) k) ⌝ }
+{
+    let mut t = t;
+    while t.open(l, g) {
+        t = step(bytes, l, g, k, t);
+    }
+    t.end(
+        l,
+        k,
+        byte_walks::header(bytes, l, k),
+        byte_walks::count(bytes, l, k),
+    )
+}
+
+// The walks through lists k and j, each by its back links or its forward links.
+fn walk_two(bytes: &[u8], l: Layout, g: Grid, k: u16, back: bool, j: u16, other: bool) -> Walked
+    requires { ⌜ Gridded l g × Laid l (wordsIn (now bytes)) × (k < l .lists) × (j < l .lists) ⌝ }
+    ensures { λ r. ⌜ (r .first ≡ wayFaults l (viewOf l (wordsIn (now (bytes .entry)))) back k (countIn l (wordsIn (now (bytes .entry))) k)) × (r .second ≡ wayFaults l (viewOf l (wordsIn (now (bytes .entry)))) other j (countIn l (wordsIn (now (bytes .entry))) j)) ⌝ }
+{
+    let mut s = Trail::first(l, back, k, byte_walks::header(bytes, l, k));
+    let mut t = Trail::first(l, other, j, byte_walks::header(bytes, l, j));
+    while s.open(l, g) {
+        if !t.open(l, g) {
+            break;
+        }
+        s = step(bytes, l, g, k, s);
+        t = step(bytes, l, g, j, t);
+    }
+    Walked {
+        first: rest(bytes, l, g, k, s),
+        second: rest(bytes, l, g, j, t),
+    }
+}
+
+// Which sequence fits list k: both walks at once.
+fn fit_one(bytes: &[u8], l: Layout, g: Grid, k: u16) -> Fitted
+    requires { ⌜ Gridded l g × Laid l (wordsIn (now bytes)) × (k < l .lists) ⌝ }
+    ensures { λ r. ⌜ r ≡ fitIn l (viewOf l (wordsIn (now (bytes .entry)))) k (countIn l (wordsIn (now (bytes .entry))) k) ⌝ }
+{
+    if byte_walks::one_holds(bytes, l, g, k) {
+        return Fitted::Forward(Faults::None);
+    }
+    let w = walk_two(bytes, l, g, k, false, k, true);
+    let f = w.first;
+    let b = w.second;
+    fitting::choice(f, b)
+}
+
+// Which sequences fit lists k and j, which may be the same.
+pub fn fit_two(bytes: &[u8], l: Layout, g: Grid, k: u16, j: u16) -> Fits
+    requires { ⌜ Gridded l g × Laid l (wordsIn (now bytes)) × (k < l .lists) × (j < l .lists) ⌝ }
+    ensures { λ r. ⌜ (r .first ≡ fitIn l (viewOf l (wordsIn (now (bytes .entry)))) k (countIn l (wordsIn (now (bytes .entry))) k)) × (r .second ≡ fitIn l (viewOf l (wordsIn (now (bytes .entry)))) j (countIn l (wordsIn (now (bytes .entry))) j)) ⌝ }
+{
+    if k == j {
+        let f = fit_one(bytes, l, g, k);
+        return Fits {
+            first: f,
+            second: f,
+        };
+    }
+    if byte_walks::two_hold(bytes, l, g, k, j) {
+        return Fits {
+            first: Fitted::Forward(Faults::None),
+            second: Fitted::Forward(Faults::None),
+        };
+    }
+    let f = walk_two(bytes, l, g, k, false, j, false);
+    let x = f.first;
+    let y = f.second;
+    if x.decide() {
+        if y.decide() {
+            return Fits {
+                first: Fitted::Forward(x),
+                second: Fitted::Forward(y),
+            };
+        }
+    }
+    let b = walk_two(bytes, l, g, k, true, j, true);
+    let u = b.first;
+    let v = b.second;
+    Fits {
+        first: fitting::choice(x, u),
+        second: fitting::choice(y, v),
+    }
+}

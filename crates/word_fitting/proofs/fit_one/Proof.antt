@@ -1,0 +1,33 @@
+-- `word_fitting::fit_one` meets its contract. A list that holds fits as it is; else the two walks decide.
+use mathlib.Core.Path.{sym, ap₂, _∙_}
+use borrow.Author.Needs.{needs}
+use Rattle.lists.specs.Decide.{viewOf, countIn}
+use Rattle.fitting.specs.Fitting.{fitIn, choose}
+use Rattle.fitting.proofs.Trails.{held-fits}
+use Rattle.word_fitting.proofs.fit_one.Statement.{statement}
+use Rattle.word_fitting.proofs.fit_one.Tie as tie
+
+one-holds-requires : tie.Need-one-holds-requires
+one-holds-requires c κs = search needs
+
+returns : tie.Need-returns
+returns c =
+    let d = c .before in
+    let a = d .before .before .args in
+    sym (held-fits (a .l) (viewOf (a .l) (a .words .now)) (countIn (a .l) (a .words .now)) (a .k) (d .one-holds .ensures .right (c .if1 .taken)))
+
+walk-two-requires : tie.Need-walk-two-requires
+walk-two-requires c κs = search needs
+
+choice-requires : tie.Need-choice-requires
+choice-requires c κs = search needs
+
+returns-2 : tie.Need-returns-2
+unfolding fitIn
+returns-2 c =
+    let f = c .before .walk-two in
+    c .choice .ensures ∙ ap₂ choose (f .ensures .0) (f .ensures .1)
+
+pub fit-one-spec : {M : Type 1} → statement M
+fit-one-spec =
+    tie.close (tie.spec one-holds-requires returns walk-two-requires choice-requires returns-2)
