@@ -4,13 +4,15 @@ use layout::Layout;
 use layout::Opened;
 use requests::Looked;
 use requests::Request;
+use requests::Site;
 use stores::Answer;
 ghost use mathlib.Core.Path.{_≡_};
 ghost use Prim.Native.Nat.{_+_, _≤_};
-ghost use lib.ListN.{length, take};
-ghost use Rattle.stores.specs.Stores.{run, inRow, answerOf};
-ghost use Rattle.byte_form.specs.Bytes.{wordsIn, byteWrites, bytesAfter};
-ghost use Rattle.layout.specs.Words.{mostWidth, layoutFor, Laid};
+ghost use lib.ListN.{length};
+ghost use Rattle.stores.specs.Stores.{run, stores, inRow, answerOf};
+ghost use Rattle.byte_form.specs.Bytes.{wordsIn, byteWrites, appliedBytes, bytesAfter};
+ghost use Rattle.layout.specs.Words.{headWords, tailWords, sizeOf, layoutOf, layoutFor, Laid};
+ghost use Rattle.edits.specs.Edits.{insertWrites, deleteWrites, Placed};
 ghost use Rattle.recovery.specs.Plan.{recoverPlan};
 ghost use Rattle.axle_store.specs.Calls.{insertPlan, deletePlan};
 ghost use Rattle.axle.specs.Interface.{recordWords, codeOf, checkCode, lengthCode, formatPlan, wholeCode, wholeBytes, byteFormat, byteInsert, byteDelete, byteRecover};
@@ -116,6 +118,19 @@ pub extern "C" fn axle_length(store: &[u8], list: u16) -> u32
     }
 }
 
+// The layout of a store that is open. It is read again by the calls that store: that is quicker than to hand it on with the site.
+fn layout_of(bytes: &[u8]) -> Layout
+    requires { ⌜ headWords ≤ length (wordsIn (now bytes)) ⌝ }
+    ensures { λ r. ⌜ r ≡ layoutOf (wordsIn (now (bytes .entry))) ⌝ }
+{
+    Layout {
+        version: byte_form::word(bytes, Layout::VERSION_AT),
+        lists: byte_form::word(bytes, Layout::LISTS_AT),
+        nodes: byte_form::word(bytes, Layout::NODES_AT),
+        width: byte_form::word(bytes, Layout::WIDTH_AT),
+    }
+}
+
 // The number of a record's words, 0 if its bytes are odd.
 fn record_size(rec: &[u8]) -> usize
     ensures { λ r. ⌜ r ≡ length (recordWords (now (rec .entry))) ⌝ }
@@ -126,18 +141,23 @@ fn record_size(rec: &[u8]) -> usize
     rec.len() / 2
 }
 
-// The words of a record of n words, at the front.
-fn record_of(rec: &[u8], n: usize) -> [u16; Layout::MAX_WIDTH]
-    requires { ⌜ (n ≡ length (recordWords (now rec))) × (n ≤ mostWidth) ⌝ }
-    ensures { λ r. ⌜ (mostWidth ≡ length r) × (take n r ≡ recordWords (now (rec .entry))) ⌝ }
+// Makes the stores of an insert, the record and then the links, up to the allowance.
+fn insert_at(bytes: &mut [u8], l: Layout, list: u16, t: Site, rec: &[u8], allowance: u16) -> Answer
+    requires { ⌜ Placed l list t × (length (wordsIn (now rec)) ≡ tailWords l) × (length (wordsIn (now bytes)) ≡ sizeOf l) ⌝ }
+    ensures answer { λ r. ⌜ r ≡ answerOf (stores (insertWrites l list t (wordsIn (now (rec .entry))))) allowance ⌝ }
+    ensures bytes { λ _. ⌜ now (bytes .exit) ≡ appliedBytes (insertWrites l list t (wordsIn (now (rec .entry)))) allowance (now (bytes .entry)) ⌝ }
 {
-    let mut words = [0u16; Layout::MAX_WIDTH];
-    let mut i: usize = 0;
-    while i < n {
-        words[i] = byte_form::word(rec, i);
-        i += 1;
-    }
-    words
+    let first = l.node(t.cell) + Layout::LINK_WORDS;
+    let Answer::Done(n) = byte_form::put_row(bytes, first, rec, allowance) else {
+        return Answer::Stopped(allowance);
+    };
+    let links = edits::insert_links(l, list, t);
+    let at = links.at;
+    let values = links.values;
+    let Answer::Done(m) = byte_form::run(bytes, &at, &values, allowance - n) else {
+        return Answer::Stopped(allowance);
+    };
+    Answer::Done(n + m)
 }
 
 // Inserts a record.
@@ -155,14 +175,7 @@ fn insert(
     let n = record_size(rec);
     match byte_requests::look(bytes, Request::Gap(list, position, start, n)) {
         Looked::Refused(r) => Answer::Refused(r),
-        Looked::At(l, t) => {
-            let words = record_of(rec, n);
-            byte_form::run_rows(
-                bytes,
-                edits::insert_rows(l, list, t, &words[..n]),
-                allowance,
-            )
-        }
+        Looked::At(_, t) => insert_at(bytes, layout_of(bytes), list, t, rec, allowance),
     }
 }
 
@@ -185,6 +198,18 @@ pub extern "C" fn axle_insert(
     code(insert(store, list, position, start, rec, allowance))
 }
 
+// Makes the stores of a delete, up to the allowance.
+fn delete_at(bytes: &mut [u8], l: Layout, list: u16, t: Site, allowance: u16) -> Answer
+    requires { ⌜ Placed l list t × (length (wordsIn (now bytes)) ≡ sizeOf l) ⌝ }
+    ensures answer { λ r. ⌜ r ≡ answerOf (stores (deleteWrites l list t)) allowance ⌝ }
+    ensures bytes { λ _. ⌜ now (bytes .exit) ≡ appliedBytes (deleteWrites l list t) allowance (now (bytes .entry)) ⌝ }
+{
+    let links = edits::delete_links(l, list, t);
+    let at = links.at;
+    let values = links.values;
+    byte_form::run(bytes, &at, &values, allowance)
+}
+
 // Deletes a record.
 fn delete(bytes: &mut [u8], list: u16, position: u16, allowance: u16) -> Answer
     ensures answer { λ r. ⌜ r ≡ answerOf (deletePlan (wordsIn (now (bytes .entry))) list position) allowance ⌝ }
@@ -192,7 +217,7 @@ fn delete(bytes: &mut [u8], list: u16, position: u16, allowance: u16) -> Answer
 {
     match byte_requests::look(bytes, Request::Member(list, position)) {
         Looked::Refused(n) => Answer::Refused(n),
-        Looked::At(l, t) => byte_form::run_rows(bytes, edits::delete_rows(l, list, t), allowance),
+        Looked::At(_, t) => delete_at(bytes, layout_of(bytes), list, t, allowance),
     }
 }
 

@@ -1,14 +1,13 @@
--- Words that are overwritten from the front, and rows of stores that carry out a plan.
+-- Words that are overwritten from the front, and stores that carry out a plan.
 use Prim.Native.Nat.{ℕ, suc, _+_, _<_}
-use mathlib.Core.Path.{_≡_, refl, ap, _∙_, sym, subst}
+use mathlib.Core.Path.{_≡_, refl, ap, _∙_, sym}
 use mathlib.Core.List.{List, _++_, append-nil}
 use native.Mathlib.Omega.{arith}
 use native.Mathlib.Numerals.{add-one}
 use lib.ListN.{length, getD, set, take, drop}
 use Rattle.stores.specs.declared.Answer.{Answer}
 use Rattle.stores.specs.declared.Answer.the-variants as A
-use Rattle.stores.specs.declared.Rows.{Rows}
-use Rattle.stores.specs.Stores.{Write, Plan, refuse, stores, applied, answerOf, wordsAfter, answerNumber, answerStores, planNumber, madeBy, writesIn, Held}
+use Rattle.stores.specs.Stores.{Write, Plan, refuse, stores, applied, answerOf, wordsAfter, answerNumber, answerStores, planNumber, madeBy}
 use Rattle.stores.proofs.Laws.{answer-told}
 use lib.Seq.{take-suc, drop-cons, set-at, append-snoc, length-take-le, take-length, drop-length}
 
@@ -33,10 +32,6 @@ over-all f w i e k =
     ∙ ap (λ (t : List ℕ). f ++ t) (drop-length w)
     ∙ append-nil f
 
--- rows that hold the stores of a plan: what is asked to run them, and what the run gives
-pub held-self : {n m : ℕ} {r : Rows} {ps : List Write} → Held n r ps → n ≡ m → Held m r (writesIn r)
-held-self {r = r} h e = subst (λ (m : ℕ). Held m r (writesIn r)) e (subst (Held _ r) (sym (h .same)) h)
-
 -- what a call that stores promises of its answer x and the words w′ that it leaves, by its plan p
 abbrev pub Promised : Plan → ℕ → List ℕ → Answer → List ℕ → Type 0
 Promised p m w x w′ =
@@ -51,8 +46,7 @@ pub plan-refused : {p : Plan} {n : ℕ} (m : ℕ) (w : List ℕ) → p ≡ refus
 plan-refused {p} m w e = promised p m w (ap (λ (p : Plan). answerOf p m) (sym e)) (ap (λ (p : Plan). wordsAfter p m w) (sym e))
 
 pub plan-run
-    : {p : Plan} {n : ℕ} {r : Rows} {ps : List Write} {x : Answer} {w′ : List ℕ} (m : ℕ) (w : List ℕ) → p ≡ stores ps → Held n r ps
-    → x ≡ answerOf (stores (writesIn r)) m → w′ ≡ applied (writesIn r) m w → Promised p m w x w′
-plan-run {p} m w e h a b =
-    let q = ap stores (h .same) ∙ sym e in
-    promised p m w (a ∙ ap (λ (p : Plan). answerOf p m) q) (b ∙ ap (λ (p : Plan). wordsAfter p m w) q)
+    : {p : Plan} {ps : List Write} {x : Answer} {w′ : List ℕ} (m : ℕ) (w : List ℕ) → p ≡ stores ps
+    → x ≡ answerOf (stores ps) m → w′ ≡ applied ps m w → Promised p m w x w′
+plan-run {p} m w e a b =
+    promised p m w (a ∙ ap (λ (p : Plan). answerOf p m) (sym e)) (b ∙ ap (λ (p : Plan). wordsAfter p m w) (sym e))

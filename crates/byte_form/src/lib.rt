@@ -3,10 +3,10 @@
 use stores::Answer;
 use stores::Rows;
 ghost use mathlib.Core.Path.{_≡_};
-ghost use Prim.Native.Nat.{_+_, _*_, _<_};
+ghost use Prim.Native.Nat.{_+_, _*_, _<_, _≤_};
 ghost use mathlib.Core.List.{[], _∷_};
 ghost use lib.ListN.{length, getD};
-ghost use Rattle.stores.specs.Stores.{write, stores, answerOf, run, writesOf, writesIn, Planned, Held};
+ghost use Rattle.stores.specs.Stores.{write, stores, answerOf, run, writesOf, inRow, writesIn, Planned, Held};
 ghost use Rattle.byte_form.specs.Bytes.{wordsIn, byteWrites, appliedBytes};
 
 // The word of two bytes.
@@ -42,7 +42,7 @@ fn step(bytes: &mut [u8], at: &[u16], values: &[u16], i: usize)
 }
 
 // Makes the stores of the plan, up to the allowance.
-fn run(bytes: &mut [u8], at: &[u16], values: &[u16], allowance: u16) -> Answer
+pub fn run(bytes: &mut [u8], at: &[u16], values: &[u16], allowance: u16) -> Answer
     requires { ⌜ Planned (length (wordsIn (now bytes))) (now at) (now values) × (length (now at) < 65536) ⌝ }
     ensures answer { λ r. ⌜ r ≡ answerOf (stores (writesOf (now (at .entry)) (now (values .entry)))) allowance ⌝ }
     ensures bytes { λ _. ⌜ now (bytes .exit) ≡ appliedBytes (writesOf (now (at .entry)) (now (values .entry))) allowance (now (bytes .entry)) ⌝ }
@@ -57,6 +57,24 @@ fn run(bytes: &mut [u8], at: &[u16], values: &[u16], allowance: u16) -> Answer
         i += 1;
     }
     Answer::Done(i)
+}
+
+// Stores the words of the values in a row from word a on, up to the allowance.
+pub fn put_row(bytes: &mut [u8], a: usize, values: &[u8], allowance: u16) -> Answer
+    requires { ⌜ (a + length (wordsIn (now values)) ≤ length (wordsIn (now bytes))) × (length (wordsIn (now values)) < 65536) ⌝ }
+    ensures answer { λ r. ⌜ r ≡ answerOf (stores (inRow a (wordsIn (now (values .entry))))) allowance ⌝ }
+    ensures bytes { λ _. ⌜ now (bytes .exit) ≡ appliedBytes (inRow a (wordsIn (now (values .entry)))) allowance (now (bytes .entry)) ⌝ }
+{
+    let whole = (values.len() / 2) as u16;
+    let mut n: u16 = 0;
+    while n < whole {
+        if n == allowance {
+            return Answer::Stopped(n);
+        }
+        put(bytes, a + n as usize, word(values, n as usize));
+        n += 1;
+    }
+    Answer::Done(n)
 }
 
 // Makes the stores of the rows, up to the allowance.

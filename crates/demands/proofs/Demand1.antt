@@ -30,7 +30,7 @@ use Rattle.requests.specs.declared.Looked.{Looked}
 use Rattle.requests.specs.declared.Looked.the-variants as K
 use Rattle.requests.specs.Requests.{around, firstFree, withFree, memberAt, gapAt, siteIn, siteOf, withSite, lookOf, withLook}
 use Rattle.edits.specs.Edits.{insertWrites, deleteWrites}
-use Rattle.edits.proofs.Rows.{insert-inside, delete-inside}
+use Rattle.edits.proofs.Inside.{insert-inside, delete-inside}
 use Rattle.edits.proofs.Done.{looked}
 use Rattle.recovery.specs.Fits.{Fit, none, only, several, fitOf}
 use Rattle.recovery.specs.Plan.{recoverStores, fittingOf, fitNumber, refusalFrom, recoverOf, recoverPlan}

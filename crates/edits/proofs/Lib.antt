@@ -4,4 +4,4 @@ pub mod Insert
 pub mod Delete
 pub mod Free
 pub mod Done
-pub mod Rows
+pub mod Inside

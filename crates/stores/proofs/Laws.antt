@@ -16,7 +16,7 @@ use Rattle.sequences.specs.Sequence.{All}
 use Rattle.sequences.proofs.Members.{all-in, all-append, all-nth}
 use Rattle.stores.specs.declared.Answer.the-variants as A
 use Rattle.stores.specs.declared.Rows.{Rows}
-use Rattle.stores.specs.Stores.{Write, write, store, run, applied, Spares, Plan, refuse, stores, answerOf, answerNumber, answerStores, planNumber, madeBy, writesOf, inRow, mostRows, noRows, Planned, Held}
+use Rattle.stores.specs.Stores.{Write, write, store, run, applied, Spares, Plan, refuse, stores, answerOf, answerNumber, answerStores, planNumber, madeBy, writesOf, inRow, mostRows, noRows, Planned, Listed, Held}
 
 -- stores in a row one after the other
 pub run-append : (ps qs : List Write) (w : List ℕ) → run (ps ++ qs) w ≡ run qs (run ps w)
@@ -138,6 +138,15 @@ unfolding inRow
 length-row b [] = refl
 length-row b (v ∷ vs) = ap suc (length-row (b + 1) vs)
 
+-- store i of them
+pub row-write : (b i : ℕ) (vs : List ℕ) → i < length vs → getD (inRow b vs) i (write 0 0) ≡ write (b + i) (getD vs i 0)
+unfolding inRow
+row-write b i [] h = absurd (omega arith)
+row-write b zero (v ∷ vs) h = ap (λ (n : ℕ). write n v) (sym (add-zero b))
+row-write b (suc i) (v ∷ vs) h =
+    let e : b + 1 + i ≡ b + suc i = omega arith in
+    row-write (b + 1) i vs (omega arith) ∙ ap (λ (n : ℕ). write n (getD vs i 0)) e
+
 pub row-at : (b : ℕ) (vs w : List ℕ) (j : ℕ) → b + length vs ≤ length w → j < length vs → getD (run (inRow b vs) w) (b + j) 0 ≡ getD vs j 0
 unfolding inRow run
 row-at b [] w j h k = absurd (omega arith)
@@ -149,15 +158,6 @@ row-at b (v ∷ vs) w (suc j) h k =
     let e : b + suc j ≡ b + 1 + j = omega arith in
     ap (λ (n : ℕ). getD (run (inRow (b + 1) vs) (set w b v)) n 0) e
     ∙ row-at (b + 1) vs (set w b v) j (omega (arith, length-set w b v)) (omega arith)
-
--- one entry more of a row is copied
-pub copied-more : (xs ys : List ℕ) (i : ℕ) → i < length xs → i < length ys → take i xs ≡ take i ys → take (i + 1) (set xs i (getD ys i 0)) ≡ take (i + 1) ys
-copied-more xs ys i h k e =
-    ap (λ (n : ℕ). take n (set xs i (getD ys i 0))) (add-one i)
-    ∙ take-suc-set xs i (getD ys i 0) h
-    ∙ ap (λ (t : List ℕ). t ++ getD ys i 0 ∷ []) e
-    ∙ sym (take-suc ys i 0 k)
-    ∙ ap (λ (n : ℕ). take n ys) (sym (add-one i))
 
 -- one store more at the end of two rows
 pub writes-snoc : (at vs : List ℕ) (a v : ℕ) → length at ≡ length vs → writesOf (at ++ a ∷ []) (vs ++ v ∷ []) ≡ writesOf at vs ++ write a v ∷ []
@@ -233,6 +233,13 @@ rows-planned n at vs e h =
           subst (λ (p : Write). p .at < n) (writes-at at vs i e k)
           (all-nth (λ (p : Write). p .at < n) (writesOf at vs) i (write 0 0) h (omega (arith, length-writes at vs e)));
     }
+
+-- a list of stores in two rows is a plan
+pub listed-planned
+    : {n : ℕ} {at vs : List ℕ} {ps : List Write} → Listed n at vs ps → Planned n at vs × (length at ≡ length ps) × (length vs ≡ length ps)
+listed-planned {n} {at} {vs} {ps} h =
+    let e : length at ≡ length ps = sym (length-writes at vs (h .rows)) ∙ ap length (h .same) in
+    (rows-planned n at vs (h .rows) (subst (All (λ (p : Write). p .at < n)) (sym (h .same)) (h .inside)), e, sym (h .rows) ∙ e)
 
 pub held-planned : (n : ℕ) (r : Rows) (ps : List Write) → Held n r ps → Planned n (take (r .len) (r .at)) (take (r .len) (r .values))
 held-planned n r ps h =

@@ -93,6 +93,12 @@ pub record Planned (n : ℕ) (at values : List ℕ) : Type 0 where
   pub rows : length at ≡ length values
   pub inside : (i : ℕ) → i < length at → getD at i 0 < n
 
+-- two rows list the stores ps, which go to words below n
+pub record Listed (n : ℕ) (at values : List ℕ) (ps : List Write) : Type 0 where
+  pub rows : length at ≡ length values
+  pub same : writesOf at values ≡ ps
+  pub inside : All (λ (p : Write). p .at < n) ps
+
 -- a short list of stores, kept in two arrays: "P + 6 stores" of the longest record have room
 abbrev pub mostRows : ℕ
 mostRows = mostWidth + 6

@@ -3,9 +3,9 @@
 // cut leaves is what a smaller allowance leaves.
 use layout::Layout;
 ghost use mathlib.Core.Path.{_≡_};
-ghost use Prim.Native.Nat.{_+_, _<_};
+ghost use Prim.Native.Nat.{_+_, _<_, _≤_};
 ghost use lib.ListN.{length, getD};
-ghost use Rattle.stores.specs.Stores.{write, store, stores, applied, answerOf, answerNumber, answerStores, writesOf, writesIn, Planned, Held};
+ghost use Rattle.stores.specs.Stores.{write, store, stores, applied, answerOf, answerNumber, answerStores, writesOf, inRow, writesIn, Planned, Held};
 
 // The answer of a call that stores.
 pub enum Answer {
@@ -48,7 +48,7 @@ fn step(words: &mut [u16], at: &[u16], values: &[u16], i: usize)
 }
 
 // Makes the stores of the plan, up to the allowance.
-fn run(words: &mut [u16], at: &[u16], values: &[u16], allowance: u16) -> Answer
+pub fn run(words: &mut [u16], at: &[u16], values: &[u16], allowance: u16) -> Answer
     requires { ⌜ Planned (length (now words)) (now at) (now values) × (length (now at) < 65536) ⌝ }
     ensures answer { λ r. ⌜ r ≡ answerOf (stores (writesOf (now (at .entry)) (now (values .entry)))) allowance ⌝ }
     ensures words { λ _. ⌜ now (words .exit) ≡ applied (writesOf (now (at .entry)) (now (values .entry))) allowance (now (words .entry)) ⌝ }
@@ -63,6 +63,24 @@ fn run(words: &mut [u16], at: &[u16], values: &[u16], allowance: u16) -> Answer
         i += 1;
     }
     Answer::Done(i)
+}
+
+// Stores the values in a row from word a on, up to the allowance.
+pub fn put_row(words: &mut [u16], a: usize, values: &[u16], allowance: u16) -> Answer
+    requires { ⌜ (a + length (now values) ≤ length (now words)) × (length (now values) < 65536) ⌝ }
+    ensures answer { λ r. ⌜ r ≡ answerOf (stores (inRow a (now (values .entry)))) allowance ⌝ }
+    ensures words { λ _. ⌜ now (words .exit) ≡ applied (inRow a (now (values .entry))) allowance (now (words .entry)) ⌝ }
+{
+    let whole = values.len() as u16;
+    let mut n: u16 = 0;
+    while n < whole {
+        if n == allowance {
+            return Answer::Stopped(n);
+        }
+        words[a + n as usize] = values[n as usize];
+        n += 1;
+    }
+    Answer::Done(n)
 }
 
 // A short list of stores: at most as many as an insert of the longest record makes.

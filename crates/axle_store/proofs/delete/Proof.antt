@@ -4,7 +4,7 @@ use mathlib.Core.Path.{_≡_, sym, _∙_}
 use Rattle.requests.specs.declared.Looked.the-variants as K
 use Rattle.requests.specs.declared.Request.the-variants.{Member}
 use Rattle.requests.specs.Requests.{lookOf}
-use Rattle.axle_store.proofs.Laws.{held-self, plan-refused, plan-run}
+use Rattle.axle_store.proofs.Laws.{plan-refused, plan-run}
 use Rattle.axle_store.proofs.Cases.{delete-refused, delete-at}
 use Rattle.axle_store.proofs.Sites.{member-placed}
 use Rattle.axle_store.proofs.delete.Statement.{statement}
@@ -20,19 +20,14 @@ enum-known-l : tie.Need-enum-known-l
 enum-known-l c = search needs
 
 -- what the look found
-at : (c : tie.After-run-rows-arg) → let a = c .before .before .before .before .before .before .before .args in
+at : (c : tie.After-delete-at-arg) → let a = c .before .before .before .before .before .before .before .args in
     lookOf (a .words .now) (Member (a .list) (a .position)) ≡ K.At (c .before .before .l .given .0 .0) (c .before .before .l .given .0 .1 .0)
 at c = sym (c .before .before .before .before .look .ensures) ∙ c .before .before .l .given .1
 
-delete-rows-requires : tie.Need-delete-rows-requires
-delete-rows-requires c κs =
+delete-at-requires : tie.Need-delete-at-requires
+delete-at-requires c κs =
     let a = c .before .before .before .before .before .before .before .args in
-    member-placed (a .words .now) (a .list) (a .position) _ _ (at c) .0
-
-run-rows-requires : tie.Need-run-rows-requires
-run-rows-requires c κs =
-    let a = c .before .before .before .before .before .before .before .before .args in
-    held-self (c .delete-rows .ensures) (sym (member-placed (a .words .now) (a .list) (a .position) _ _ (at (c .before)) .1))
+    member-placed (a .words .now) (a .list) (a .position) _ _ (at c)
 
 same-length : tie.Need-same-length
 same-length c = search needs
@@ -48,10 +43,10 @@ same-length-2 c = search needs
 
 returns-2 : tie.Need-returns-2
 returns-2 c =
-    let a = c .before .before .before .before .before .before .before .before .before .before .before .args in
-    let r = c .before .before .run-rows in
-    plan-run (a .allowance) (a .words .now) (delete-at (a .words .now) (a .list) (a .position) (at (c .before .before .before .before)))
-    (c .before .before .before .delete-rows .ensures) (r .ensures .0) (r .ensures .1)
+    let a = c .before .before .before .before .before .before .before .before .before .before .args in
+    let r = c .before .before in
+    plan-run (a .allowance) (a .words .now) (delete-at (a .words .now) (a .list) (a .position) (at (r .before)))
+    (r .delete-at .ensures .0) (r .delete-at .ensures .1)
 
 pub delete-spec : {M : Type 1} → statement M
 delete-spec =
@@ -60,8 +55,7 @@ delete-spec =
     look-requires
     enum-known-n
     enum-known-l
-    delete-rows-requires
-    run-rows-requires
+    delete-at-requires
     same-length
     returns
     same-length-2

@@ -5,7 +5,7 @@ use lib.ListN.{length}
 use Rattle.requests.specs.declared.Looked.the-variants as K
 use Rattle.requests.specs.declared.Request.the-variants.{Gap}
 use Rattle.requests.specs.Requests.{lookOf}
-use Rattle.axle_store.proofs.Laws.{held-self, plan-refused, plan-run}
+use Rattle.axle_store.proofs.Laws.{plan-refused, plan-run}
 use Rattle.axle_store.proofs.Cases.{insert-refused, insert-at}
 use Rattle.axle_store.proofs.Sites.{gap-placed}
 use Rattle.axle_store.proofs.insert.Statement.{statement}
@@ -21,21 +21,14 @@ enum-known-l : tie.Need-enum-known-l
 enum-known-l c = search needs
 
 -- what the look found
-at : (c : tie.After-run-rows-arg) → let a = c .before .before .before .before .before .before .before .before .args in
+at : (c : tie.After-insert-at-arg) → let a = c .before .before .before .before .before .before .before .before .args in
     lookOf (a .words .now) (Gap (a .list) (a .position) (a .start) (length (a .rec .now))) ≡ K.At (c .before .before .l .given .0 .0) (c .before .before .l .given .0 .1 .0)
 at c = sym (c .before .before .before .before .look .ensures) ∙ c .before .before .l .given .1
 
-insert-rows-requires : tie.Need-insert-rows-requires
-insert-rows-requires c κs =
+insert-at-requires : tie.Need-insert-at-requires
+insert-at-requires c κs =
     let a = c .before .before .before .before .before .before .before .before .args in
-    let p = gap-placed (a .words .now) (a .list) (a .position) _ _ (a .start) (length (a .rec .now)) (at c) in
-    (p .0, p .1)
-
-run-rows-requires : tie.Need-run-rows-requires
-run-rows-requires c κs =
-    let a = c .before .before .before .before .before .before .before .before .before .args in
-    held-self (c .insert-rows .ensures)
-    (sym (gap-placed (a .words .now) (a .list) (a .position) _ _ (a .start) (length (a .rec .now)) (at (c .before)) .2))
+    gap-placed (a .words .now) (a .list) (a .position) _ _ (a .start) (length (a .rec .now)) (at c)
 
 same-length : tie.Need-same-length
 same-length c = search needs
@@ -51,11 +44,11 @@ same-length-2 c = search needs
 
 returns-2 : tie.Need-returns-2
 returns-2 c =
-    let a = c .before .before .before .before .before .before .before .before .before .before .before .before .args in
-    let r = c .before .before .run-rows in
+    let a = c .before .before .before .before .before .before .before .before .before .before .before .args in
+    let r = c .before .before in
     plan-run (a .allowance) (a .words .now)
-    (insert-at (a .words .now) (a .list) (a .position) (a .start) (a .rec .now) (at (c .before .before .before .before)))
-    (c .before .before .before .insert-rows .ensures) (r .ensures .0) (r .ensures .1)
+    (insert-at (a .words .now) (a .list) (a .position) (a .start) (a .rec .now) (at (r .before)))
+    (r .insert-at .ensures .0) (r .insert-at .ensures .1)
 
 pub insert-spec : {M : Type 1} → statement M
 insert-spec =
@@ -64,8 +57,7 @@ insert-spec =
     look-requires
     enum-known-n
     enum-known-l
-    insert-rows-requires
-    run-rows-requires
+    insert-at-requires
     same-length
     returns
     same-length-2
