@@ -6,7 +6,7 @@ use mathlib.Core.Bool.{cond}
 use lib.Dec.{ltb}
 use lib.ListN.{length, getD, set, take, replicate}
 use Rattle.sequences.specs.Sequence.{All}
-use Rattle.layout.specs.Words.{mostWidth}
+use Rattle.layout.specs.Words.{mostLists}
 use Rattle.stores.specs.declared.Answer.{Answer}
 use Rattle.stores.specs.declared.Rows.{Rows}
 use Rattle.stores.specs.declared.Answer.the-variants as A
@@ -99,9 +99,9 @@ pub record Listed (n : ℕ) (at values : List ℕ) (ps : List Write) : Type 0 wh
   pub same : writesOf at values ≡ ps
   pub inside : All (λ (p : Write). p .at < n) ps
 
--- a short list of stores, kept in two arrays: "P + 6 stores" of the longest record have room
+-- a short list of stores, kept in two arrays: one for each list have room
 abbrev pub mostRows : ℕ
-mostRows = mostWidth + 6
+mostRows = mostLists
 
 abbrev pub writesIn : Rows → List Write
 writesIn r = writesOf (take (r .len) (r .at)) (take (r .len) (r .values))
