@@ -14,7 +14,6 @@ use Rattle.lists.specs.Decide.{View}
 use Rattle.lists.proofs.Unique.{all-nodes}
 use Rattle.fitting.specs.declared.Faults.{Faults}
 use Rattle.fitting.specs.declared.Faults.the-variants as F
-use Rattle.fitting.specs.declared.Fitted.{Fitted}
 use Rattle.fitting.specs.declared.Fitted.the-variants as G
 use Rattle.fitting.specs.Fitting.{plus, fault, turnFaults, faultsOf, walked, walkFaults, turned, choose, twoFit, fitIn}
 use Rattle.fitting.specs.Fitting.{faultIn, Each, FaultFits}

@@ -1,5 +1,5 @@
 -- A formatted store is sound, and all its lists are empty.
-use Prim.Native.Nat.{ℕ, _+_, _*_, _-_, _<_, _≤_}
+use Prim.Native.Nat.{ℕ, _+_, _-_, _<_, _≤_}
 use mathlib.Core.Path.{_≡_, refl, ap, _∙_, sym}
 use mathlib.Core.List.{[]}
 use native.Mathlib.Omega.{arith}

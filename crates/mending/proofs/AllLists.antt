@@ -1,7 +1,7 @@
 -- Laws of the mends of all lists, and of the column after all of them are erased.
 use Prim.Native.Nat.{ℕ, suc, _+_, _-_, _≤_, _<_}
 use mathlib.Core.Path.{_≡_, refl, ap, ap₂, _∙_, sym}
-use mathlib.Core.List.{List, [], _∷_, _++_, append-nil, append-assoc}
+use mathlib.Core.List.{List, [], _++_, append-nil, append-assoc}
 use mathlib.Core.Bool.{Bool, true, false, _&&_, and-eq-true-iff}
 use native.Mathlib.Omega.{arith}
 use native.Mathlib.Numerals.{add-one}
@@ -119,12 +119,6 @@ module _ (l : Layout) (r : InRange l) (v : View) (count : ℕ → ℕ) where
           held = w .held;
           back = λ i j p. w .ways j (omega arith);
         }
-
--- an erased column has its length
-pub length-erased : (cs xs : List ℕ) → length (erased cs xs) ≡ length xs
-unfolding erased
-length-erased [] xs = refl
-length-erased (c ∷ cs) xs = length-erased cs (set xs c 0) ∙ length-set xs c 0
 
 module _ (l : Layout) (v : View) (back : ℕ → Bool) (k : ℕ) where
   -- a list more is erased

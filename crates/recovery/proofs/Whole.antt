@@ -2,7 +2,6 @@
 use Prim.Native.Nat.{ℕ, zero, suc, _+_, _<_, _≤_}
 use mathlib.Core.Path.{_≡_, refl, ap, ap₂, _∙_, sym, subst}
 use mathlib.Core.List.{List, [], _++_, map, Memᴰ·map}
-use mathlib.Core.Bool.{true}
 use mathlib.Core.Logic.{⊎-elim}
 use native.Mathlib.Omega.{arith}
 use native.Mathlib.Nat.{eq-or-lt-of-le}
@@ -14,8 +13,6 @@ use Rattle.layout.specs.declared.Layout.{Layout}
 use Rattle.layout.specs.declared.Opened.the-variants as O
 use Rattle.layout.specs.Words.{firstNode, Node, sizeOf, identAt, opened}
 use Rattle.lists.specs.Lists.{asked, Agrees, SoundLists}
-use Rattle.lists.specs.Decide.{soundOf}
-use Rattle.lists.proofs.Decided.{sound-lists}
 use Rattle.recovery.specs.Fits.{wrong, Fits, Fit, none, only, several, fitOf}
 use Rattle.recovery.specs.Plan.{joined, outOf, nodesOut, listsAsked, clearsAsked, required, recoverStores, onlyOf, fittingOf, fitNumber, refusalFrom, recoverOf, recoverPlan, Accepted}
 use Rattle.recovery.proofs.Candidates.{Decided, decided}
@@ -144,12 +141,6 @@ sound-accepted l w x =
 
 pub sound-settled : (l : Layout) (w : List ℕ) (x : SoundLists l w) → recoverStores l w (x .sequence) ≡ []
 sound-settled l w x = agrees-wrong w (required l (x .sequence)) (sound-agrees l w x)
-
--- so where the lists are decided sound the plan has none
-pub sound-plan : (l : Layout) (w : List ℕ) → soundOf l w ≡ true → recoverOf l w ≡ stores []
-sound-plan l w e =
-    let x = sound-lists l w e in
-    accepted-stores l w (x .sequence) (sound-accepted l w x) ∙ ap stores (sound-settled l w x)
 
 -- "so recovery makes at most L + N stores"
 module _ (l : Layout) (w : List ℕ) (s : ℕ → List ℕ) (a : Accepted l w s) where

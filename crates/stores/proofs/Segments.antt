@@ -55,16 +55,6 @@ answer-second ps qs m h = by (ltb (m - length ps) (length qs)) refl
         ∙ ap (more (length ps)) (answer-done qs (m - length ps) whole)
 
 -- what a segment's answer tells of its length
-pub stopped-short : (ps : List Write) (m n : ℕ) → answerOf (stores ps) m ≡ A.Stopped n → (m < length ps) × (n ≡ m)
-stopped-short ps m n q = by (ltb m (length ps)) refl
-  where
-    by : (b : Bool) → ltb m (length ps) ≡ b → (m < length ps) × (n ≡ m)
-    by true e =
-        let h = ltb-true m (length ps) e in (h, ap answerStores (sym q ∙ sym (answer-stopped ps m h)))
-    by false e =
-        let r : A.Done (length ps) ≡ A.Stopped n = answer-done ps m (ltb-false m (length ps) e) ∙ q in
-        let z : _≡_ {A = ℕ} 0 1 = cc in absurd (omega arith)
-
 pub done-whole : (ps : List Write) (m n : ℕ) → answerOf (stores ps) m ≡ A.Done n → (length ps ≤ m) × (n ≡ length ps)
 done-whole ps m n q = by (ltb m (length ps)) refl
   where

@@ -8,7 +8,7 @@ use lib.ListN.{length, length-append}
 use borrow.Author.Needs.{needs}
 use Rattle.stores.specs.declared.Answer.the-variants as A
 use Rattle.stores.specs.Stores.{Write, Planned, inRow, stores, answerOf}
-use Rattle.stores.proofs.Laws.{length-row, listed-planned, answer-stopped, answer-done}
+use Rattle.stores.proofs.Laws.{listed-planned, answer-stopped, answer-done}
 use Rattle.stores.proofs.Segments.{undone-short, done-whole}
 use Rattle.byte_form.specs.Bytes.{wordsIn, appliedBytes}
 use Rattle.byte_form.proofs.Laws.{same-words}

@@ -1,5 +1,4 @@
 -- `axle::layout_of` reads words 3 to 6.
-use mathlib.Core.Path.{_≡_}
 use borrow.Author.Needs.{needs}
 use Rattle.axle.proofs.layout_of.Statement.{statement}
 use Rattle.axle.proofs.layout_of.Tie as tie

@@ -8,7 +8,7 @@ use lib.ListN.{length, length-append}
 use borrow.Author.Needs.{needs}
 use Rattle.stores.specs.declared.Answer.the-variants as A
 use Rattle.stores.specs.Stores.{Write, Planned, inRow, stores, applied, answerOf}
-use Rattle.stores.proofs.Laws.{length-row, listed-planned, answer-stopped, answer-done}
+use Rattle.stores.proofs.Laws.{listed-planned, answer-stopped, answer-done}
 use Rattle.stores.proofs.Segments.{applied-append, applied-first, undone-short, done-whole}
 use Rattle.layout.specs.Words.{recordAt}
 use Rattle.edits.specs.Edits.{insertLinks, insertWrites}

@@ -1,9 +1,8 @@
 -- `byte_fitting::step` meets its contract. An open trail comes to a node.
 use Prim.Native.Nat.{_<_}
-use mathlib.Core.Bool.{true}
-use mathlib.Core.Path.{_≡_, ap, _∙_}
+use mathlib.Core.Path.{ap, _∙_}
 use native.Mathlib.Omega.{arith}
-use Rattle.layout.specs.Words.{isNode, Node}
+use Rattle.layout.specs.Words.{Node}
 use Rattle.layout.proofs.Laws.{is-node}
 use Rattle.spans.specs.declared.Cell.{Cell}
 use Rattle.fitting.specs.Fitting.{nextTrail}

@@ -1,9 +1,9 @@
 -- `byte_form::put_row`: after n turns the bytes are those after the first n word stores.
-use Prim.Native.Nat.{ℕ, _+_, _-_, _≤_, _<_}
+use Prim.Native.Nat.{ℕ, _+_, _-_, _≤_}
 use mathlib.Core.Path.{_≡_, refl, ap, ap₂, _∙_, sym}
 use mathlib.Core.List.{List, [], _∷_}
 use native.Mathlib.Omega.{arith}
-use lib.ListN.{length, getD}
+use lib.ListN.{length}
 use Rattle.stores.specs.declared.Answer.the-variants as A
 use Rattle.stores.specs.Stores.{Write, write, run, inRow}
 use Rattle.stores.proofs.Laws.{answer-stopped, answer-done, length-row, row-write}

@@ -7,7 +7,6 @@ use borrow.Author.Tests.{lt-leb}
 use Rattle.byte_form.specs.Bytes.{wordsIn}
 use Rattle.byte_form.proofs.Laws.{length-words}
 use Rattle.layout.specs.Words.{headWords, openedBy}
-use borrow.Author.Needs.{needs}
 use Rattle.byte_requests.proofs.open.Statement.{statement}
 use Rattle.byte_requests.proofs.open.Tie as tie
 

@@ -1,5 +1,4 @@
 -- `fitting::seen` meets its contract.
-use borrow.Author.Needs.{needs}
 use Rattle.fitting.proofs.seen.Statement.{statement}
 use Rattle.fitting.proofs.seen.Tie as tie
 

@@ -1,7 +1,5 @@
 -- `fitting::Trail::first` meets its contract.
 use borrow.Author.Needs.{needs}
-use mathlib.Core.Path.{_≡_, ap, _∙_}
-use Rattle.spans.specs.declared.Cell.{Cell}
 use Rattle.fitting.proofs.Trail.first.Statement.{statement}
 use Rattle.fitting.proofs.Trail.first.Tie as tie
 

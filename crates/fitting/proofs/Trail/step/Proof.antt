@@ -1,5 +1,5 @@
 -- `fitting::Trail::step` meets its contract. Where both words are right, nothing is added to what was met.
-use mathlib.Core.Path.{_≡_, sym, ap, _∙_}
+use mathlib.Core.Path.{_∙_}
 use borrow.Author.Needs.{needs}
 use Rattle.fitting.proofs.Walks.{plus-none, no-fault}
 use Rattle.fitting.proofs.Trail.step.Statement.{statement}
