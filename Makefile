@@ -10,7 +10,7 @@
 LIB ?= target/staticlib/libaxle.a
 LISTING ?= target/bin/listing
 PREFIX ?= /usr/local
-VERSION = 1.0.0
+VERSION := $(shell sed -n 's/^.define AXLE_VERSION_[A-Z]* //p' include/axle.h | paste -sd.)
 CFLAGS = -std=c99 -O2 -Wall -Wextra -Wpedantic -Werror
 
 prefix = $(abspath $(PREFIX))

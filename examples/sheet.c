@@ -115,21 +115,22 @@ static void print_sheet(const uint8_t *store)
         print_list(store, list);
 }
 
-/* Inserts an axle. The search for a free node starts at the first node. */
-static uint32_t insert(uint8_t *store, uint16_t list, uint16_t position, const uint16_t axle[WORDS], uint16_t allowance)
+/* Inserts axles one behind the other, in one call. The search for free nodes starts at the first node. */
+static uint32_t insert(uint8_t *store, uint16_t list, uint16_t position, const uint16_t *words, size_t axles, uint16_t allowance)
 {
-    uint8_t record[AXLE_RECORD_BYTES(WORDS)];
-    for (size_t i = 0; i < WORDS; i++) {
-        record[2 * i] = (uint8_t)(axle[i] & 0xff);
-        record[2 * i + 1] = (uint8_t)(axle[i] >> 8);
+    uint8_t records[NODES * AXLE_RECORD_BYTES(WORDS)];
+    for (size_t i = 0; i < WORDS * axles; i++) {
+        records[2 * i] = (uint8_t)(words[i] & 0xff);
+        records[2 * i + 1] = (uint8_t)(words[i] >> 8);
     }
-    return axle_insert(store, BYTES, list, position, LISTS, record, sizeof record, allowance);
+    size_t len = AXLE_RECORD_BYTES(WORDS) * axles;
+    return axle_insert_several(store, BYTES, list, position, LISTS, records, len, allowance);
 }
 
-static void insert_whole(uint8_t *store, uint16_t list, uint16_t position, const uint16_t axle[WORDS])
+static void insert_whole(uint8_t *store, uint16_t list, uint16_t position, const uint16_t *words, size_t axles)
 {
-    uint32_t answer = insert(store, list, position, axle, AXLE_WHOLE);
-    expect("insert", answer, axle_is_done(answer));
+    uint32_t answer = insert(store, list, position, words, axles, AXLE_WHOLE);
+    expect("insert", answer, answer == AXLE_DONE + AXLE_INSERT_SEVERAL_STORES(WORDS, axles));
 }
 
 static void delete_whole(uint8_t *store, uint16_t list, uint16_t position)
@@ -140,7 +141,7 @@ static void delete_whole(uint8_t *store, uint16_t list, uint16_t position)
 
 int main(int argc, char **argv)
 {
-    static const uint16_t axles[3][WORDS] = {{1, 3120, 3050}, {2, 2870, 2910}, {3, 2760, 2800}};
+    static const uint16_t bus[3 * WORDS] = {1, 3120, 3050, 2, 2870, 2910, 3, 2760, 2800};
     static const uint16_t handbrake[WORDS] = {3, 1910, 1880};
     static const uint16_t second_again[WORDS] = {2, 2890, 2880}, third_again[WORDS] = {3, 2790, 2780};
 
@@ -157,20 +158,19 @@ int main(int argc, char **argv)
         while (length_of(store, list) > 0) /* the bus before */
             delete_whole(store, list, 0);
 
-    puts("a bus of three axles");
-    for (uint16_t i = 0; i < 3; i++)
-        insert_whole(store, SERVICE, i, axles[i]);
-    insert_whole(store, PARKING, 0, handbrake);
+    puts("a bus of three axles, in one call");
+    insert_whole(store, SERVICE, 0, bus, 3);
+    insert_whole(store, PARKING, 0, handbrake, 1);
     print_sheet(store);
 
     puts("axle 2 is tested again");
     delete_whole(store, SERVICE, 1);
-    insert_whole(store, SERVICE, 1, second_again);
+    insert_whole(store, SERVICE, 1, second_again, 1);
     print_sheet(store);
 
     puts("axle 3 is tested again");
     delete_whole(store, SERVICE, 2);
-    uint32_t answer = insert(store, SERVICE, 2, third_again, allowance);
+    uint32_t answer = insert(store, SERVICE, 2, third_again, 1, allowance);
     if (axle_is_stopped(answer)) {
         printf("the power fails after %u stores\n", (unsigned)axle_number(answer));
         munmap(store, BYTES);

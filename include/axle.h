@@ -11,6 +11,7 @@
  *     axle_format(store, sizeof store, 2, 6, 3);                             once, on new memory
  *     axle_recover(store, sizeof store, AXLE_WHOLE);                         at every power-up
  *     axle_insert(store, sizeof store, 0, 0, 2, record, sizeof record, AXLE_WHOLE);
+ *     axle_insert_several(store, sizeof store, 0, 1, 2, records, sizeof records, AXLE_WHOLE);      as many as there are
  *     axle_delete(store, sizeof store, 0, 0, AXLE_WHOLE);
  *
  * WORDS. A word is 16 bits, in two bytes, low byte first. A record is given in the same form. The layout is below; it is
@@ -18,19 +19,20 @@
  *
  * WHAT MAY BE LENT. Anything: bytes that are no store, or a damaged one, any length, any numbers. Every call returns,
  * reads and writes only the bytes lent to it, and refuses with a number where it cannot do its work. A refused call writes
- * nothing. No alignment is asked. With length 0 the pointer may be NULL. The record must not overlap the store.
+ * nothing. No alignment is asked. With length 0 the pointer may be NULL. Records must not overlap the store.
  *
  * ANSWERS. One 32-bit number:
  *
  *     0                      axle_check: the store is sound. axle_format: done
  *     1 to 12                refused; see the table
  *     AXLE_DONE + n          axle_length: the list has n records
- *                            axle_insert, axle_delete, axle_recover: done, with n word stores
- *     AXLE_STOPPED + n       axle_insert, axle_delete, axle_recover: stopped after n word stores, because the allowance
+ *                            the inserts, axle_delete, axle_recover: done, with n word stores
+ *     AXLE_STOPPED + n       the inserts, axle_delete, axle_recover: stopped after n word stores, because the allowance
  *                            was smaller than the number needed
  *
  * A call asks the questions that concern it, in this order. The first no decides, and its number is the answer. A store of
- * an odd number of bytes is answered 4 before all else; a record of an odd number of bytes is answered 9 in its turn.
+ * an odd number of bytes is answered 4 before all else; records of an odd number of bytes are answered 9 in their turn. Both
+ * inserts ask the same questions but for 9 and 10.
  *
  *     No    Name                Question                                            Asked by
  *      1    AXLE_SHORT          Are there 8 words (16 bytes) or more?               all but format
@@ -43,19 +45,22 @@
  *                               (insert: at most the length)
  *      8    AXLE_NO_NODE        Is the starting cell a node?                        insert
  *      9    AXLE_RECORD_SIZE    Has the record the store's number of words?         insert
- *     10    AXLE_FULL           Is some node free?                                  insert
+ *                               (several: a positive multiple of it?)
+ *     10    AXLE_FULL           Is some node free? (several: enough for all?)       insert
  *     11    AXLE_NO_FIT         List by list from 0: does a sequence fit the list?  recover
  *     12    AXLE_TWO_FIT        and only one? (asked before the next list's 11)     recover
  *
  * POWER CUTS. Insert, delete and recover change the store by word stores, one after the other, each low byte before high.
- * One of them is central: number P + 5 of the P + 6 of an insert, number 2 of the 4 of a delete. A cut leaves the first of
- * the stores made and the others not. Then:
+ * One of them is central: number P + 5 of the P + 6 of an insert, number 2 of the 4 of a delete. An insert of several records
+ * makes the P + 6 stores of the first, then those of the second and so on, and has a central store for each record. A cut
+ * leaves the first of the stores made and the others not. Then:
  *
- *   - axle_check answers 0 if the store is sound as it was left, and AXLE_UNSOUND if not; axle_length, axle_insert and
+ *   - axle_check answers 0 if the store is sound as it was left, and AXLE_UNSOUND if not; axle_length, the inserts and
  *     axle_delete never work on a store that is not sound (AXLE_NO_LIST, where it applies, comes first). Do not conclude
  *     from a sound store that nothing was cut, nor from the number of stores made whether it is sound: call axle_recover.
  *   - axle_recover leaves the list without the call if the cut came before the central store, and with it if after: with
- *     all its records, in their order. Every other list is as it was.
+ *     all its records, in their order. Every other list is as it was. Of several records the list then has those whose
+ *     central store was made, each of them whole: after n stores the first (n + 1) / (P + 6), rounded down.
  *   - This holds also if, besides, at most one word has been altered in each other list: one of its header's four words, or
  *     a member's identifier, forward or back.
  *   - axle_recover may be cut too, any number of times. The final words are the same.
@@ -74,7 +79,7 @@
  *
  * THREADS. The calls have no state of their own and may run at the same time on different stores. On one store the caller
  * must let one call at a time through, the reading ones too, from interrupts as from threads. While a call runs nobody else
- * writes the store or the record.
+ * writes the store or the records.
  *
  * CUTS IN A TEST. Insert, delete and recover take an allowance: the number of word stores that they may make. What a smaller
  * allowance leaves is exactly what a power cut after so many stores leaves. AXLE_WHOLE is always enough. A call that would
@@ -96,6 +101,14 @@
 #ifdef __cplusplus
 extern "C" {
 #endif
+
+/* The version of the library: in numbers, and as text "MAJOR.MINOR.PATCH". */
+#define AXLE_VERSION_MAJOR 1
+#define AXLE_VERSION_MINOR 1
+#define AXLE_VERSION_PATCH 0
+#define AXLE_VERSION AXLE_DOTTED(AXLE_VERSION_MAJOR, AXLE_VERSION_MINOR, AXLE_VERSION_PATCH)
+#define AXLE_DOTTED(a, b, c) AXLE_QUOTED(a) "." AXLE_QUOTED(b) "." AXLE_QUOTED(c)
+#define AXLE_QUOTED(a) #a
 
 /* Answers. */
 #define AXLE_DONE 65536u
@@ -136,6 +149,7 @@ static inline uint16_t axle_number(uint32_t answer) { return (uint16_t)(answer &
 #define AXLE_WHOLE 65535u
 #define AXLE_INSERT_STORES(record_words) ((record_words) + 6)
 #define AXLE_INSERT_CENTRAL(record_words) ((record_words) + 5)
+#define AXLE_INSERT_SEVERAL_STORES(record_words, records) (AXLE_INSERT_STORES(record_words) * (records))
 #define AXLE_DELETE_STORES 4
 #define AXLE_DELETE_CENTRAL 2
 #define AXLE_RECOVER_STORES(lists, nodes) ((lists) + (nodes))
@@ -183,6 +197,17 @@ uint32_t axle_length(const uint8_t *store, size_t store_len, uint16_t list);
  */
 uint32_t axle_insert(uint8_t *store, size_t store_len, uint16_t list, uint16_t position, uint16_t start,
                      const uint8_t *record, size_t record_len, uint16_t allowance);
+
+/*
+ * Inserts several records so that they stand at consecutive positions, the first at the position given. records_len is a
+ * positive multiple of AXLE_RECORD_BYTES(P). Equal to axle_insert of one after the other, each at the next position and with
+ * the starting cell after the cell just used (the first node after the last), but the questions are asked once, for all, and
+ * one allowance counts all stores. A cut leaves the records whose central store was made: recover, then axle_length tells
+ * how many are missing. Cheaper than single calls, each of which checks the whole store.
+ * Answers: AXLE_DONE + AXLE_INSERT_SEVERAL_STORES(P, records), AXLE_STOPPED + the allowance, 1 to 10.
+ */
+uint32_t axle_insert_several(uint8_t *store, size_t store_len, uint16_t list, uint16_t position, uint16_t start,
+                             const uint8_t *records, size_t records_len, uint16_t allowance);
 
 /*
  * Deletes the record at the position. Its node is free then. The stores: the back behind it, the forward before it

@@ -12,13 +12,16 @@ pub const FORMAT: &str = "format";
 pub const CHECK: &str = "check";
 pub const LENGTH: &str = "length";
 pub const EDIT: &str = "insert + delete";
+pub const TWELVE: &str = "12 records, one call";
+pub const SINGLY: &str = "12 records, 12 calls";
+pub const THOUSAND: &str = "1,000 records, one call";
 pub const NOTHING: &str = "recover, nothing to do";
 pub const BEFORE: &str = "recover, insert cut before its central store";
 pub const AFTER: &str = "recover, insert cut after its central store";
 pub const FAULTS: &str = "recover, one fault in every list";
 
 /// All that is measured.
-pub const NAMES: [&str; 8] = [FORMAT, CHECK, LENGTH, EDIT, NOTHING, BEFORE, AFTER, FAULTS];
+pub const NAMES: [&str; 11] = [FORMAT, CHECK, LENGTH, EDIT, TWELVE, SINGLY, THOUSAND, NOTHING, BEFORE, AFTER, FAULTS];
 
 /// The calls of a turn: the sum of their answers.
 type Turn = dyn Fn(&Engine, &mut [u8]) -> u32;
@@ -57,6 +60,37 @@ impl Case {
             (engine.recover)(bytes, ENOUGH)
         })
     }
+
+    /// So many records inserted by so many calls. Before each turn the bytes that it changes are put back.
+    fn insertion(
+        name: &'static str,
+        sample: &Sample,
+        number: usize,
+        calls: u32,
+        insert: impl Fn(&Engine, &mut [u8], &[u8]) -> u32 + 'static,
+    ) -> Case {
+        let records: Vec<u8> = (0..2 * sample.shape.width * number).map(|i| i as u8).collect();
+        let mut after = sample.bytes.clone();
+        plain::insert_several(&mut after, sample.list, sample.position, sample.start, &records, ENOUGH);
+        let changed = changed(&sample.bytes, &after);
+        let stores = (number * (sample.shape.width + 6)) as u32;
+        Case::new(name, sample, sample.bytes.clone(), calls * DONE + stores, move |engine, bytes| {
+            changed.iter().for_each(|(at, before)| bytes[*at..][..before.len()].copy_from_slice(before));
+            insert(engine, bytes, &records)
+        })
+    }
+}
+
+/// The bytes that differ, as they were before: each place with some bytes. Near ones are together.
+fn changed(before: &[u8], after: &[u8]) -> Vec<(usize, Vec<u8>)> {
+    let mut ranges: Vec<std::ops::Range<usize>> = vec![];
+    for i in (0..before.len()).filter(|&i| before[i] != after[i]) {
+        match ranges.last_mut() {
+            Some(last) if i < last.end + 16 => last.end = i + 1,
+            _ => ranges.push(i..i + 1),
+        }
+    }
+    ranges.into_iter().map(|range| (range.start, before[range].to_vec())).collect()
 }
 
 /// The calls on the stores that come from a sample.
@@ -77,6 +111,20 @@ pub fn cases(sample: &Sample) -> Vec<Case> {
         Case::recovery(AFTER, sample, sample.cut(shape.width + 5), 1),
         Case::recovery(FAULTS, sample, sample.faulty(), lists.into()),
     ];
+    let one_call = move |engine: &Engine, bytes: &mut [u8], records: &[u8]| {
+        (engine.insert_several)(bytes, list, position, start, records, ENOUGH)
+    };
+    let singly = move |engine: &Engine, bytes: &mut [u8], records: &[u8]| {
+        let records = (position..).zip(records.chunks_exact(2 * shape.width));
+        records.map(|(position, record)| (engine.insert)(bytes, list, position, start, record, ENOUGH)).sum()
+    };
+    if sample.free() >= 12 {
+        cases.push(Case::insertion(TWELVE, sample, 12, 1, one_call));
+        cases.push(Case::insertion(SINGLY, sample, 12, 12, singly));
+    }
+    if sample.free() >= 1000 {
+        cases.push(Case::insertion(THOUSAND, sample, 1000, 1, one_call));
+    }
     if sample.fill == Fill::Full {
         let format = move |engine: &Engine, bytes: &mut [u8]| (engine.format)(bytes, lists, nodes, width);
         cases.insert(0, Case::new(FORMAT, sample, sound(), 0, format));

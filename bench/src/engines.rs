@@ -2,7 +2,7 @@
 
 use bench::plain;
 
-/// List, position, starting cell, record and allowance.
+/// List, position, starting cell, record or records, and allowance.
 type Insert = fn(&mut [u8], u16, u16, u16, &[u8], u16) -> u32;
 
 pub struct Engine {
@@ -10,6 +10,7 @@ pub struct Engine {
     pub check: fn(&[u8]) -> u32,
     pub length: fn(&[u8], u16) -> u32,
     pub insert: Insert,
+    pub insert_several: Insert,
     pub delete: fn(&mut [u8], u16, u16, u16) -> u32,
     pub recover: fn(&mut [u8], u16) -> u32,
 }
@@ -19,6 +20,9 @@ pub static PLAIN: Engine = Engine {
     check: |store| plain::check(store),
     length: |store, list| plain::length(store, list),
     insert: |store, list, position, start, record, allowance| plain::insert(store, list, position, start, record, allowance),
+    insert_several: |store, list, position, start, records, allowance| {
+        plain::insert_several(store, list, position, start, records, allowance)
+    },
     delete: |store, list, position, allowance| plain::delete(store, list, position, allowance),
     recover: |store, allowance| plain::recover(store, allowance),
 };
@@ -38,6 +42,16 @@ extern "C" {
         record_len: usize,
         allowance: u16,
     ) -> u32;
+    fn axle_insert_several(
+        store: *mut u8,
+        store_len: usize,
+        list: u16,
+        position: u16,
+        start: u16,
+        records: *const u8,
+        records_len: usize,
+        allowance: u16,
+    ) -> u32;
     fn axle_delete(store: *mut u8, store_len: usize, list: u16, position: u16, allowance: u16) -> u32;
     fn axle_recover(store: *mut u8, store_len: usize, allowance: u16) -> u32;
 }
@@ -50,6 +64,10 @@ pub static PROVED: Engine = Engine {
     insert: |store, list, position, start, record, allowance| unsafe {
         let (length, at, record_length) = (store.len(), record.as_ptr(), record.len());
         axle_insert(store.as_mut_ptr(), length, list, position, start, at, record_length, allowance)
+    },
+    insert_several: |store, list, position, start, records, allowance| unsafe {
+        let (length, at, records_length) = (store.len(), records.as_ptr(), records.len());
+        axle_insert_several(store.as_mut_ptr(), length, list, position, start, at, records_length, allowance)
     },
     delete: |store, list, position, allowance| unsafe {
         axle_delete(store.as_mut_ptr(), store.len(), list, position, allowance)

@@ -1,4 +1,4 @@
-//! The six calls in plain Rust, as a careful engineer writes them who wants them quick: the baseline of the benchmark.
+//! The seven calls in plain Rust, as a careful engineer writes them who wants them quick: the baseline of the benchmark.
 //!
 //! Arguments and answers are those of the C interface, with slices. A word is two bytes, low byte first. The cells are read
 //! once, in order, and all is decided on that copy before the first store: it stays in the nearest cache while the links lead
@@ -66,9 +66,28 @@ impl Shape {
         self.lists <= cell && cell < self.cells()
     }
 
+    /// The bytes of a record.
+    fn record_size(self) -> usize {
+        2 * self.width
+    }
+
     /// The bytes of a node.
     fn node_size(self) -> usize {
         2 * (3 + self.width)
+    }
+
+    /// The stores of an inserted record.
+    fn insert_stores(self) -> usize {
+        self.width + 6
+    }
+
+    /// The node after this one, the first after the last.
+    fn next_node(self, cell: usize) -> usize {
+        if cell + 1 < self.cells() {
+            cell + 1
+        } else {
+            self.lists
+        }
     }
 
     /// The first byte of the first node.
@@ -216,8 +235,8 @@ impl Survey<'_> {
         upward.or_else(|| first[lists..].iter().position(free).map(|i| lists + i))
     }
 
-    /// Questions 5 to 10 of insert.
-    fn gap(&self, list: usize, position: u16, start: usize, record: &[u8]) -> Result<Site, u32> {
+    /// Questions 5 to 8 of the inserts: the length of the list.
+    fn ask(&self, list: usize, position: u16, start: usize) -> Result<u16, u32> {
         let count = self.count(list)?;
         if position > count {
             return Err(7);
@@ -225,12 +244,31 @@ impl Survey<'_> {
         if !self.shape.is_node(start) {
             return Err(8);
         }
+        Ok(count)
+    }
+
+    /// Questions 5 to 10 of insert.
+    fn gap(&self, list: usize, position: u16, start: usize, record: &[u8]) -> Result<Site, u32> {
+        let count = self.ask(list, position, start)?;
         if record.len() != 2 * self.shape.width {
             return Err(9);
         }
         let cell = self.free_from(start).ok_or(10u32)?;
         let before = self.before(list, position);
         Ok(Site { before, cell, after: self.after(before), count })
+    }
+
+    /// Questions 5 to 10 of an insert of several records. The first free cell is yet to be sought, from the site's cell on.
+    fn gaps(&self, list: usize, position: u16, start: usize, records: &[u8]) -> Result<Site, u32> {
+        let count = self.ask(list, position, start)?;
+        if records.is_empty() || records.len() % self.shape.record_size() != 0 {
+            return Err(9);
+        }
+        if self.shape.nodes - self.used < records.len() / self.shape.record_size() {
+            return Err(10);
+        }
+        let before = self.before(list, position);
+        Ok(Site { before, cell: start, after: self.after(before), count })
     }
 
     /// Questions 5 to 7 of delete.
@@ -317,6 +355,12 @@ fn inserted(
 ) -> Result<u32, u32> {
     let shape = open(store)?;
     let site = with_room(shape, |room| load(store, shape, room).gap(list, position, start, record))?;
+    Ok(answer(put_record(store, shape, list, site, record, allowance), shape.insert_stores()))
+}
+
+/// Makes the stores of one record, up to the allowance: how many.
+#[inline(always)]
+fn put_record(store: &mut [u8], shape: Shape, list: usize, site: Site, record: &[u8], allowance: usize) -> usize {
     let Site { before, cell, after, count } = site;
     let record_at = shape.at(cell, RECORD);
     let words = record.chunks_exact(2).enumerate().map(|(i, bytes)| (record_at + 2 * i, word(bytes, 0)));
@@ -329,8 +373,39 @@ fn inserted(
         (shape.at(after, BACK), cell as u16),
     ];
     let written = make(store, words, allowance);
-    let linked = make(store, links.into_iter(), allowance - written);
-    Ok(answer(written + linked, shape.width + links.len()))
+    written + make(store, links.into_iter(), allowance - written)
+}
+
+#[inline(never)]
+pub fn insert_several(store: &mut [u8], list: u16, position: u16, start: u16, records: &[u8], allowance: u16) -> u32 {
+    number(inserted_several(store, list.into(), position, start.into(), records, allowance.into()))
+}
+
+/// All is decided at first; then each record goes into the next free cell, behind the record before it.
+fn inserted_several(
+    store: &mut [u8],
+    list: usize,
+    position: u16,
+    start: usize,
+    records: &[u8],
+    allowance: usize,
+) -> Result<u32, u32> {
+    let shape = open(store)?;
+    let site = with_room(shape, |room| load(store, shape, room).gaps(list, position, start, records))?;
+    let Site { mut before, mut cell, after, mut count } = site;
+    let whole = records.len() / shape.record_size() * shape.insert_stores();
+    let mut made = 0;
+    for record in records.chunks_exact(shape.record_size()) {
+        while word(store, shape.at(cell, IDENT)) != 0 {
+            cell = shape.next_node(cell);
+        }
+        made += put_record(store, shape, list, Site { before, cell, after, count }, record, allowance - made);
+        if made == allowance {
+            break;
+        }
+        (before, cell, count) = (cell, shape.next_node(cell), count + 1);
+    }
+    Ok(answer(made, whole))
 }
 
 #[inline(never)]

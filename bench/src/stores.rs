@@ -63,6 +63,11 @@ impl Sample {
         self.lists[usize::from(self.list)].len()
     }
 
+    /// The number of free nodes.
+    pub fn free(&self) -> usize {
+        self.shape.nodes - self.lists.iter().map(Vec::len).sum::<usize>()
+    }
+
     /// The store after an insert that was cut after so many stores.
     pub fn cut(&self, stores: usize) -> Vec<u8> {
         let mut bytes = self.bytes.clone();

@@ -31,6 +31,7 @@ enum Call {
     Check,
     Length(u16),
     Insert(u16, u16, u16, Vec<u8>, u16),
+    InsertSeveral(u16, u16, u16, Vec<u8>, u16),
     Delete(u16, u16, u16),
     Recover(u16),
 }
@@ -42,6 +43,7 @@ impl Call {
             Call::Check => "check",
             Call::Length(_) => "length",
             Call::Insert(..) => "insert",
+            Call::InsertSeveral(..) => "insert_several",
             Call::Delete(..) => "delete",
             Call::Recover(_) => "recover",
         }
@@ -53,12 +55,13 @@ impl Call {
             Call::Check => plain::check(bytes),
             Call::Length(k) => plain::length(bytes, *k),
             Call::Insert(k, p, s, record, a) => plain::insert(bytes, *k, *p, *s, record, *a),
+            Call::InsertSeveral(k, p, s, records, a) => plain::insert_several(bytes, *k, *p, *s, records, *a),
             Call::Delete(k, p, a) => plain::delete(bytes, *k, *p, *a),
             Call::Recover(a) => plain::recover(bytes, *a),
         }
     }
 
-    /// The model's answer. A store of odd length is refused before all else; a record of odd length has no number of words,
+    /// The model's answer. A store of odd length is refused before all else; records of odd length have no number of words,
     /// so it is none that fits.
     fn model(&self, bytes: &mut [u8]) -> u32 {
         if bytes.len() % 2 == 1 {
@@ -72,6 +75,10 @@ impl Call {
             Call::Insert(k, p, s, record, a) => {
                 let record = if record.len() % 2 == 1 { vec![0; 14] } else { words_of(record) };
                 number(store::insert(&mut words, *k, *p, *s, &record, *a))
+            }
+            Call::InsertSeveral(k, p, s, records, a) => {
+                let records = if records.len() % 2 == 1 { vec![] } else { words_of(records) };
+                number(store::insert_several(&mut words, *k, *p, *s, &records, *a))
             }
             Call::Delete(k, p, a) => number(store::delete(&mut words, *k, *p, *a)),
             Call::Recover(a) => number(recovery::recover(&mut words, *a)),
@@ -178,6 +185,8 @@ fn calls(seen: &mut Seen, random: &mut Random, shape: Shape, bytes: &[u8]) {
     seen.compare(&mut bytes.to_vec(), &Call::Check);
     seen.compare(&mut bytes.to_vec(), &Call::Length(list));
     seen.allowances(bytes, |a| Call::Insert(list, position, start, record.clone(), a));
+    let records = record.repeat(random.between(1, 4));
+    seen.allowances(bytes, |a| Call::InsertSeveral(list, position, start, records.clone(), a));
     seen.allowances(bytes, |a| Call::Delete(list, position, a));
     seen.allowances(bytes, Call::Recover);
 }
@@ -212,6 +221,7 @@ fn many_stores() {
         ("check", &[0, 1, 2, 3, 4, 6]),
         ("length", &[1, 2, 3, 4, 5, 6, 65_536]),
         ("insert", &[1, 2, 3, 4, 5, 6, 7, 8, 9, 10, 65_536, 131_072]),
+        ("insert_several", &[1, 2, 3, 4, 5, 6, 7, 8, 9, 10, 65_536, 131_072]),
         ("delete", &[1, 2, 3, 4, 5, 6, 7, 65_536, 131_072]),
         ("recover", &[1, 2, 3, 4, 11, 12, 65_536, 131_072]),
     ]);
@@ -248,8 +258,9 @@ fn recovery_after_cuts() {
         let position = random.between(0, lists[list].len()) as u16;
         let allowance = random.below(shape.width + 7) as u16;
         let start = random.pick(&shape.node_cells().collect::<Vec<_>>()) as u16;
-        let call = match turn % 2 {
+        let call = match turn % 3 {
             0 => Call::Insert(list as u16, position, start, vec![7; 2 * shape.width], allowance),
+            1 => Call::InsertSeveral(list as u16, position, start, vec![7; 6 * shape.width], 3 * allowance),
             _ => Call::Delete(list as u16, position, allowance % 5),
         };
         seen.compare(&mut bytes, &call);
@@ -277,6 +288,32 @@ fn sizes_of_room() {
             (0..changes).for_each(|_| alter(&mut random, shape, &mut words));
             calls(&mut seen, &mut random, shape, &bytes_of(&words));
         }
+    }
+}
+
+/// As many records as are free, from every kind of starting cell; one too many; the largest store.
+#[test]
+fn several_records() {
+    let mut random = Random::new(8);
+    let mut seen = Seen::default();
+    for turn in 0..3_000 {
+        let shape = shape(&mut random, turn);
+        let lists = deal(&mut random, shape);
+        let bytes = bytes_of(&store_of(shape, &lists, || random.word()));
+        let list = random.below(shape.lists);
+        let position = random.between(0, lists[list].len()) as u16;
+        let start = (shape.lists + random.below(shape.nodes)) as u16;
+        let free = shape.nodes - lists.concat().len();
+        for number in [free, free + 1] {
+            let records: Vec<u8> = (0..2 * shape.width * number).map(|_| random.word() as u8).collect();
+            let allowance = if turn % 2 == 0 { ENOUGH } else { random.between(0, (shape.width + 6) * number) as u16 };
+            seen.compare(&mut bytes.clone(), &Call::InsertSeveral(list as u16, position, start, records, allowance));
+        }
+    }
+    let largest = bytes_of(&store_of(Shape::new(8, 2000, 13), &vec![vec![]; 8], || 0));
+    for allowance in [20_000, ENOUGH] {
+        let records = (0..52_000).map(|_| random.word() as u8).collect();
+        seen.compare(&mut largest.clone(), &Call::InsertSeveral(7, 0, 1000, records, allowance));
     }
 }
 

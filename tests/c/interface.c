@@ -12,8 +12,8 @@
 #define LONGEST_RECORD 40
 #define ROOM 32 /* canary bytes on each side */
 
-enum call { FORMAT, CHECK, LENGTH, INSERT, DELETE, RECOVER, CALLS };
-static const char *const call_names[CALLS] = {"format", "check", "length", "insert", "delete", "recover"};
+enum call { FORMAT, CHECK, LENGTH, INSERT, INSERT_SEVERAL, DELETE, RECOVER, CALLS };
+static const char *const call_names[CALLS] = {"format", "check", "length", "insert", "insert several", "delete", "recover"};
 
 static unsigned long passed, failed;
 
@@ -75,6 +75,8 @@ static uint32_t make(uint8_t *store, size_t len, const struct arguments *a, cons
     case CHECK: return axle_check(store, len);
     case LENGTH: return axle_length(store, len, a->list);
     case INSERT: return axle_insert(store, len, a->list, a->position, a->start, record, a->record_len, allowance);
+    case INSERT_SEVERAL:
+        return axle_insert_several(store, len, a->list, a->position, a->start, record, a->record_len, allowance);
     case DELETE: return axle_delete(store, len, a->list, a->position, allowance);
     default: return axle_recover(store, len, allowance);
     }
@@ -201,6 +203,17 @@ static struct arguments insert_of(uint16_t list, uint16_t position, uint16_t sta
     return a;
 }
 
+/* An insert of so many records of one word. */
+static struct arguments several_of(uint16_t list, uint16_t position, uint16_t start, size_t count, const uint16_t *words)
+{
+    struct arguments a = plain(INSERT_SEVERAL);
+    struct bytes records = of_words(words, count);
+    a.list = list, a.position = position, a.start = start;
+    memcpy(a.record, records.at, records.len);
+    a.record_len = records.len;
+    return a;
+}
+
 static struct arguments with_record_of(struct arguments a, size_t len)
 {
     memset(a.record, 0x11, sizeof a.record);
@@ -266,8 +279,45 @@ static void marked_store(void)
     refused(WITH(c3, {9, 9}, {10, 9}), plain(RECOVER), 11);
 }
 
+/* Several records: the stores of single inserts, one after the other, the next cell after the one just used. */
+static void several_records(void)
+{
+    static const uint16_t words[] = {700, 512, 9, 8};
+    struct bytes both = STORES(c1, several_of(0, 0, 2, 2, words),
+                               {19, 700}, {17, 0}, {18, 0}, {16, 42400}, {11, 1}, {9, 2}, {10, 2},
+                               {23, 512}, {21, 0}, {22, 2}, {20, 42400}, {11, 2}, {17, 3}, {10, 3});
+    holds(memcmp(both.at, c3.at, c3.len) == 0, "several as one by one", 0, 0);
+    struct bytes one = STORES(c2, several_of(0, 1, 2, 1, words + 1),
+                              {23, 512}, {21, 0}, {22, 2}, {20, 42400}, {11, 2}, {17, 3}, {10, 3});
+    holds(memcmp(one.at, c3.at, c3.len) == 0, "one of several as an insert", 0, 0);
+
+    /* From the last cell on to the first: cells 3, 1 and 2; and past a member, cells 3 and 1. */
+    STORES(c1, several_of(0, 0, 3, 3, words),
+           {23, 700}, {21, 0}, {22, 0}, {20, 42400}, {11, 1}, {9, 3}, {10, 3},
+           {15, 512}, {13, 0}, {14, 3}, {12, 42400}, {11, 2}, {21, 1}, {10, 1},
+           {19, 9}, {17, 0}, {18, 1}, {16, 42400}, {11, 3}, {13, 2}, {10, 2});
+    STORES(c2, several_of(0, 0, 2, 2, words + 2),
+           {23, 9}, {21, 2}, {22, 0}, {20, 42400}, {11, 2}, {9, 3}, {18, 3},
+           {15, 8}, {13, 2}, {14, 3}, {12, 42400}, {11, 3}, {21, 1}, {18, 1});
+
+    /* Cut on both sides of the second record's central store, the thirteenth: with the first record alone, and with both. */
+    struct bytes cut = WITH(c2, {23, 512}, {21, 0}, {22, 2}, {20, 42400}, {11, 2});
+    gives(c1, several_of(0, 0, 2, 2, words), 12, AXLE_STOPPED + 12, cut);
+    struct bytes first = STORES(cut, plain(RECOVER), {11, 1}, {20, 0});
+    gives(first, length_of(0), 0, AXLE_DONE + 1, first);
+    cut = WITH(cut, {17, 3});
+    gives(c1, several_of(0, 0, 2, 2, words), 13, AXLE_STOPPED + 13, cut);
+    both = STORES(cut, plain(RECOVER), {10, 3});
+    gives(both, length_of(0), 0, AXLE_DONE + 2, both);
+
+    refused(c1, several_of(0, 0, 2, 4, words), 10);
+    refused(c2, several_of(0, 1, 2, 3, words), 10);
+    refused(c2, several_of(0, 2, 2, 3, words), 7);
+    refused(c2, several_of(0, 1, 4, 3, words), 8);
+}
+
 /* Every call that opens a store. */
-static const size_t OPENING = 5;
+static const size_t OPENING = 6;
 static struct arguments opening(size_t i)
 {
     switch (i) {
@@ -275,6 +325,7 @@ static struct arguments opening(size_t i)
     case 1: return length_of(0);
     case 2: return insert_of(0, 0, 1, 5);
     case 3: return delete_of(0, 0);
+    case 4: return several_of(0, 0, 1, 2, c1_words);
     default: return plain(RECOVER);
     }
 }
@@ -304,6 +355,31 @@ static void lengths_and_heads(void)
         refused(WITH(c3, {6, 14}), opening(i), 3);
         refused(WITH(c3, {5, 4}), opening(i), 4);
     }
+}
+
+/* The largest store filled by one call, cut before its last store, and whole. */
+static void fill_at_once(uint8_t *large, size_t len)
+{
+    size_t records_len = 2000 * AXLE_RECORD_BYTES(13);
+    uint8_t *records = calloc(records_len + AXLE_RECORD_BYTES(13), 1);
+    if (!records)
+        exit(2);
+    uint16_t whole = AXLE_INSERT_SEVERAL_STORES(13, 2000);
+    axle_format(large, len, 8, 2000, 13);
+    uint32_t answer = axle_insert_several(large, len, 7, 0, 1000, records, records_len + AXLE_RECORD_BYTES(13), AXLE_WHOLE);
+    holds(answer == AXLE_FULL, "one record too many", answer, 0);
+    answer = axle_insert_several(large, len, 7, 0, 1000, records, records_len, (uint16_t)(whole - 1));
+    holds(answer == AXLE_STOPPED + 37999, "2,000 records, cut before the last store", answer, 0);
+    answer = axle_recover(large, len, AXLE_WHOLE);
+    holds(answer == AXLE_DONE + 1, "recovery then", answer, 0);
+    axle_format(large, len, 8, 2000, 13);
+    answer = axle_insert_several(large, len, 7, 0, 1000, records, records_len, AXLE_WHOLE);
+    holds(answer == AXLE_DONE + 38000, "2,000 records", answer, 0);
+    answer = axle_length(large, len, 7);
+    holds(answer == AXLE_DONE + 2000 && axle_check(large, len) == 0, "their number", answer, 0);
+    answer = axle_insert_several(large, len, 7, 0, 1000, records, AXLE_RECORD_BYTES(13), AXLE_WHOLE);
+    holds(answer == AXLE_FULL, "no node free", answer, 0);
+    free(records);
 }
 
 static void formats(void)
@@ -348,6 +424,7 @@ static void formats(void)
         answer = axle_length(large, len, list);
         holds(answer == AXLE_DONE + 250, "length in the largest store", answer, list);
     }
+    fill_at_once(large, len);
     for (uint16_t list = 0; list < 8; list++)
         large[2 * AXLE_HEADER_WORD(list) + 1] ^= 0x10; /* a fault in every header's identifier */
     answer = axle_recover(large, len, 7);
@@ -394,6 +471,20 @@ static void questions(void)
     a.start = 3;
     for (size_t len = 0; len <= LONGEST_RECORD; len++)
         refused(full, with_record_of(a, len), len == 2 ? 10 : 9);
+
+    /* The same of several records. */
+    a.call = INSERT_SEVERAL, a.list = 1, a.position = 4, a.start = 0;
+    refused(damaged, a, 5);
+    a.list = 0;
+    refused(damaged, a, 6);
+    refused(full, a, 7);
+    a.position = 3;
+    refused(full, a, 8);
+    a.start = 4;
+    refused(full, a, 8);
+    a.start = 3;
+    for (size_t len = 0; len <= LONGEST_RECORD; len++)
+        refused(full, with_record_of(a, len), len % 2 || len == 0 ? 9 : 10);
     gives(full, length_of(0), 0, AXLE_DONE + 3, full);
 
     /* A store of two lists and records of two words. */
@@ -405,6 +496,9 @@ static void questions(void)
     for (size_t len = 0; len <= LONGEST_RECORD; len++)
         if (len != 4)
             refused(two, with_record_of(insert_of(1, 0, 4, 0), len), 9);
+    for (size_t len = 0; len <= LONGEST_RECORD; len++)
+        if (len != 4 && len != 8 && len != 12)
+            refused(two, with_record_of(several_of(1, 0, 4, 1, words), len), len % 4 || len == 0 ? 9 : 10);
     struct bytes one = STORES(two, with_record_of(insert_of(1, 0, 4, 0), 4), {29, 0x1111}, {30, 0x1111}, {27, 1}, {28, 1},
                               {26, 42401}, {15, 1}, {13, 4}, {14, 4});
     STORES(WITH(one, {9, 77}, {15, 0}, {16, 1}), plain(RECOVER), {9, 0}, {15, 1}, {16, 0});
@@ -424,6 +518,10 @@ static void parts_of_answers(void)
         holds(axle_is_refused(n) && !axle_is_done(n) && !axle_is_stopped(n) && axle_number(n) == n, "refused", n, 0);
     holds(AXLE_STORE_BYTES(1, 3, 1) == 48 && AXLE_RECORD_BYTES(13) == 26, "sizes", 0, 0);
     holds(AXLE_INSERT_STORES(1) == 7 && AXLE_INSERT_CENTRAL(1) == 6, "stores", 0, 0);
+    holds(AXLE_INSERT_SEVERAL_STORES(1 + 1, 2 + 1) == 24, "stores of several records", 0, 0);
+    char version[20];
+    sprintf(version, "%d.%d.%d", AXLE_VERSION_MAJOR, AXLE_VERSION_MINOR, AXLE_VERSION_PATCH);
+    holds(strcmp(version, AXLE_VERSION) == 0, "the version", 0, 0);
 }
 
 /* Every answer that a call can give was given, and no other. The columns: 0, refusals 1 to 12, done, stopped. */
@@ -433,6 +531,7 @@ static void all_seen(void)
         {1, 0, 0, 1, 1},
         {1, 1, 1, 1, 1, 0, 1},
         {0, 1, 1, 1, 1, 1, 1, 0, 0, 0, 0, 0, 0, 1},
+        {0, 1, 1, 1, 1, 1, 1, 1, 1, 1, 1, 0, 0, 1, 1},
         {0, 1, 1, 1, 1, 1, 1, 1, 1, 1, 1, 0, 0, 1, 1},
         {0, 1, 1, 1, 1, 1, 1, 1, 0, 0, 0, 0, 0, 1, 1},
         {0, 1, 1, 1, 1, 0, 0, 0, 0, 0, 0, 1, 1, 1, 1},
@@ -445,6 +544,7 @@ static void all_seen(void)
 int main(void)
 {
     marked_store();
+    several_records();
     lengths_and_heads();
     formats();
     questions();

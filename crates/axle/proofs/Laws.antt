@@ -6,6 +6,7 @@ use mathlib.Core.Bool.{Bool, true, false, cond}
 use native.Mathlib.Omega.{arith}
 use lib.Dec.{eqb}
 use lib.ListN.{length}
+use borrow.Author.Tests.{eqb-true}
 use Rattle.stores.specs.declared.Answer.{Answer}
 use Rattle.stores.specs.declared.Answer.the-variants as A
 use Rattle.stores.specs.Stores.{Write, run, Plan, refuse, stores, answerOf}
@@ -46,6 +47,15 @@ record-words b = by (eqb (length b % 2) 0)
     by : (e : Bool) → 0 < length (cond e (wordsIn b) []) → cond e (wordsIn b) [] ≡ wordsIn b
     by true h = refl
     by false h = absurd (omega arith)
+
+-- and its bytes are pairs
+pub record-pairs : (b : List ℕ) → 0 < length (recordWords b) → length b % 2 ≡ 0
+unfolding recordWords
+record-pairs b = by (eqb (length b % 2) 0) refl
+  where
+    by : (e : Bool) → eqb (length b % 2) 0 ≡ e → 0 < length (cond e (wordsIn b) []) → length b % 2 ≡ 0
+    by true q h = eqb-true (length b % 2) 0 q
+    by false q h = absurd (omega arith)
 
 -- the first of the stores are made: those that are left, in the bytes as they are, give what all give
 pub made : (ps rs : List Write) (b : List ℕ) {qs : List Write} {c : List ℕ} → qs ≡ ps ++ rs → c ≡ run (byteWrites ps) b

@@ -13,7 +13,7 @@ use Rattle.recovery.specs.Plan.{recoverPlan}
 use Rattle.axle_store.specs.declared.Counted.{Counted}
 use Rattle.axle_store.specs.declared.Counted.the-variants as L
 use Rattle.axle_store.specs.Answers.{checkedNumber}
-use Rattle.axle_store.specs.Calls.{checkAnswer, lengthAnswer, insertPlan, deletePlan}
+use Rattle.axle_store.specs.Calls.{checkAnswer, lengthAnswer, insertPlan, severalPlan, deletePlan}
 
 -- "A store of odd byte length is answered 4 before all else": else what the call says of the words
 abbrev pub evenly {ℓ} : {A : Type ℓ} → List ℕ → A → (List ℕ → A) → A
@@ -61,6 +61,9 @@ byteFormat l bytes = evenly bytes (refuse 4) (formatPlan l)
 
 unfoldable pub byteInsert : List ℕ → ℕ → ℕ → ℕ → List ℕ → Plan
 byteInsert bytes k p c rec = evenly bytes (refuse 4) (λ w. insertPlan w k p c (recordWords rec))
+
+unfoldable pub byteSeveral : List ℕ → ℕ → ℕ → ℕ → List ℕ → Plan
+byteSeveral bytes k p c records = evenly bytes (refuse 4) (λ w. severalPlan w k p c (recordWords records))
 
 unfoldable pub byteDelete : List ℕ → ℕ → ℕ → Plan
 byteDelete bytes k p = evenly bytes (refuse 4) (λ w. deletePlan w k p)

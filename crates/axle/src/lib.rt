@@ -7,15 +7,15 @@ use requests::Request;
 use requests::Site;
 use stores::Answer;
 ghost use mathlib.Core.Path.{_≡_};
-ghost use Prim.Native.Nat.{_+_, _≤_};
+ghost use Prim.Native.Nat.{_+_, _*_, _/_, _%_, _≤_, _<_};
 ghost use lib.ListN.{length};
 ghost use Rattle.stores.specs.Stores.{run, stores, inRow, answerOf};
 ghost use Rattle.byte_form.specs.Bytes.{wordsIn, byteWrites, appliedBytes, bytesAfter};
 ghost use Rattle.layout.specs.Words.{headWords, tailWords, sizeOf, layoutOf, layoutFor, Laid};
-ghost use Rattle.edits.specs.Edits.{insertWrites, deleteWrites, Placed};
+ghost use Rattle.edits.specs.Edits.{insertWrites, chainFrom, deleteWrites, Placed, Room};
 ghost use Rattle.recovery.specs.Plan.{recoverPlan};
-ghost use Rattle.axle_store.specs.Calls.{insertPlan, deletePlan};
-ghost use Rattle.axle.specs.Interface.{recordWords, codeOf, checkCode, lengthCode, formatPlan, wholeCode, wholeBytes, byteFormat, byteInsert, byteDelete, byteRecover};
+ghost use Rattle.axle_store.specs.Calls.{insertPlan, severalPlan, deletePlan};
+ghost use Rattle.axle.specs.Interface.{recordWords, codeOf, checkCode, lengthCode, formatPlan, wholeCode, wholeBytes, byteFormat, byteInsert, byteSeveral, byteDelete, byteRecover};
 
 // What stands in front of the number of stores done or of a length, and of the number where stopped.
 const DONE: u32 = 65536;
@@ -196,6 +196,76 @@ pub extern "C" fn axle_insert(
         return 4;
     }
     code(insert(store, list, position, start, rec, allowance))
+}
+
+// Makes the stores of several inserts, one record after another from the first site on, up to the allowance.
+fn insert_all(
+    bytes: &mut [u8],
+    l: Layout,
+    list: u16,
+    first: Site,
+    records: &[u8],
+    allowance: u16,
+) -> Answer
+    requires { ⌜ Room l (wordsIn (now bytes)) list first (length (wordsIn (now records)) / l .width) × (0 < length (wordsIn (now records))) × (length (wordsIn (now records)) ≡ length (wordsIn (now records)) / l .width * l .width) × (length (now records) % 2 ≡ 0) × (length (now bytes) % 2 ≡ 0) ⌝ }
+    ensures answer { λ r. ⌜ r ≡ answerOf (stores (chainFrom l (wordsIn (now (bytes .entry))) list first (length (wordsIn (now (records .entry))) / l .width) (wordsIn (now (records .entry))))) allowance ⌝ }
+    ensures bytes { λ _. ⌜ now (bytes .exit) ≡ appliedBytes (chainFrom l (wordsIn (now (bytes .entry))) list first (length (wordsIn (now (records .entry))) / l .width) (wordsIn (now (records .entry)))) allowance (now (bytes .entry)) ⌝ }
+{
+    let size = 2 * l.width as usize;
+    let mut t = first;
+    let mut at: usize = 0;
+    let mut made: u16 = 0;
+    loop {
+        let e = at + size;
+        let Answer::Done(n) = insert_at(bytes, l, list, t, &records[at..e], allowance - made) else {
+            return Answer::Stopped(allowance);
+        };
+        made += n;
+        if e == records.len() {
+            return Answer::Done(made);
+        }
+        at = e;
+        t = byte_requests::next_site(bytes, l, t);
+    }
+}
+
+// Inserts several records.
+fn insert_several(
+    bytes: &mut [u8],
+    list: u16,
+    position: u16,
+    start: u16,
+    records: &[u8],
+    allowance: u16,
+) -> Answer
+    requires { ⌜ length (now bytes) % 2 ≡ 0 ⌝ }
+    ensures answer { λ r. ⌜ r ≡ answerOf (severalPlan (wordsIn (now (bytes .entry))) list position start (recordWords (now (records .entry)))) allowance ⌝ }
+    ensures bytes { λ _. ⌜ now (bytes .exit) ≡ bytesAfter (severalPlan (wordsIn (now (bytes .entry))) list position start (recordWords (now (records .entry)))) allowance (now (bytes .entry)) ⌝ }
+{
+    let n = record_size(records);
+    match byte_requests::look(bytes, Request::Gaps(list, position, start, n)) {
+        Looked::Refused(r) => Answer::Refused(r),
+        Looked::At(_, t) => insert_all(bytes, layout_of(bytes), list, t, records, allowance),
+    }
+}
+
+// Inserts several records into the list from the position on, in the first free cells from the starting cell on.
+#[no_mangle]
+pub extern "C" fn axle_insert_several(
+    store: &mut [u8],
+    list: u16,
+    position: u16,
+    start: u16,
+    records: &[u8],
+    allowance: u16,
+) -> u32
+    ensures answer { λ r. ⌜ r ≡ codeOf (answerOf (byteSeveral (now (store .entry)) list position start (now (records .entry))) allowance) ⌝ }
+    ensures bytes { λ _. ⌜ now (store .exit) ≡ bytesAfter (byteSeveral (now (store .entry)) list position start (now (records .entry))) allowance (now (store .entry)) ⌝ }
+{
+    if store.len() % 2 != 0 {
+        return 4;
+    }
+    code(insert_several(store, list, position, start, records, allowance))
 }
 
 // Makes the stores of a delete, up to the allowance.

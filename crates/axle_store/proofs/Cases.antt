@@ -1,5 +1,5 @@
 -- The calls' definitions, case by case: which question decided, or what the look found.
-use Prim.Native.Nat.{ℕ}
+use Prim.Native.Nat.{ℕ, _/_}
 use mathlib.Core.Path.{_≡_, refl}
 use mathlib.Core.List.{List, []}
 use mathlib.Core.Bool.{true, false}
@@ -10,15 +10,16 @@ use Rattle.layout.specs.declared.Layout.{Layout}
 use Rattle.layout.specs.declared.Opened.the-variants as O
 use Rattle.layout.specs.Words.{opened, inRange, sizeOf, formatted, recordAt}
 use Rattle.requests.specs.declared.Site.{Site}
-use Rattle.requests.specs.declared.Request.the-variants.{Check, Whole, Member, Gap}
+use Rattle.requests.specs.declared.Request.the-variants.{Check, Whole, Member, Gap, Gaps}
 use Rattle.requests.specs.declared.Looked.the-variants as K
 use Rattle.requests.specs.Requests.{lookOf}
-use Rattle.edits.specs.Edits.{insertWrites, deleteWrites}
+use Rattle.edits.specs.Edits.{insertWrites, chain, deleteWrites}
+use Rattle.edits.proofs.Gaps.{freeFrom}
 use Rattle.recovery.specs.Plan.{recoverOf, recoverPlan}
 use Rattle.axle_store.specs.declared.Formatted.the-variants as F
 use Rattle.axle_store.specs.declared.Checked.the-variants as C
 use Rattle.axle_store.specs.declared.Counted.the-variants as L
-use Rattle.axle_store.specs.Calls.{formatAnswer, formatWords, checkAnswer, lengthAnswer, readNumber, readWords, readStart, insertPlan, deletePlan}
+use Rattle.axle_store.specs.Calls.{formatAnswer, formatWords, checkAnswer, lengthAnswer, readNumber, readWords, readStart, insertPlan, severalPlan, deletePlan}
 
 -- format: the numbers are out of range, the length is not exact, done
 module _ (l : Layout) (w : List ℕ) where
@@ -86,6 +87,15 @@ module _ (w : List ℕ) where
         pub insert-at : {l : Layout} {t : Site} → lookOf w (Gap k p c (length words)) ≡ K.At l t → insertPlan w k p c words ≡ stores (insertWrites l k t words)
         unfolding insertPlan
         insert-at e = rw e
+
+        pub several-refused : {n : ℕ} → lookOf w (Gaps k p c (length words)) ≡ K.Refused n → severalPlan w k p c words ≡ refuse n
+        unfolding severalPlan
+        several-refused e = rw e
+
+        pub several-at : {l : Layout} {t : Site} → lookOf w (Gaps k p c (length words)) ≡ K.At l t
+            → severalPlan w k p c words ≡ stores (chain l k (t .before) (t .after) (t .count) (freeFrom l w c (length words / l .width)) words)
+        unfolding severalPlan
+        several-at e = rw e
 
   -- recover: a store that is not opened, or a plan by its layout
   pub recover-shut : {n : ℕ} → opened w ≡ O.Refused n → recoverPlan w ≡ refuse n

@@ -16,8 +16,8 @@ use Rattle.requests.specs.declared.Site.{Site}
 use Rattle.requests.specs.declared.Looked.the-variants as K
 use Rattle.requests.specs.declared.Request.the-variants.{Member, Gap}
 use Rattle.requests.specs.Requests.{lookOf, around}
+use Rattle.requests.proofs.Turn.{around-nodes}
 use Rattle.edits.specs.Edits.{Placed}
-use Rattle.edits.proofs.Free.{around-nodes}
 use Rattle.edits.proofs.Done.{looked, member-facts, gap-facts}
 
 module _ (l : Layout) (w : List ℕ) (k : ℕ) (h : k < l .lists) where

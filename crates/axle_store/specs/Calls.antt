@@ -1,5 +1,5 @@
 -- What each call answers, with which number, and what it leaves in the lent words: its questions in order, the first no decides.
-use Prim.Native.Nat.{ℕ}
+use Prim.Native.Nat.{ℕ, _/_}
 use mathlib.Core.List.{List, []}
 use lib.Dec.{eqb}
 use lib.ListN.{length, take, drop}
@@ -7,9 +7,10 @@ use Rattle.stores.specs.Stores.{Plan, refuse, stores}
 use Rattle.layout.specs.declared.Layout.{Layout}
 use Rattle.layout.specs.Words.{ask, inRange, sizeOf, recordAt}
 use Rattle.requests.specs.declared.Looked.{Looked}
-use Rattle.requests.specs.declared.Request.the-variants.{Check, Whole, Member, Gap}
-use Rattle.requests.specs.Requests.{lookOf, withLook}
-use Rattle.edits.specs.Edits.{insertWrites, deleteWrites}
+use Rattle.requests.specs.declared.Request.the-variants.{Check, Whole, Member, Gap, Gaps}
+use Rattle.lists.specs.Decide.{viewOf}
+use Rattle.requests.specs.Requests.{around, freeCells, lookOf, withLook}
+use Rattle.edits.specs.Edits.{insertWrites, chain, deleteWrites}
 use Rattle.axle_store.specs.Answers.{formattedWords}
 use Rattle.axle_store.specs.declared.Formatted.{Formatted}
 use Rattle.axle_store.specs.declared.Formatted.the-variants as F
@@ -75,6 +76,15 @@ readStart w k p = withLook (lookOf w (Member k p)) (λ n. 0) (λ l t. recordAt l
 unfoldable pub insertPlan : List ℕ → ℕ → ℕ → ℕ → List ℕ → Plan
 insertPlan w k p c words =
     withLook (lookOf w (Gap k p c (length words))) refuse (λ l t. stores (insertWrites l k t words))
+
+-- insert of several records into list k from position p on, from cell c: 1 to 4, 5, 6, 7, 8, 9, 10. The stores of one record after another, in
+-- the first free cells met
+unfoldable pub severalPlan : List ℕ → ℕ → ℕ → ℕ → List ℕ → Plan
+severalPlan w k p c words =
+    withLook (lookOf w (Gaps k p c (length words))) refuse
+    (λ l t.
+    let cells = take (length words / l .width) (freeCells (viewOf l w .ident) (around l c (l .nodes))) in
+    stores (chain l k (t .before) (t .after) (t .count) cells words))
 
 -- delete from list k at position p: 1 to 4, 5, 6, 7
 unfoldable pub deletePlan : List ℕ → ℕ → ℕ → Plan

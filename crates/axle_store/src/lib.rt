@@ -7,14 +7,14 @@ use requests::Request;
 use requests::Site;
 use stores::Answer;
 ghost use mathlib.Core.Path.{_≡_};
-ghost use Prim.Native.Nat.{_+_, _*_, _≤_};
+ghost use Prim.Native.Nat.{_+_, _*_, _/_, _≤_, _<_};
 ghost use lib.ListN.{length};
 ghost use Rattle.stores.specs.Stores.{run, stores, inRow, applied, answerOf, wordsAfter, answerNumber, answerStores, planNumber, madeBy};
 ghost use Rattle.layout.specs.Words.{InRange, tailWords, sizeOf, layoutFor, formatted};
-ghost use Rattle.edits.specs.Edits.{insertWrites, deleteWrites, Placed};
+ghost use Rattle.edits.specs.Edits.{insertWrites, chainFrom, deleteWrites, Placed, Room};
 ghost use Rattle.recovery.specs.Plan.{recoverPlan};
 ghost use Rattle.axle_store.specs.Answers.{checkedNumber, formattedNumber, countedNumber, countedLength};
-ghost use Rattle.axle_store.specs.Calls.{formatAnswer, formatNumber, formatWords, checkAnswer, checkNumber, lengthAnswer, lengthNumber, lengthValue, readNumber, readWords, readStart, insertPlan, deletePlan};
+ghost use Rattle.axle_store.specs.Calls.{formatAnswer, formatNumber, formatWords, checkAnswer, checkNumber, lengthAnswer, lengthNumber, lengthValue, readNumber, readWords, readStart, insertPlan, severalPlan, deletePlan};
 
 // The answer of format.
 pub enum Formatted {
@@ -221,6 +221,57 @@ pub fn insert(
     match word_requests::look(words, Request::Gap(list, position, start, rec.len())) {
         Looked::Refused(n) => Answer::Refused(n),
         Looked::At(l, t) => insert_at(words, l, list, t, rec, allowance),
+    }
+}
+
+// Makes the stores of several inserts, one record after another from the first site on, up to the allowance.
+fn insert_all(
+    words: &mut [u16],
+    l: Layout,
+    list: u16,
+    first: Site,
+    records: &[u16],
+    allowance: u16,
+) -> Answer
+    requires { ⌜ Room l (now words) list first (length (now records) / l .width) × (0 < length (now records)) × (length (now records) ≡ length (now records) / l .width * l .width) ⌝ }
+    ensures answer { λ r. ⌜ r ≡ answerOf (stores (chainFrom l (now (words .entry)) list first (length (now (records .entry)) / l .width) (now (records .entry)))) allowance ⌝ }
+    ensures words { λ _. ⌜ now (words .exit) ≡ applied (chainFrom l (now (words .entry)) list first (length (now (records .entry)) / l .width) (now (records .entry))) allowance (now (words .entry)) ⌝ }
+{
+    let width = l.width as usize;
+    let mut t = first;
+    let mut at: usize = 0;
+    let mut made: u16 = 0;
+    loop {
+        let e = at + width;
+        let Answer::Done(n) = insert_at(words, l, list, t, &records[at..e], allowance - made) else {
+            return Answer::Stopped(allowance);
+        };
+        made += n;
+        if e == records.len() {
+            return Answer::Done(made);
+        }
+        at = e;
+        t = word_requests::next_site(words, l, t);
+    }
+}
+
+// Inserts several records into the list from the position on, in the first free cells from the starting cell on.
+pub fn insert_several(
+    words: &mut [u16],
+    list: u16,
+    position: u16,
+    start: u16,
+    records: &[u16],
+    allowance: u16,
+) -> Answer
+    ensures answer { λ r. ⌜ r ≡ answerOf (severalPlan (now (words .entry)) list position start (now (records .entry))) allowance ⌝ }
+    ensures words { λ _. ⌜ now (words .exit) ≡ wordsAfter (severalPlan (now (words .entry)) list position start (now (records .entry))) allowance (now (words .entry)) ⌝ }
+    ensures number { λ r. ⌜ answerNumber r ≡ planNumber (severalPlan (now (words .entry)) list position start (now (records .entry))) ⌝ }
+    ensures stores { λ r. ⌜ answerStores r ≡ length (madeBy (severalPlan (now (words .entry)) list position start (now (records .entry))) allowance) ⌝ }
+{
+    match word_requests::look(words, Request::Gaps(list, position, start, records.len())) {
+        Looked::Refused(n) => Answer::Refused(n),
+        Looked::At(l, t) => insert_all(words, l, list, t, records, allowance),
     }
 }
 

@@ -14,17 +14,18 @@ use Rattle.byte_form.proofs.Laws.{words-after, length-after, byte-append, bytes
 use Rattle.layout.specs.Words.{layoutOf}
 use Rattle.lists.specs.Lists.{Sound}
 use Rattle.recovery.specs.Plan.{recoverPlan}
-use Rattle.courses.specs.Course.{Edit, insert, delete, named, editPlan, allStores, needed, dueWords, Alteration, AllowedBut, alteredBelow, found, wordsThrough, answersThrough, storesThrough, NotRefused}
+use Rattle.courses.specs.Course.{Edit, insert, several, delete, named, editPlan, allStores, needed, dueWords, Alteration, AllowedBut, alteredBelow, found, wordsThrough, answersThrough, storesThrough, NotRefused}
 use Rattle.courses.specs.Demand3.{Course}
 use Rattle.courses.proofs.Demand3.{demand3}
-use Rattle.axle.specs.Interface.{codeOf, byteInsert, byteDelete, byteRecover}
+use Rattle.axle.specs.Interface.{codeOf, byteInsert, byteSeveral, byteDelete, byteRecover}
 use Rattle.byte_courses.specs.ByteCourse.{byteEdit, inWords, Found, bytesThrough, codesThrough}
 use Rattle.byte_courses.specs.ByteDemand3.{NotRefusal, ByteCourse, ByteDemand3}
 
 -- on an even number of bytes the plans are those of the words
 edit-plan : (b : List ℕ) (e : Edit) → length b % 2 ≡ 0 → byteEdit b e ≡ editPlan (wordsIn b) (inWords e)
-unfolding byteInsert byteDelete
+unfolding byteInsert byteSeveral byteDelete
 edit-plan b (insert k p c rec) h = rw (eq-eqb (length b % 2) 0 h)
+edit-plan b (several k p c rec) h = rw (eq-eqb (length b % 2) 0 h)
 edit-plan b (delete k p) h = rw (eq-eqb (length b % 2) 0 h)
 
 recover-plan : (y : List ℕ) → length y % 2 ≡ 0 → byteRecover y ≡ recoverPlan (wordsIn y)

@@ -6,16 +6,18 @@ use lib.ListN.{length}
 use Rattle.stores.specs.Stores.{Plan, answerOf}
 use Rattle.byte_form.specs.Bytes.{wordsIn, bytesAfter}
 use Rattle.layout.specs.Words.{layoutOf}
-use Rattle.courses.specs.Course.{Edit, insert, delete, named, Alteration, alteredBelow}
-use Rattle.axle.specs.Interface.{recordWords, codeOf, byteInsert, byteDelete, byteRecover}
+use Rattle.courses.specs.Course.{Edit, insert, several, delete, named, Alteration, alteredBelow}
+use Rattle.axle.specs.Interface.{recordWords, codeOf, byteInsert, byteSeveral, byteDelete, byteRecover}
 
--- an insert or delete whose record is in bytes, and what it is in words
+-- an insert or delete whose record, or records, are in bytes, and what it is in words
 abbrev pub byteEdit : List ℕ → Edit → Plan
 byteEdit b (insert k p c rec) = byteInsert b k p c rec
+byteEdit b (several k p c rec) = byteSeveral b k p c rec
 byteEdit b (delete k p) = byteDelete b k p
 
 abbrev pub inWords : Edit → Edit
 inWords (insert k p c rec) = insert k p c (recordWords rec)
+inWords (several k p c rec) = several k p c (recordWords rec)
 inWords (delete k p) = delete k p
 
 -- the found store: the bytes that the call left, "in each list but the one it names, at most one word .. altered, to any value"

@@ -17,8 +17,8 @@ ghost use Rattle.byte_form.specs.Bytes.{wordsIn};
 ghost use Rattle.layout.specs.Words.{headWords, linkWords, Laid, Node, openedBy, opened};
 ghost use Rattle.lists.specs.Decide.{viewOf, sequenceOf};
 ghost use Rattle.spans.specs.Spans.{Gridded};
-ghost use Rattle.requests.specs.Requests.{around, firstFree, memberAt, freeGap, gapAt, siteOf, lookOf};
-ghost use Rattle.requests.specs.Sites.{HeldList, linkIn, gapSite};
+ghost use Rattle.requests.specs.Requests.{around, firstFree, memberAt, freeGap, gapAt, gapsAt, siteOf, lookOf};
+ghost use Rattle.requests.specs.Sites.{HeldList, linkIn, gapSite, nextSite};
 
 // The first eight words.
 fn head(bytes: &[u8]) -> [u16; Layout::HEAD_WORDS]
@@ -151,6 +151,41 @@ fn gap(bytes: &[u8], l: Layout, g: Grid, k: u16, n: u16, p: u16, start: u16, siz
     free_gap(bytes, l, g, k, n, p, start)
 }
 
+// The same for several records, of so many words in all: question 10 is then of the number of free nodes.
+fn gaps(bytes: &[u8], l: Layout, g: Grid, k: u16, n: u16, p: u16, start: u16, size: usize) -> Sited
+    requires { ⌜ Gridded l g × Laid l (wordsIn (now bytes)) × HeldList l (viewOf l (wordsIn (now bytes))) k n ⌝ }
+    ensures { λ r. ⌜ r ≡ gapsAt l (viewOf l (wordsIn (now (bytes .entry))) .ident) k p start size (sequenceOf l (wordsIn (now (bytes .entry))) k) ⌝ }
+{
+    let refusal = requests::gaps_number(l, n, p, start, size);
+    if refusal != 0 {
+        return Sited::Refused(refusal);
+    }
+    let free = l.nodes as usize - byte_walks::used_in(bytes, l, g) as usize;
+    if free < size / l.width as usize {
+        return Sited::Refused(10);
+    }
+    free_gap(bytes, l, g, k, n, p, start)
+}
+
+// The site of the next of several records, behind the one just inserted at site t. The search goes on behind the cell just used, so all
+// searches together are one turn.
+pub fn next_site(bytes: &[u8], l: Layout, t: Site) -> Site
+    requires { ⌜ Laid l (wordsIn (now bytes)) × Node l (t .cell) × (t .count ≤ l .nodes) ⌝ }
+    ensures { λ r. ⌜ r ≡ nextSite l (viewOf l (wordsIn (now (bytes .entry))) .ident) t ⌝ }
+{
+    let g = Grid::of(l);
+    let from = requests::next_cell(l, t.cell);
+    match free_cell(bytes, l, g, from, l.nodes) {
+        Free::Full => t,
+        Free::Cell(cell) => Site {
+            before: t.cell,
+            cell,
+            after: t.after,
+            count: t.count + 1,
+        },
+    }
+}
+
 // The site that a request gets.
 fn site_of(bytes: &[u8], l: Layout, q: Request) -> Sited
     requires { ⌜ Laid l (wordsIn (now bytes)) ⌝ }
@@ -180,6 +215,7 @@ fn site_of(bytes: &[u8], l: Layout, q: Request) -> Sited
         }),
         Request::Member(k, p) => member(bytes, l, g, k, n, p),
         Request::Gap(k, p, start, size) => gap(bytes, l, g, k, n, p, start, size),
+        Request::Gaps(k, p, start, size) => gaps(bytes, l, g, k, n, p, start, size),
     }
 }
 

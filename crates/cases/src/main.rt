@@ -15,6 +15,9 @@
 //     10 a            recover         prints 'recover a = ANSWER', then the same
 //     11 k p c v b w n u1 .. un       all courses of one call on the store, which is left as it is (at most 64 words)
 //                                     prints 'courses k p c v b w n = DIGEST'
+//     12 k p c m n v1 .. vn a         insert of several records from cell c on, allowance a: m words in all (at most 32,100), which
+//                                     are v1 .. vn over and over (n is not 0)
+//                                     prints 'insert_several k p c m a = ANSWER', then the words or their checksum
 //
 // The courses of operation 11: the delete at position p of list k, if c is 0, else the insert of the record v there from cell c on;
 // cut after 0 to 7 stores; then word b altered to w, and each word from 8 on, one at a time, to each of u1 .. un; then a recovery
@@ -22,7 +25,7 @@
 // digest depends on every answer and on the words that each course leaves.
 //
 // An ANSWER is 'done', 'stopped' or 'refused' and its number. Words outside the store are not stored. An unknown operation, an
-// entry that is cut short or a record that is too long ends the run with the line 'bad script'. The last line is 'end'.
+// entry that is cut short, a record or records that are too long end the run with the line 'bad script'. The last line is 'end'.
 use libc::STDIN_FILENO;
 use libc::STDOUT_FILENO;
 use stores::Answer;
@@ -423,9 +426,78 @@ fn courses(store: &[u16], entry: &[u8]) {
     printing::text(b"\n");
 }
 
+// The number after `at` of the n numbers from 0 on: 0 after the last.
+fn following(at: u16, n: u16) -> u16 {
+    if n <= at {
+        return 0;
+    }
+    let next = at + 1;
+    if next == n { 0 } else { next }
+}
+
+// The words of several records: those of the entry behind n, over and over.
+fn records_of(entry: &[u8]) -> [u16; 32100]
+    ensures { λ r. ⌜ 32100 ≡ length r ⌝ }
+{
+    let mut records = store_buffer();
+    let mut at: u16 = 0;
+    let mut i: usize = 0;
+    while i < 32100 {
+        records[i] = word(entry, 6 + at as usize);
+        at = following(at, word(entry, 5));
+        i += 1;
+    }
+    records
+}
+
+// Inserts the records in the first m words.
+fn insert_first_several(
+    words: &mut [u16],
+    list: u16,
+    position: u16,
+    start: u16,
+    records: &[u16],
+    m: usize,
+    allowance: u16,
+) -> Answer
+    requires { ⌜ m ≤ length (now records) ⌝ }
+{
+    axle_store::insert_several(words, list, position, start, &records[..m], allowance)
+}
+
+// Operation 12.
+fn insert_several(words: &mut [u16], entry: &[u8]) {
+    let list = word(entry, 1);
+    let position = word(entry, 2);
+    let start = word(entry, 3);
+    let m = word(entry, 4) as usize;
+    if 32100 < m {
+        return;
+    }
+    let allowance = word(entry, 6 + word(entry, 5) as usize);
+    printing::text(b"insert_several");
+    printing::spaced(list);
+    printing::spaced(position);
+    printing::spaced(start);
+    printing::spaced(word(entry, 4));
+    printing::spaced(allowance);
+    let records = records_of(entry);
+    let answer = insert_first_several(words, list, position, start, &records, m, allowance);
+    print_answer(answer, words);
+}
+
 // The number of words of an insert's entry whose record has m words, 0 if that is too many.
 fn insert_words(m: u16) -> usize {
     if 64 < m { 0 } else { 6 + m as usize }
+}
+
+// The number of words of the entry of several records that have m words in all, n of them given: 0 if m is too many or n is 0.
+fn several_words(m: u16, n: u16) -> usize {
+    if 32100 < m || n == 0 {
+        0
+    } else {
+        7 + n as usize
+    }
 }
 
 // The number of words of the entry that the script begins with, 0 for an unknown operation.
@@ -439,6 +511,7 @@ fn entry_words(script: &[u8]) -> usize {
         8 => insert_words(word(script, 4)),
         9 => 4,
         11 => 8 + word(script, 7) as usize,
+        12 => several_words(word(script, 4), word(script, 5)),
         _ => 0,
     }
 }
@@ -469,6 +542,7 @@ fn perform(entry: &[u8], words: &mut [u16]) {
         9 => delete(words, word(entry, 1), word(entry, 2), word(entry, 3)),
         10 => recover(words, word(entry, 1)),
         11 => courses(words, entry),
+        12 => insert_several(words, entry),
         _ => {}
     }
 }

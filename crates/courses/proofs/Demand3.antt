@@ -2,6 +2,7 @@
 use Prim.Native.Nat.{ℕ, _≤_}
 use mathlib.Core.Path.{_≡_, refl, ap, _∙_, sym, subst}
 use mathlib.Core.List.{List, [], _∷_, _++_}
+use native.Mathlib.Omega.{arith}
 use lib.Seq.{take-nil}
 use Rattle.stores.specs.Stores.{Write, Plan, refuse, stores, run, applied, answerOf, wordsAfter}
 use Rattle.layout.specs.Words.{layoutOf}
@@ -9,9 +10,10 @@ use Rattle.lists.specs.Lists.{Sound}
 use Rattle.recovery.specs.Plan.{recoverPlan}
 use Rattle.courses.specs.Course.{named, editPlan, allStores, needed, due, alteredBelow, wordsThrough}
 use Rattle.courses.specs.Demand3.{Course, Demand3}
-use Rattle.courses.specs.Left.{Left, nothing, inserts, deletes, LeftDemand3}
+use Rattle.courses.specs.Left.{Left, nothing, inserts, insertsAll, deletes, LeftDemand3}
 use Rattle.courses.proofs.Cut.{Cut, none-cut}
 use Rattle.courses.proofs.CutInsert.{insert-cut}
+use Rattle.courses.proofs.CutSeveral.{chain-cut}
 use Rattle.courses.proofs.CutDelete.{delete-cut}
 use Rattle.courses.proofs.Calls.{call-left}
 use Rattle.courses.proofs.Course.{cut-course}
@@ -35,6 +37,8 @@ left-cut w s k d ps (nothing _) m = (
       (none-cut (layoutOf w) w (s .lists) k)),
 )
 left-cut w s k d ps (inserts hk p hp i hi free words size) m = insert-cut (layoutOf w) w (s .exact) (s .lists) k hk p hp i hi free words size m
+left-cut w s k d ps (insertsAll hk p hp cells free words size) m =
+    chain-cut (layoutOf w) w (s .exact) (s .lists) k hk p hp cells free words (omega (arith, size)) m
 left-cut w s k d ps (deletes hk p hp) m = delete-cut (layoutOf w) w (s .exact) (s .lists) k hk p hp m
 
 pub left-demand3 : LeftDemand3

@@ -3,6 +3,7 @@ pub mod Other
 pub mod Own
 pub mod Cut
 pub mod CutInsert
+pub mod CutSeveral
 pub mod CutDelete
 pub mod Calls
 pub mod Found

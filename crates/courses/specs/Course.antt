@@ -1,5 +1,6 @@
--- The words in which demand 3 (Demand3.antt) speaks of a whole course of calls: one insert or delete, altered words, and recoveries.
-use Prim.Native.Nat.{ℕ, zero, suc, _+_, _<_}
+-- The words in which demand 3 (Demand3.antt) speaks of a whole course of calls: one insert or delete, altered words, and recoveries. "Demand 3 covers
+-- [an insert of several records] too."
+use Prim.Native.Nat.{ℕ, zero, suc, _+_, _*_, _/_, _<_, min}
 use mathlib.Core.Path.{_≡_}
 use mathlib.Core.List.{List, [], _∷_, _++_}
 use mathlib.Core.Bool.{cond}
@@ -14,20 +15,23 @@ use Rattle.layout.specs.declared.Layout.{Layout}
 use Rattle.layout.specs.Words.{headerWords, linkWords, tailWords, cellAt, layoutOf}
 use Rattle.edits.specs.Edits.{insertCentral, deleteCentral}
 use Rattle.recovery.specs.Plan.{recoverPlan}
-use Rattle.axle_store.specs.Calls.{insertPlan, deletePlan}
+use Rattle.axle_store.specs.Calls.{insertPlan, severalPlan, deletePlan}
 
--- insert with a list, a position, a starting cell and a record; delete with a list and a position
+-- insert with a list, a position, a starting cell and a record, or the words of several; delete with a list and a position
 pub data Edit : Type 0 where
   insert : ℕ → ℕ → ℕ → List ℕ → Edit
+  several : ℕ → ℕ → ℕ → List ℕ → Edit
   delete : ℕ → ℕ → Edit
 
 -- the list it names
 abbrev pub named : Edit → ℕ
 named (insert k p c words) = k
+named (several k p c words) = k
 named (delete k p) = k
 
 abbrev pub editPlan : List ℕ → Edit → Plan
 editPlan w (insert k p c words) = insertPlan w k p c words
+editPlan w (several k p c words) = severalPlan w k p c words
 editPlan w (delete k p) = deletePlan w k p
 
 -- all stores of a plan, and how many they are
@@ -42,14 +46,21 @@ needed p = length (allStores p)
 abbrev pub dueOf : ℕ → ℕ → ℕ → ℕ
 dueOf central all m = cond (ltb m central) 0 all
 
--- Insert has "P + 6 stores. The central one is .. number P + 5." "Delete stores four words", of which the second is.
+-- "wherever it is cut, its list has at the end the words left by inserting exactly the records whose central store was made": of r
+-- records with n stores each, of which the last but one is central, those of the first (m + 1) / n are due
+abbrev pub dueOfSeveral : ℕ → ℕ → ℕ → ℕ
+dueOfSeveral n r m = n * min r ((m + 1) / n)
+
+-- Insert has "P + 6 stores. The central one is .. number P + 5.", for each of several records too. "Delete stores four words", of which the
+-- second is.
 abbrev pub due : Layout → Edit → ℕ → ℕ
 due l (insert k p c words) = dueOf (insertCentral l) (tailWords l + 6)
+due l (several k p c words) = dueOfSeveral (tailWords l + 6) (length words / l .width)
 due l (delete k p) = dueOf deleteCentral 4
 
 -- "Its old words are those in the sound store, its new words those with every store of the insert or delete made. In the final
 -- store the list named by the call has its old words if the call was refused or its allowance is below the central store's number,
--- else its new words."
+-- else its new words." Of several records, the words with the stores that are due.
 abbrev pub dueWords : List ℕ → Edit → ℕ → List ℕ
 dueWords w e m = applied (allStores (editPlan w e)) (due (layoutOf w) e m) w
 

@@ -1,5 +1,5 @@
 -- Demand 3 without the calls: of stores that an insert or a delete may have left behind, whoever planned them.
-use Prim.Native.Nat.{ℕ, _+_, _<_, _≤_}
+use Prim.Native.Nat.{ℕ, _+_, _*_, _<_, _≤_}
 use mathlib.Core.Path.{_≡_}
 use mathlib.Core.List.{List, [], _∷_, _++_}
 use lib.ListN.{length, getD}
@@ -7,9 +7,10 @@ use Rattle.stores.specs.Stores.{Write, applied, answerOf}
 use Rattle.layout.specs.Words.{tailWords, Node, identAt, layoutOf}
 use Rattle.lists.specs.Lists.{Sound}
 use Rattle.requests.specs.declared.Site.{Site}
-use Rattle.edits.specs.Edits.{insertWrites, deleteWrites, insertCentral, deleteCentral}
+use Rattle.edits.specs.Edits.{insertWrites, chainAt, deleteWrites, insertCentral, deleteCentral}
+use Rattle.edits.specs.Edited.{FreeNodes}
 use Rattle.recovery.specs.Plan.{recoverPlan}
-use Rattle.courses.specs.Course.{needed, dueOf, Alteration, AllowedBut, alteredBelow, wordsThrough}
+use Rattle.courses.specs.Course.{needed, dueOf, dueOfSeveral, Alteration, AllowedBut, alteredBelow, wordsThrough}
 use Rattle.courses.specs.Demand3.{Course}
 
 -- position p of list k with the sequence s: the gap there, for cell i, and the member there
@@ -27,6 +28,10 @@ pub data Left (w : List ℕ) (s : Sound w) (k : ℕ) : (ℕ → ℕ) → List Wr
   inserts : k < layoutOf w .lists → (p : ℕ) → p ≤ length (s .lists .sequence k) → (i : ℕ) → Node (layoutOf w) i
       → getD w (identAt (layoutOf w) i) 0 ≡ 0 → (words : List ℕ) → length words ≡ tailWords (layoutOf w)
       → Left w s k (dueOf (insertCentral (layoutOf w)) (tailWords (layoutOf w) + 6)) (insertWrites (layoutOf w) k (gapOf k (s .lists .sequence k) p i) words)
+  -- an insert of several records from any position of the list on, in any nodes that are free
+  insertsAll : k < layoutOf w .lists → (p : ℕ) → p ≤ length (s .lists .sequence k) → (cells : List ℕ) → FreeNodes (layoutOf w) w cells
+      → (words : List ℕ) → length words ≡ length cells * layoutOf w .width
+      → Left w s k (dueOfSeveral (tailWords (layoutOf w) + 6) (length cells)) (chainAt (layoutOf w) k p (s .lists .sequence k) cells words)
   -- a delete at any position of the list
   deletes : k < layoutOf w .lists → (p : ℕ) → p < length (s .lists .sequence k)
       → Left w s k (dueOf deleteCentral 4) (deleteWrites (layoutOf w) k (memberOf k (s .lists .sequence k) p))

@@ -1,11 +1,11 @@
 -- Demand 1: a refused call gives the number of one of its questions and leaves the words; a store goes to words of the store only.
-use Prim.Native.Nat.{ℕ, zero, suc, _<_, _≤_}
+use Prim.Native.Nat.{ℕ, zero, suc, _/_, _%_, _<_, _≤_}
 use mathlib.Core.Path.{_≡_, refl, sym, _∙_, ap, subst}
 use mathlib.Core.List.{List, [], _∷_, _++_, List·Memᴰ·head, List·Memᴰ·tail, Memᴰ·append-left, Memᴰ·append-right}
-use mathlib.Core.Bool.{Bool, true, false, cond}
+use mathlib.Core.Bool.{Bool, true, false, cond, _&&_}
 use native.Mathlib.Omega.{arith}
 use lib.Dec.{eqb, leb, ltb}
-use lib.ListN.{length, getD, take, drop, length-drop}
+use lib.ListN.{length, take, drop, length-drop}
 use lib.Seq.{length-take-le}
 use borrow.Author.Tests.{eqb-true, eqb-false}
 use Rattle.sequences.specs.Sequence.{_∈_, All}
@@ -25,13 +25,14 @@ use Rattle.requests.specs.declared.Site.{Site}
 use Rattle.requests.specs.declared.Sited.{Sited}
 use Rattle.requests.specs.declared.Sited.the-variants as S
 use Rattle.requests.specs.declared.Request.{Request}
-use Rattle.requests.specs.declared.Request.the-variants.{Check, Whole, Member, Gap}
+use Rattle.requests.specs.declared.Request.the-variants.{Check, Whole, Member, Gap, Gaps}
 use Rattle.requests.specs.declared.Looked.{Looked}
 use Rattle.requests.specs.declared.Looked.the-variants as K
-use Rattle.requests.specs.Requests.{around, firstFree, withFree, memberAt, gapAt, siteIn, siteOf, withSite, lookOf, withLook}
-use Rattle.edits.specs.Edits.{insertWrites, deleteWrites}
+use Rattle.requests.specs.Requests.{around, firstFree, withFree, freeCells, memberAt, gapAt, gapsAt, siteIn, siteOf, withSite, lookOf, withLook}
+use Rattle.edits.specs.Edits.{insertWrites, chain, deleteWrites}
 use Rattle.edits.proofs.Inside.{insert-inside, delete-inside}
 use Rattle.edits.proofs.Done.{looked}
+use Rattle.edits.proofs.Gaps.{freeFrom, gaps-looked, gaps-chain, gaps-inside}
 use Rattle.recovery.specs.Fits.{Fit, none, only, several, fitOf}
 use Rattle.recovery.specs.Plan.{recoverStores, fittingOf, fitNumber, refusalFrom, recoverOf, recoverPlan}
 use Rattle.recovery.proofs.Whole.{number-accepted, stores-inside}
@@ -40,7 +41,7 @@ use Rattle.axle_store.specs.declared.Formatted.the-variants as F
 use Rattle.axle_store.specs.declared.Checked.the-variants as C
 use Rattle.axle_store.specs.declared.Counted.the-variants as L
 use Rattle.axle_store.specs.Answers.{formattedWords}
-use Rattle.axle_store.specs.Calls.{formatAnswer, formatWords, checkAnswer, lengthAnswer, readNumber, readWords, readStart, insertPlan, deletePlan}
+use Rattle.axle_store.specs.Calls.{formatAnswer, formatWords, checkAnswer, lengthAnswer, readNumber, readWords, readStart, insertPlan, severalPlan, deletePlan}
 use Rattle.axle_store.proofs.Sites.{member-placed, gap-placed, record-fits}
 use Rattle.demands.specs.Demand1.{Refuses, Reads, Demand1}
 
@@ -71,9 +72,15 @@ ownNumbers Check = 6 ∷ []
 ownNumbers (Whole k) = 5 ∷ 6 ∷ []
 ownNumbers (Member k p) = 5 ∷ 6 ∷ 7 ∷ []
 ownNumbers (Gap k p c m) = 5 ∷ 6 ∷ 7 ∷ 8 ∷ 9 ∷ 10 ∷ []
+ownNumbers (Gaps k p c m) = 5 ∷ 6 ∷ 7 ∷ 8 ∷ 9 ∷ 10 ∷ []
+
+-- the search for a free cell refuses, or finds one
+searched : (P : Sited → Type 0) (x : Free) {r : Sited} {at : ℕ → Sited} → P r → ((i : ℕ) → P (at i)) → P (withFree x r at)
+searched P Full h rest = h
+searched P (Cell i) h rest = rest i
 
 siting : (l : Layout) (w : List ℕ) (q : Request) (P : Sited → Type 0) → All (λ n. P (S.Refused n)) (ownNumbers q) → ((t : Site) → P (S.At t)) → P (siteOf l w q)
-unfolding siteIn memberAt gapAt
+unfolding siteIn memberAt gapAt gapsAt
 siting l w Check P h rest = asked P (soundOf l w) (h .0) (rest _)
 siting l w (Whole k) P h rest = asked P (ltb k (l .lists)) (h .0) (asked P (soundOf l w) (h .1 .0) (rest _))
 siting l w (Member k p) P h rest =
@@ -87,11 +94,15 @@ siting l w (Gap k p c m) P h rest =
     (asked P (leb p (length (sequenceOf l w k))) (h .1 .1 .0)
     (asked P (isNode l c) (h .1 .1 .1 .0)
     (asked P (eqb m (l .width)) (h .1 .1 .1 .1 .0)
-    (free (firstFree (viewOf l w .ident) (around l c (l .nodes))))))))
-  where
-    free : (x : Free) → P (withFree x (S.Refused 10) (λ i. S.At (record { before = getD (k ∷ sequenceOf l w k) p 0; cell = i; after = getD (sequenceOf l w k ++ k ∷ []) p 0; count = length (sequenceOf l w k) })))
-    free Full = h .1 .1 .1 .1 .1 .0
-    free (Cell i) = rest _
+    (searched P (firstFree (viewOf l w .ident) (around l c (l .nodes))) (h .1 .1 .1 .1 .1 .0) (λ i. rest _))))))
+siting l w (Gaps k p c m) P h rest =
+    asked P (ltb k (l .lists)) (h .0)
+    (asked P (soundOf l w) (h .1 .0)
+    (asked P (leb p (length (sequenceOf l w k))) (h .1 .1 .0)
+    (asked P (isNode l c) (h .1 .1 .1 .0)
+    (asked P (ltb 0 m && eqb (m % l .width) 0) (h .1 .1 .1 .1 .0)
+    (asked P (leb (m / l .width) (length (freeCells (viewOf l w .ident) (around l c (l .nodes))))) (h .1 .1 .1 .1 .1 .0)
+    (searched P (firstFree (viewOf l w .ident) (around l c (l .nodes))) (h .1 .1 .1 .1 .1 .0) (λ i. rest _)))))))
 
 -- and of all of them
 abbrev numbersOf : Request → List ℕ
@@ -223,6 +234,23 @@ inserts w k p c words =
     let a = gap-placed w k p l t c (length words) e in
     stored (numbersOf q) w (insertWrites l k t words) (rw (a .2) (insert-inside (a .0) words (a .1))))
 
+severals : (w : List ℕ) (k p c : ℕ) (words : List ℕ) → Refuses (numbersOf (Gaps k p c (length words))) (severalPlan w k p c words) w
+unfolding severalPlan
+severals w k p c words =
+    let q = Gaps k p c (length words) in
+    looking w q
+    (λ x.
+    Refuses (numbersOf q)
+    (withLook x refuse
+    (λ l t. stores (chain l k (t .before) (t .after) (t .count) (freeFrom l w c (length words / l .width)) words))) w)
+    (refused (numbersOf q) w)
+    (λ l t e.
+    let a = looked w q l t e in
+    let o = opened-open w l (a .0) in
+    let s = gaps-looked l w k p c (length words) t (a .1) .lists in
+    stored (numbersOf q) w (chain l k (t .before) (t .after) (t .count) (freeFrom l w c (length words / l .width)) words)
+    (rw (o .3, gaps-chain l w s k p c (length words) t (a .1) words) (gaps-inside l w s k p c (length words) t (a .1) (o .2) words refl)))
+
 deletes : (w : List ℕ) (k p : ℕ) → Refuses (numbersOf (Member k p)) (deletePlan w k p) w
 unfolding deletePlan
 deletes w k p =
@@ -269,6 +297,7 @@ demand1 =
       lengths = lengths;
       reads = reads;
       inserts = inserts;
+      severals = severals;
       deletes = deletes;
       recovers = recovers;
     }

@@ -1,19 +1,20 @@
 -- Demand 2: on a sound store length, read, insert and delete answer, plan and leave what plain sequences would.
-use Prim.Native.Nat.{ℕ, _+_, _<_, _≤_}
+use Prim.Native.Nat.{ℕ, _+_, _*_, _/_, _%_, _<_, _≤_}
 use mathlib.Core.Path.{_≡_, refl, ap, ap₂, _∙_, sym, subst}
 use mathlib.Core.List.{List, [], _∷_, _++_, map, List·Memᴰ·tail}
 use mathlib.Core.Bool.{Bool, true, false, cond}
 use native.Mathlib.Omega.{arith}
+use native.Mathlib.Nat.{zero-mul, mul-div-left, mul-mod-left}
 use lib.Dec.{eqb, ltb}
-use lib.ListN.{length, getD, length-append}
+use lib.ListN.{length, getD, drop, take-append-drop}
 use borrow.Author.Tests.{ltb-true, ltb-false, eqb-true, eqb-false, lt-ltb, le-leb, eq-eqb}
 use Rattle.sequences.specs.Sequence.{_∈_}
 use Rattle.sequences.proofs.Members.{all-in, at-in}
 use Rattle.stores.specs.declared.Answer.the-variants as A
-use Rattle.stores.specs.Stores.{Write, stores, run, applied, inRow, answerOf}
-use Rattle.stores.proofs.Laws.{applied-all, length-row}
+use Rattle.stores.specs.Stores.{Write, stores, run, applied, answerOf}
+use Rattle.stores.proofs.Laws.{applied-all}
 use Rattle.layout.specs.declared.Layout.{Layout}
-use Rattle.layout.specs.Words.{tailWords, Node, ask, recordAt, inRange, sizeOf, layoutOf}
+use Rattle.layout.specs.Words.{tailWords, Node, ask, inRange, sizeOf, layoutOf}
 use Rattle.layout.proofs.Laws.{node-is, in-range}
 use Rattle.lists.specs.Lists.{Sound}
 use Rattle.lists.specs.Decide.{viewOf, sequenceOf}
@@ -25,24 +26,28 @@ use Rattle.requests.specs.declared.Site.{Site}
 use Rattle.requests.specs.declared.Sited.{Sited}
 use Rattle.requests.specs.declared.Sited.the-variants.{At, Refused}
 use Rattle.requests.specs.declared.Request.{Request}
-use Rattle.requests.specs.declared.Request.the-variants.{Member, Gap}
-use Rattle.requests.specs.Requests.{around, firstFree, memberAt, gapAt, siteIn, siteOf, lookOf}
+use Rattle.requests.specs.declared.Request.the-variants.{Member, Gap, Gaps}
+use Rattle.requests.specs.Requests.{around, firstFree, freeCells, memberAt, gapAt, gapsAt, siteIn, siteOf, lookOf}
 use Rattle.requests.proofs.Laws.{look-refused, look-at}
-use Rattle.edits.specs.Edits.{insertLinks, insertWrites, deleteWrites}
-use Rattle.edits.specs.Edited.{insertAt, deleteAt, replaced, recordIn, Edited}
+use Rattle.requests.proofs.Turn.{around-all, free-taken}
+use Rattle.edits.specs.Edits.{insertWrites, chainAt, deleteWrites}
+use Rattle.edits.specs.Edited.{insertAt, spliceAt, deleteAt, replaced, FreeNodes, recordIn, recordsOf, Edited}
 use Rattle.edits.proofs.Writes.{record-same}
 use Rattle.edits.proofs.Edited.{replaced-own, replaced-other}
-use Rattle.edits.proofs.Free.{around-all, none-free}
+use Rattle.edits.proofs.Free.{none-free}
 use Rattle.edits.proofs.Done.{gap-facts, member-facts, insert-done, delete-done, insert-full}
+use Rattle.edits.proofs.Several.{insert-length, chain-length, several-inserted}
+use Rattle.edits.proofs.Gaps.{freeFrom, gaps-looked, free-most, gaps-full, gaps-position, gaps-cells, gaps-number, gaps-words, gaps-chain}
 use Rattle.axle_store.specs.declared.Formatted.the-variants as F
 use Rattle.axle_store.specs.declared.Counted.the-variants as L
 use Rattle.axle_store.specs.Answers.{formattedNumber}
-use Rattle.axle_store.specs.Calls.{formatAnswer, formatWords, lengthAnswer, readNumber, readWords, insertPlan, deletePlan}
-use Rattle.axle_store.proofs.Cases.{format-range, format-exact, format-done, insert-refused, insert-at, delete-refused, delete-at}
+use Rattle.axle_store.specs.Calls.{formatAnswer, formatWords, lengthAnswer, readNumber, readWords, insertPlan, severalPlan, deletePlan}
+use Rattle.axle_store.proofs.Cases.{format-range, format-exact, format-done, insert-refused, insert-at, several-refused, several-at, delete-refused, delete-at}
 use Rattle.axle_store.proofs.Calls.{check-decides, sound-opened, sound-decided, sound-length}
-use Rattle.demands.specs.Demand2.{recordsIn, Leaves, FreeNode, Inserts, Deletes, Demand2}
+use Rattle.demands.specs.Demand2.{recordsIn, Leaves, FreeNode, Inserts, OneByOne, Severals, Deletes, Demand2}
 use Rattle.demands.proofs.Uninterpreted.{uninterpreted}
-use Rattle.demands.proofs.Plain.{map-insert, map-delete, map-at, map-behind, map-same}
+use Rattle.demands.proofs.OneByOne.{one-by-one}
+use Rattle.demands.proofs.Plain.{map-insert, map-splice, map-delete, map-at, map-behind, map-same}
 
 -- format, done: not refused with 3 or 4
 formats : (l : Layout) (w : List ℕ) → formatAnswer l w ≡ F.Done
@@ -130,11 +135,6 @@ stores-done ps m n w = by (ltb m (length ps)) refl
     by true q e = let z : _≡_ {A = ℕ} 0 1 = cc in absurd (omega arith)
     by false q e = (cc, applied-all ps m w (ltb-false _ _ q))
 
-insert-stores : (l : Layout) (k : ℕ) (t : Site) (words : List ℕ) → length words ≡ tailWords l → length (insertWrites l k t words) ≡ tailWords l + 6
-unfolding insertWrites insertLinks
-insert-stores l k t words e =
-    omega (arith, length-append (inRow (recordAt l (t .cell)) words) (insertLinks l k t), length-row (recordAt l (t .cell)) words)
-
 delete-stores : (l : Layout) (k : ℕ) (t : Site) → length (deleteWrites l k t) ≡ 4
 unfolding deleteWrites
 delete-stores l k t = refl
@@ -197,7 +197,99 @@ module _ (w : List ℕ) (s : Sound w) (k p : ℕ) where
               done =
                   λ m n z.
                   let d = stores-done (insertWrites its k t words) m n w z in
-                  (d .0 ∙ insert-stores its k t words (f .size), (t .cell, f .first, rw (d .1) (leaves w s k (f .list) (i .edited) same)));
+                  (d .0 ∙ insert-length its k t words ∙ ap (λ (x : ℕ). x + 6) (f .size), (t .cell, f .first, rw (d .1) (leaves w s k (f .list) (i .edited) same)));
+            })
+
+    -- several records, in the same way
+    abbrev gaps : Request
+    gaps = Gaps k p c (length words)
+
+    abbrev free : List ℕ
+    free = freeCells (viewOf its w .ident) (around its c (its .nodes))
+
+    several-site : k < its .lists → p ≤ length cells → Node its c → 0 < length words → (nodes : List ℕ) → FreeNodes its w nodes
+        → length words ≡ length nodes * its .width → (t : Site) × (siteOf its w gaps ≡ At t)
+    unfolding siteIn gapsAt
+    several-site hk hp hc some nodes f size = by (firstFree (viewOf its w .ident) (around its c (its .nodes))) refl
+      where
+        most : length nodes ≤ length free
+        most = free-most its w c hc nodes f
+
+        number : length words / its .width ≡ length nodes
+        number = ap (λ (n : ℕ). n / its .width) size ∙ mul-div-left (length nodes) (s .inRange .someWidth)
+
+        whole : length words % its .width ≡ 0
+        whole = ap (λ (n : ℕ). n % its .width) size ∙ mul-mod-left (length nodes) (its .width)
+
+        enough : length words / its .width ≤ length free
+        enough = omega (arith, number, most)
+
+        by : (x : Free) → firstFree (viewOf its w .ident) (around its c (its .nodes)) ≡ x → (t : Site) × (siteOf its w gaps ≡ At t)
+        by Full e =
+            let z : length nodes ≡ 0 = omega (arith, most, ap length (free-taken (viewOf its w .ident) (around its c (its .nodes)) (none-free _ _ e))) in
+            absurd (omega (arith, size, ap (λ (n : ℕ). n * its .width) z, zero-mul (its .width)))
+        by (Cell x) e = (
+          record { before = getD (k ∷ cells) p 0; cell = x; after = getD (cells ++ k ∷ []) p 0; count = length cells },
+          rw (
+            lt-ltb _ _ hk,
+            sound-decided w s,
+            members-are w s k hk,
+            le-leb _ _ hp,
+            node-is its c hc,
+            lt-ltb _ _ some,
+            eq-eqb _ _ whole,
+            le-leb _ _ enough,
+            e,
+          ),
+        )
+
+    severals : Severals w s k p c words (severalPlan w k p c words)
+    severals = by (siteOf its w gaps) refl
+      where
+        by : (x : Sited) → siteOf its w gaps ≡ x → Severals w s k p c words (severalPlan w k p c words)
+        by (Refused n) e =
+            rw (several-refused w k p c words (sym (look-refused w gaps (sound-opened w s) e)))
+            (record {
+              accepted = λ hk hp hc some nodes f size. absurd (refused-at (sym e ∙ several-site hk hp hc some nodes f size .1));
+              full = λ z nodes f. omega (arith, gaps-full its w (s .inRange .someWidth) k p c (length words) (e ∙ cc z) nodes f);
+              done = λ m i z. absurd (refused-done z);
+              single = λ ps z r size. let y : _≡_ {A = ℕ} 0 1 = cc in absurd (omega arith);
+            })
+        by (At t) e =
+            let m = length words in
+            let look = sym (look-at w gaps (sound-opened w s) e) in
+            let g = gaps-looked its w k p c m t e in
+            let used = freeFrom its w c (m / its .width) in
+            let ps = chainAt its k p cells used words in
+            let number = gaps-number its w (s .lists) k p c m t e in
+            let size = gaps-words its w (s .lists) k p c m t e in
+            let hp = gaps-position its w (s .lists) k p c m t e in
+            let i = several-inserted w s k (g .list) p hp used (gaps-cells its w (s .lists) k p c m t e) words (omega (arith, size)) in
+            let same =
+            map-splice (recordIn its (run ps w)) p used cells
+            ∙ ap₂ (spliceAt p) (i .given ∙ ap (λ (n : ℕ). recordsOf n (its .width) words) number) (map-same _ _ cells (i .edited .records)) in
+            rw (several-at w k p c words look, gaps-chain its w (s .lists) k p c m t e words)
+            (record {
+              accepted = λ hk hp hc some nodes f size. (ps, refl);
+              full = λ y nodes f. let z : _≡_ {A = ℕ} 0 1 = cc in absurd (omega arith);
+              done =
+                  λ a n z.
+                  let d = stores-done ps a n w z in (
+                    m / its .width,
+                    g .facts .whole,
+                    d .0
+                        ∙ chain-length its k (getD (k ∷ cells) p 0) (getD (cells ++ k ∷ []) p 0) (length cells) used words (omega (arith, size))
+                        ∙ ap (λ (x : ℕ). x * (tailWords its + 6)) number,
+                    rw (d .1) (leaves w s k (g .list) (i .edited) same),
+                  );
+              single =
+                  λ qs z r q.
+                  let x : ps ≡ qs = cc z in
+                  let y : length used ≡ r = number ∙ ap (λ (n : ℕ). n / its .width) q ∙ mul-div-left r (s .inRange .someWidth) in
+                  subst (OneByOne k p c (recordsOf r (its .width) words) w) x
+                  (subst (λ (n : ℕ). OneByOne k p c (recordsOf n (its .width) words) w ps) y
+                  (one-by-one its w (sound-opened w s) (s .exact) (s .lists) k (g .list) p hp c (g .facts .start) used (drop (m / its .width) free) words
+                  (sym (take-append-drop (m / its .width) free)) (omega (arith, size))));
             })
 
   -- delete, in the same way
@@ -247,6 +339,7 @@ demand2 =
       lengths = lengths;
       reads = reads;
       inserts = inserts;
+      severals = severals;
       deletes = deletes;
       uninterpreted = uninterpreted;
     }

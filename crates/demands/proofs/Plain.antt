@@ -1,11 +1,11 @@
--- Laws of plain sequences: a map goes through insertAt, deleteAt and positions.
+-- Laws of plain sequences: a map goes through insertAt, spliceAt, deleteAt and positions.
 use Prim.Native.Nat.{ℕ, zero, suc, _+_, _<_, _≤_}
 use mathlib.Core.Path.{_≡_, refl, ap, ap₂, _∙_}
 use mathlib.Core.List.{List, [], _∷_, _++_, map, map-append, List·Memᴰ·head, List·Memᴰ·tail}
 use native.Mathlib.Omega.{arith}
 use lib.ListN.{length, getD, take, drop, length-map, List·getD-eq-default}
 use Rattle.sequences.specs.Sequence.{_∈_}
-use Rattle.edits.specs.Edited.{insertAt, deleteAt}
+use Rattle.edits.specs.Edited.{insertAt, spliceAt, deleteAt}
 
 module _ {ℓ ℓ′} {A : Type ℓ} {B : Type ℓ′} (f : A → B) where
   map-take : (n : ℕ) (s : List A) → map f (take n s) ≡ take n (map f s)
@@ -21,6 +21,11 @@ module _ {ℓ ℓ′} {A : Type ℓ} {B : Type ℓ′} (f : A → B) where
   pub map-insert : (p : ℕ) (x : A) (s : List A) → map f (insertAt p x s) ≡ insertAt p (f x) (map f s)
   map-insert p x s =
       map-append f (take p s) (x ∷ drop p s) ∙ ap₂ (λ (a b : List B). a ++ f x ∷ b) (map-take p s) (map-drop p s)
+
+  pub map-splice : (p : ℕ) (xs s : List A) → map f (spliceAt p xs s) ≡ spliceAt p (map f xs) (map f s)
+  map-splice p xs s =
+      map-append f (take p s) (xs ++ drop p s)
+      ∙ ap₂ (λ (a b : List B). a ++ b) (map-take p s) (map-append f xs (drop p s) ∙ ap (λ (b : List B). map f xs ++ b) (map-drop p s))
 
   pub map-delete : (p : ℕ) (s : List A) → map f (deleteAt p s) ≡ deleteAt p (map f s)
   map-delete p s =

@@ -1,12 +1,14 @@
 -- Nothing interprets a record: no question, answer or store depends on a word of one.
-use Prim.Native.Nat.{ℕ, zero, suc, _+_, _≤_, _<_}
+use Prim.Native.Nat.{ℕ, zero, suc, _+_, _*_, _/_, _≤_, _<_}
 use mathlib.Core.Path.{_≡_, refl, ap, _∙_, sym, subst, fun-ext}
-use mathlib.Core.List.{List, reverse, List·Memᴰ, List·Memᴰ·append-cases}
+use mathlib.Core.List.{List, [], _∷_, reverse, append-nil, List·Memᴰ, List·Memᴰ·append-cases}
 use mathlib.Core.Logic.{⊎-elim}
 use native.Mathlib.Omega.{arith}
+use native.Mathlib.Nat.{zero-mul, one-mul, suc-mul}
 use lib.Dec.{eqb, leb}
-use lib.ListN.{length, getD}
-use Rattle.sequences.specs.Sequence.{trail}
+use lib.ListN.{length, getD, take, drop, length-drop}
+use lib.Seq.{take-all}
+use Rattle.sequences.specs.Sequence.{All, trail}
 use Rattle.stores.specs.Stores.{Write, refuse, stores}
 use Rattle.layout.specs.declared.Layout.{Layout}
 use Rattle.layout.specs.declared.Opened.{Opened}
@@ -17,26 +19,28 @@ use Rattle.layout.proofs.Apart.{words-apart, words-header, words-node, links-wo
 use Rattle.lists.specs.Lists.{asked}
 use Rattle.lists.specs.Decide.{View, viewOf, countIn, sequenceIn, sequenceOf}
 use Rattle.lists.proofs.Same.{ident-word, count-word, same-opened}
+use Rattle.requests.specs.declared.Site.{Site}
 use Rattle.requests.specs.declared.Sited.{Sited}
 use Rattle.requests.specs.declared.Request.{Request}
-use Rattle.requests.specs.declared.Request.the-variants.{Check, Whole, Member, Gap}
+use Rattle.requests.specs.declared.Request.the-variants.{Check, Whole, Member, Gap, Gaps}
 use Rattle.requests.specs.declared.Looked.{Looked}
 use Rattle.requests.specs.declared.Looked.the-variants as K
-use Rattle.requests.specs.Requests.{siteIn, siteOf, withSite, lookOf}
+use Rattle.requests.specs.Requests.{around, freeCells, siteIn, siteOf, withSite, lookOf}
 use Rattle.requests.proofs.Laws.{site-same}
-use Rattle.edits.specs.Edits.{insertLinks, insertWrites}
+use Rattle.edits.specs.Edits.{insertLinks, insertWrites, chain}
 use Rattle.edits.proofs.Writes.{record-word}
 use Rattle.edits.proofs.Done.{looked}
+use Rattle.edits.proofs.Gaps.{freeFrom, gaps-looked, gaps-cells, gaps-words}
 use Rattle.recovery.specs.Fits.{backwardOf, fewWrong, same, fitting, fitOf}
 use Rattle.recovery.specs.Plan.{listsAsked, required, recoverStores, onlyOf, fittingOf, fitNumber, refusalFrom, recoverOf, recoverPlan}
 use Rattle.recovery.proofs.Slots.{Value, ident, forward, back, count, slot}
 use Rattle.recovery.proofs.Required.{wrong-same}
 use Rattle.recovery.proofs.Count.{in-lists, in-clears}
 use Rattle.recovery.proofs.Whole.{plan-same}
-use Rattle.axle_store.specs.Calls.{formatAnswer, checkAnswer, lengthAnswer, readNumber, readStart, insertPlan, deletePlan}
-use Rattle.axle_store.proofs.Cases.{insert-refused, insert-at}
+use Rattle.axle_store.specs.Calls.{formatAnswer, checkAnswer, lengthAnswer, readNumber, readStart, insertPlan, severalPlan, deletePlan}
+use Rattle.axle_store.proofs.Cases.{insert-refused, insert-at, several-refused, several-at}
 use Rattle.axle_store.proofs.Sites.{gap-placed}
-use Rattle.demands.specs.Records.{RecordWord, SameButRecords, SameCalls, SameStores, refused, stored, Uninterpreted}
+use Rattle.demands.specs.Records.{RecordWord, SameButRecords, SameCalls, SameWrites, none, next, SameStores, refused, stored, Uninterpreted}
 
 -- words 0 to 7 are no record words, and of a cell's words only those behind a node's links are
 head-apart : (l : Layout) (a : ℕ) → a < 8 → RecordWord l a → ⊥
@@ -145,6 +149,24 @@ module _ (w w′ : List ℕ) (s : SameButRecords w w′) where
       let number = same-refusal 0 (l .lists) (omega arith) in
       λ i. ask (eqb (number i) 0) (refuse (number i)) (stores (same-stores i))
 
+  -- the same free cells
+  same-several : (k p c : ℕ) (words : List ℕ) → severalPlan w′ k p c words ≡ severalPlan w k p c words
+  same-several k p c words = by (lookOf w q) refl
+    where
+      q : Request
+      q = Gaps k p c (length words)
+
+      by : (x : Looked) → lookOf w q ≡ x → severalPlan w′ k p c words ≡ severalPlan w k p c words
+      by (K.Refused n) e = several-refused w′ k p c words (same-look q ∙ e) ∙ sym (several-refused w k p c words e)
+      by (K.At m t) e =
+          several-at w′ k p c words (same-look q ∙ e)
+          ∙ ap
+          (λ (v : View).
+          stores
+          (chain m k (t .before) (t .after) (t .count) (take (length words / m .width) (freeCells (v .ident) (around m c (m .nodes)))) words))
+          (subst (λ (a : Layout). viewOf a w′ ≡ viewOf a w) (sym (opened-open w m (looked w q m t e .0) .0)) same-view)
+          ∙ sym (several-at w k p c words e)
+
   same-calls : SameCalls w w′
   unfolding formatAnswer checkAnswer lengthAnswer readNumber readStart insertPlan deletePlan recoverPlan
   same-calls =
@@ -156,9 +178,29 @@ module _ (w w′ : List ℕ) (s : SameButRecords w w′) where
         reads = λ k p. rw (same-look (Member k p));
         places = λ k p. rw (same-look (Member k p));
         inserts = λ k p c words. rw (same-look (Gap k p c (length words)));
+        severals = same-several;
         deletes = λ k p. rw (same-look (Member k p));
         recovers = after refuse (λ m. recoverOf m w′) (λ m. recoverOf m w) same-recovery;
       }
+
+-- the stores of several inserts, given words that differ
+chain-alike
+    : (l : Layout) (k a b n : ℕ) (cells words words′ : List ℕ) → All (Node l) cells → length words ≡ length cells * l .width
+    → SameWrites l words words′ (chain l k a b n cells words) (chain l k a b n cells words′)
+unfolding chain insertWrites
+chain-alike l k a b n [] words words′ nodes e = none words words′ (e ∙ zero-mul (l .width))
+chain-alike l k a b n (c ∷ cs) words words′ nodes e =
+    next words words′ (omega (arith, e, suc-mul (length cs) (l .width))) c (nodes .0)
+    (insertLinks l k (record { before = a; cell = c; after = b; count = n })) _ _
+    (chain-alike l k c b (n + 1) cs (drop (l .width) words) (drop (l .width) words′) (nodes .1)
+    (omega (arith, e, suc-mul (length cs) (l .width), length-drop (l .width) words)))
+
+-- those of one insert are those of several with one record
+insert-chain
+    : (l : Layout) (k : ℕ) (t : Site) (words : List ℕ) → length words ≡ l .width
+    → chain l k (t .before) (t .after) (t .count) (t .cell ∷ []) words ≡ insertWrites l k t words
+unfolding chain
+insert-chain l k t words e = append-nil _ ∙ ap (insertWrites l k t) (take-all (l .width) words (omega (arith, e)))
 
 -- an insert looks at the length of what it is given, and no further
 module _ (w : List ℕ) (k p c : ℕ) (words words′ : List ℕ) (e : length words′ ≡ length words) where
@@ -166,15 +208,38 @@ module _ (w : List ℕ) (k p c : ℕ) (words words′ : List ℕ) (e : length wo
   Given l = SameStores l words words′ (insertPlan w k p c words) (insertPlan w k p c words′)
 
   same-given : Given (layoutOf w)
-  unfolding insertWrites
   same-given = by (lookOf w (Gap k p c (length words))) refl (ap (λ (m : ℕ). lookOf w (Gap k p c m)) e)
     where
       by : (o : Looked) → lookOf w (Gap k p c (length words)) ≡ o → lookOf w (Gap k p c (length words′)) ≡ o → Given (layoutOf w)
       by (K.Refused n) q q′ = refused n (insert-refused w k p c words q) (insert-refused w k p c words′ q′)
       by (K.At l t) q q′ =
           let g = gap-placed w k p l t c (length words) q in
+          let size : length words ≡ l .width = g .1 ∙ tail-width l in
           subst Given (opened-open w l (looked w (Gap k p c (length words)) l t q .0) .0)
-          (stored (t .cell) (insertLinks l k t) (g .0 .cell) (g .1 ∙ tail-width l) (insert-at w k p c words q) (insert-at w k p c words′ q′))
+          (stored _ _
+          (chain-alike l k (t .before) (t .after) (t .count) (t .cell ∷ []) words words′ (g .0 .cell, tt) (omega (arith, size, one-mul (l .width))))
+          (insert-at w k p c words q ∙ ap stores (sym (insert-chain l k t words size)))
+          (insert-at w k p c words′ q′ ∙ ap stores (sym (insert-chain l k t words′ (e ∙ size)))))
+
+  abbrev GivenSeveral : Layout → Type 0
+  GivenSeveral l = SameStores l words words′ (severalPlan w k p c words) (severalPlan w k p c words′)
+
+  same-several-given : GivenSeveral (layoutOf w)
+  same-several-given = by (lookOf w (Gaps k p c (length words))) refl (ap (λ (m : ℕ). lookOf w (Gaps k p c m)) e)
+    where
+      by : (o : Looked) → lookOf w (Gaps k p c (length words)) ≡ o → lookOf w (Gaps k p c (length words′)) ≡ o → GivenSeveral (layoutOf w)
+      by (K.Refused n) q q′ = refused n (several-refused w k p c words q) (several-refused w k p c words′ q′)
+      by (K.At l t) q q′ =
+          let a = looked w (Gaps k p c (length words)) l t q in
+          let m = length words in
+          let s = gaps-looked l w k p c m t (a .1) .lists in
+          subst GivenSeveral (opened-open w l (a .0) .0)
+          (stored _ _
+          (chain-alike l k (t .before) (t .after) (t .count) (freeFrom l w c (m / l .width)) words words′
+          (gaps-cells l w s k p c m t (a .1) .nodes) (gaps-words l w s k p c m t (a .1)))
+          (several-at w k p c words q)
+          (several-at w k p c words′ q′
+          ∙ ap (λ (i : ℕ). stores (chain l k (t .before) (t .after) (t .count) (freeFrom l w c (i / l .width)) words′)) e))
 
 pub uninterpreted : Uninterpreted
-uninterpreted = record { calls = same-calls; given = same-given }
+uninterpreted = record { calls = same-calls; given = same-given; givenSeveral = same-several-given }

@@ -3,24 +3,24 @@
 --
 -- The plain sequences are lists of records: `recordsIn w s k` has those of list k of the sound store w, in order. All is said of the
 -- calls: of what they answer, plan and leave.
-use Prim.Native.Nat.{ℕ, _+_, _<_, _≤_}
+use Prim.Native.Nat.{ℕ, _+_, _*_, _<_, _≤_}
 use mathlib.Core.Path.{_≡_}
-use mathlib.Core.List.{List, [], _∷_, map}
+use mathlib.Core.List.{List, [], _∷_, _++_, map}
 use mathlib.Core.Logic.{_↔_}
 use lib.Dec.{ltb}
-use lib.ListN.{length, getD}
+use lib.ListN.{length, getD, take}
 use Rattle.stores.specs.declared.Answer.the-variants as A
-use Rattle.stores.specs.Stores.{Write, Plan, refuse, stores, answerOf, wordsAfter}
+use Rattle.stores.specs.Stores.{Write, Plan, refuse, stores, run, answerOf, wordsAfter}
 use Rattle.layout.specs.declared.Layout.{Layout}
 use Rattle.layout.specs.Words.{tailWords, Node, ask, identAt, layoutOf}
 use Rattle.lists.specs.Lists.{Sound, SameCells}
 use Rattle.lists.specs.Decide.{viewOf}
-use Rattle.requests.specs.Requests.{around}
-use Rattle.edits.specs.Edited.{insertAt, deleteAt, replaced, FirstFree, recordIn}
+use Rattle.requests.specs.Requests.{nextCell, around, freeCells}
+use Rattle.edits.specs.Edited.{insertAt, spliceAt, deleteAt, replaced, FirstFree, FreeNodes, recordIn, recordsOf}
 use Rattle.axle_store.specs.declared.Formatted.the-variants as F
 use Rattle.axle_store.specs.declared.Checked.the-variants as C
 use Rattle.axle_store.specs.declared.Counted.the-variants as L
-use Rattle.axle_store.specs.Calls.{formatAnswer, formatWords, checkAnswer, lengthAnswer, readNumber, readWords, insertPlan, deletePlan}
+use Rattle.axle_store.specs.Calls.{formatAnswer, formatWords, checkAnswer, lengthAnswer, readNumber, readWords, insertPlan, severalPlan, deletePlan}
 use Rattle.demands.specs.Records.{Uninterpreted}
 
 -- the records of list k, in order
@@ -57,6 +57,34 @@ pub record Inserts (w : List ℕ) (s : Sound w) (k p c : ℕ) (words : List ℕ)
       × ((i : ℕ) × FirstFree (viewOf (layoutOf w) w .ident) (around (layoutOf w) c (layoutOf w .nodes)) i
       × Leaves w s k (insertAt p i (s .lists .sequence k)) (insertAt p words (recordsIn w s k)) (wordsAfter plan m w))
 
+-- "inserting them one by one, each next starting cell being the one after the cell just used (cell L after the last)": ps are the stores of
+-- the single inserts of these records into list k of the words w, from position p and starting cell c on; none is refused
+pub data OneByOne (k : ℕ) : (p c : ℕ) (records : List (List ℕ)) (w : List ℕ) (ps : List Write) → Type 0 where
+  none : (p c : ℕ) (w : List ℕ) → OneByOne k p c [] w []
+  next : (p c : ℕ) (r : List ℕ) (records : List (List ℕ)) (w : List ℕ) (ps : List Write) → insertPlan w k p c r ≡ stores ps
+      → (i : ℕ) → FirstFree (viewOf (layoutOf w) w .ident) (around (layoutOf w) c (layoutOf w .nodes)) i
+      → (rest : List Write) → OneByOne k (p + 1) (nextCell (layoutOf w) i) records (run ps w) rest
+      → OneByOne k p c (r ∷ records) w (ps ++ rest)
+
+-- an insert of several records into a sound store, P words each
+pub record Severals (w : List ℕ) (s : Sound w) (k p c : ℕ) (words : List ℕ) (plan : Plan) : Type 0 where
+  -- it is not refused where questions 5 and 7 to 10 are answered yes: "is the record length a positive multiple of P?", "are there enough
+  -- free nodes for all?",
+  pub accepted : k < layoutOf w .lists → p ≤ length (s .lists .sequence k) → Node (layoutOf w) c → 0 < length words
+      → (nodes : List ℕ) → FreeNodes (layoutOf w) w nodes → length words ≡ length nodes * layoutOf w .width
+      → (ps : List Write) × (plan ≡ stores ps)
+  -- and 10 is answered only if free nodes are fewer than records
+  pub full : plan ≡ refuse 10 → (nodes : List ℕ) → FreeNodes (layoutOf w) w nodes → length nodes * layoutOf w .width < length words
+  -- done, it has made P + 6 stores for each record, and the records stand in order from the position on, in the first free cells met
+  pub done : (m n : ℕ) → answerOf plan m ≡ A.Done n
+      → (r : ℕ) × (length words ≡ r * layoutOf w .width) × (n ≡ r * (tailWords (layoutOf w) + 6))
+      × (let cells : List ℕ = take r (freeCells (viewOf (layoutOf w) w .ident) (around (layoutOf w) c (layoutOf w .nodes))) in
+      Leaves w s k (spliceAt p cells (s .lists .sequence k)) (spliceAt p (recordsOf r (layoutOf w .width) words) (recordsIn w s k))
+      (wordsAfter plan m w))
+  -- "equal to inserting them one by one": it makes their stores
+  pub single : (ps : List Write) → plan ≡ stores ps → (r : ℕ) → length words ≡ r * layoutOf w .width
+      → OneByOne k p c (recordsOf r (layoutOf w .width) words) w ps
+
 -- a delete from a sound store
 pub record Deletes (w : List ℕ) (s : Sound w) (k p : ℕ) (plan : Plan) : Type 0 where
   pub accepted : k < layoutOf w .lists → p < length (s .lists .sequence k) → (ps : List Write) × (plan ≡ stores ps)
@@ -78,6 +106,7 @@ pub record Demand2 : Type 0 where
   pub reads : (w : List ℕ) (s : Sound w) (k p : ℕ) → k < layoutOf w .lists
       → (readNumber w k p ≡ ask (ltb p (length (s .lists .sequence k))) 7 0) × (readWords w k p ≡ getD (recordsIn w s k) p [])
   pub inserts : (w : List ℕ) (s : Sound w) (k p c : ℕ) (words : List ℕ) → Inserts w s k p c words (insertPlan w k p c words)
+  pub severals : (w : List ℕ) (s : Sound w) (k p c : ℕ) (words : List ℕ) → Severals w s k p c words (severalPlan w k p c words)
   pub deletes : (w : List ℕ) (s : Sound w) (k p : ℕ) → Deletes w s k p (deletePlan w k p)
   -- "Nothing interprets a record."
   pub uninterpreted : Uninterpreted

@@ -1,6 +1,6 @@
 -- Demand 2: insert and delete, planned on a sound store and done, leave what plain sequences would; insert refuses with 10 only
 -- where no node is free.
-use Prim.Native.Nat.{ℕ, _+_, _-_, _<_, _≤_}
+use Prim.Native.Nat.{ℕ, _+_, _<_, _≤_}
 use mathlib.Core.Path.{_≡_, refl, ap, _∙_, sym, subst}
 use mathlib.Core.List.{List, [], _∷_, _++_, List·Memᴰ·head, Memᴰ·append-right}
 use mathlib.Core.Bool.{Bool, true, false}
@@ -32,14 +32,15 @@ use Rattle.requests.specs.declared.Looked.the-variants as K
 use Rattle.requests.specs.declared.Request.{Request}
 use Rattle.requests.specs.declared.Request.the-variants.{Member, Gap}
 use Rattle.requests.specs.Requests.{around, firstFree, withFree, memberAt, gapAt, siteIn, siteOf, withSite, lookOf}
+use Rattle.requests.proofs.Turn.{around-all, around-nodes}
 use Rattle.edits.specs.Edits.{insertLinks, insertWrites, deleteWrites}
 use Rattle.edits.specs.Edited.{insertAt, deleteAt, replaced, FirstFree, recordIn, Edited, Inserted, Deleted}
-use Rattle.edits.proofs.Free.{around-all, around-nodes, first-free, none-free}
+use Rattle.edits.proofs.Free.{first-free, none-free}
 use Rattle.edits.proofs.Insert.{insert-lists, insert-other, insert-given, insert-records}
 use Rattle.edits.proofs.Delete.{delete-lists, delete-other, delete-free, delete-records}
 
 -- a question that did not refuse was answered yes
-yes-at : (b : Bool) (n : ℕ) (r : Sited) (t : Site) → ask b (Refused n) r ≡ At t → (b ≡ true) × (r ≡ At t)
+pub yes-at : (b : Bool) (n : ℕ) (r : Sited) (t : Site) → ask b (Refused n) r ≡ At t → (b ≡ true) × (r ≡ At t)
 yes-at true n r t e = (refl, e)
 yes-at false n r t e = let z : _≡_ {A = ℕ} 0 1 = cc in absurd (omega arith)
 
@@ -241,7 +242,7 @@ module _ (w : List ℕ) (s : Sound w) (k p : ℕ) (l : Layout) (t : Site) where
           }
 
 -- 10 is answered only where no node is free
-no-at : (b : Bool) (m n : ℕ) (r : Sited) → (m ≡ n → ⊥) → ask b (Refused m) r ≡ Refused n → (b ≡ true) × (r ≡ Refused n)
+pub no-at : (b : Bool) (m n : ℕ) (r : Sited) → (m ≡ n → ⊥) → ask b (Refused m) r ≡ Refused n → (b ≡ true) × (r ≡ Refused n)
 no-at true m n r d e = (refl, e)
 no-at false m n r d e = absurd (d cc)
 

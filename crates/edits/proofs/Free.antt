@@ -1,88 +1,21 @@
--- The search for a free cell: what it finds is free and the first in its order, and it meets every node.
-use Prim.Native.Nat.{ℕ, zero, suc, _+_, _-_, _<_, _≤_}
-use mathlib.Core.Path.{_≡_, refl, ap, _∙_, sym, subst}
-use mathlib.Core.List.{List, [], _∷_, _++_, Memᴰ·append-left, Memᴰ·append-right}
+-- The search for a free cell: what it finds is free and the first in its order; and the search for the next one, behind it.
+use Prim.Native.Nat.{ℕ, zero, suc, _-_, _<_}
+use mathlib.Core.Path.{_≡_, refl, ap, ap₂, _∙_, sym, subst}
+use mathlib.Core.List.{List, [], _∷_, _++_, append-nil, append-assoc, Memᴰ·append-left, Memᴰ·append-right}
 use mathlib.Core.Bool.{Bool, true, false, cond}
-use native.Mathlib.Decide.{decLe}
 use native.Mathlib.Omega.{arith}
-use native.Mathlib.Numerals.{add-one}
 use lib.Dec.{eqb}
-use borrow.Author.Tests.{eq-eqb, ne-eqb, eqb-true, eqb-false}
-use Rattle.sequences.specs.Sequence.{_∈_, All, range}
-use Rattle.sequences.proofs.Pigeonhole.{in-range}
+use lib.ListN.{length, take, drop, length-append}
+use lib.Seq.{take-at}
+use borrow.Author.Tests.{eq-eqb, eqb-true, eqb-false}
+use Rattle.sequences.specs.Sequence.{_∈_, All, Different}
+use Rattle.sequences.proofs.Members.{all-in, in-all, all-append, out-without}
 use Rattle.layout.specs.declared.Layout.{Layout}
-use Rattle.layout.specs.Words.{firstNode, cellCount, Node}
+use Rattle.layout.specs.Words.{Node}
 use Rattle.requests.specs.declared.Free.the-variants.{Cell, Full}
-use Rattle.requests.specs.Requests.{nextCell, around, firstFree}
+use Rattle.requests.specs.Requests.{nextCell, around, firstFree, freeCells}
+use Rattle.requests.proofs.Turn.{around-different, around-behind, free-append, free-taken, free-first, free-same}
 use Rattle.edits.specs.Edited.{FirstFree}
-
--- the cell after the last is the first node
-next-up : (l : Layout) (c : ℕ) → c + 1 < cellCount l → nextCell l c ≡ suc c
-unfolding nextCell
-next-up l c h = rw (ne-eqb (c + 1) (cellCount l) (λ e. omega arith)) (add-one c)
-
-next-over : (l : Layout) (c : ℕ) → c + 1 ≡ cellCount l → nextCell l c ≡ firstNode l
-unfolding nextCell
-next-over l c e = rw (eq-eqb (c + 1) (cellCount l) e)
-
--- counting up
-around-up : (l : Layout) (c n : ℕ) → c + n ≤ cellCount l → around l c n ≡ range c n
-unfolding around range
-around-up l c zero h = refl
-around-up l c (suc zero) h = refl
-around-up l c (suc (suc n)) h =
-    ap (λ (t : List ℕ). c ∷ t) (ap (λ (x : ℕ). around l x (suc n)) (next-up l c (omega arith)) ∙ around-up l (suc c) (suc n) (omega arith))
-
--- and on from the first node
-around-over : (l : Layout) (c m n : ℕ) → c + suc m ≡ cellCount l → around l c (suc (m + n)) ≡ range c (suc m) ++ around l (firstNode l) n
-unfolding around range
-around-over l c zero n e =
-    ap (λ (x : ℕ). c ∷ around l (nextCell l c) x) zeroed ∙ ap (λ (x : ℕ). c ∷ around l x n) (next-over l c (omega arith))
-  where
-    zeroed : 0 + n ≡ n
-    zeroed = omega arith
-around-over l c (suc m) n e =
-    ap (λ (x : ℕ). c ∷ around l (nextCell l c) x) (moved m n)
-    ∙ ap (λ (t : List ℕ). c ∷ t)
-    (ap (λ (x : ℕ). around l x (suc (m + n))) (next-up l c (omega arith)) ∙ around-over l (suc c) m n (omega arith))
-  where
-    moved : (m n : ℕ) → suc m + n ≡ suc (m + n)
-    moved m n = omega arith
-
--- so the search goes up to the last node, and on from the first
-around-turned
-    : (l : Layout) (c : ℕ) → Node l c
-    → around l c (l .nodes) ≡ range c (cellCount l - c) ++ range (firstNode l) (c - firstNode l)
-around-turned l c h =
-    let e : l .nodes ≡ suc (cellCount l - c - 1 + (c - firstNode l)) = omega (arith, h .low, h .high) in
-    let q : suc (cellCount l - c - 1) ≡ cellCount l - c = omega (arith, h .high) in
-    ap (around l c) e
-    ∙ around-over l c (cellCount l - c - 1) (c - firstNode l) (omega (arith, h .high))
-    ∙ ap (λ (n : ℕ). range c n ++ around l (firstNode l) (c - firstNode l)) q
-    ∙ ap (λ (t : List ℕ). range c (cellCount l - c) ++ t) (around-up l (firstNode l) (c - firstNode l) (omega (arith, h .low, h .high)))
-
--- and meets every node
-pub around-all : (l : Layout) (c x : ℕ) → Node l c → Node l x → x ∈ around l c (l .nodes)
-around-all l c x hc hx = subst (λ (t : List ℕ). x ∈ t) (sym (around-turned l c hc)) (by (decLe c x))
-  where
-    by : Dec (c ≤ x) → x ∈ (range c (cellCount l - c) ++ range (firstNode l) (c - firstNode l))
-    by (yes h) =
-        Memᴰ·append-left (range (firstNode l) (c - firstNode l)) (in-range c (cellCount l - c) x h (omega (arith, hc .high, hx .high)))
-    by (no h) =
-        Memᴰ·append-right (range c (cellCount l - c)) (in-range (firstNode l) (c - firstNode l) x (hx .low) (omega (arith, hc .low)))
-
--- and only nodes
-pub around-nodes : (l : Layout) (c n : ℕ) → Node l c → All (Node l) (around l c n)
-unfolding around
-around-nodes l c zero h = tt
-around-nodes l c (suc n) h = (h, around-nodes l (nextCell l c) n (by (eqb (c + 1) (cellCount l)) refl))
-  where
-    by : (b : Bool) → eqb (c + 1) (cellCount l) ≡ b → Node l (nextCell l c)
-    by true e =
-        subst (Node l) (sym (next-over l c (eqb-true _ _ e))) (record { low = omega arith; high = omega (arith, h .low, h .high) })
-    by false e =
-        let q : c + 1 < cellCount l = omega (arith, h .high, eqb-false (c + 1) (cellCount l) e) in
-        subst (Node l) (sym (next-up l c q)) (record { low = omega (arith, h .low); high = omega arith })
 
 -- what is found is free, and those before it are not
 pub first-free : (ident : ℕ → ℕ) (cs : List ℕ) (i : ℕ) → firstFree ident cs ≡ Cell i → FirstFree ident cs i
@@ -115,3 +48,95 @@ none-free ident (c ∷ cs) e = by (eqb (ident c) 0) refl (λ q. none-free ident 
         → cond b (Cell c) (firstFree ident cs) ≡ Full → All (λ c. ident c ≡ 0 → ⊥) (c ∷ cs)
     by true q below e = let z : _≡_ {A = ℕ} 0 1 = cc in absurd (omega arith)
     by false q below e = (eqb-false _ _ q, below e)
+
+-- cells of which the first free one is x: those behind it have the other free ones
+free-others : (ident : ℕ → ℕ) (cs : List ℕ) (x : ℕ) (xs : List ℕ) → freeCells ident cs ≡ x ∷ xs → (f : FirstFree ident cs x) → freeCells ident (f .rest) ≡ xs
+unfolding freeCells
+free-others ident cs x xs e f =
+    ap (λ (s : List ℕ). drop 1 s)
+    (sym here
+    ∙ ap (λ (s : List ℕ). s ++ freeCells ident (x ∷ f .rest)) (sym (free-taken ident (f .passed) (f .taken)))
+    ∙ sym (free-append ident (f .passed) (x ∷ f .rest))
+    ∙ ap (freeCells ident) (sym (f .order))
+    ∙ e)
+  where
+    here : freeCells ident (x ∷ f .rest) ≡ x ∷ freeCells ident (f .rest)
+    here = rw (eq-eqb (ident x) 0 (f .free))
+
+-- The cell x found is taken, and nothing else changes: the free cells of the turn begun behind x are the other ones, in the same order.
+pub free-behind
+    : (l : Layout) (ident ident′ : ℕ → ℕ) (c x : ℕ) (xs : List ℕ) → Node l c → freeCells ident (around l c (l .nodes)) ≡ x ∷ xs
+    → (ident′ x ≡ 0 → ⊥) → ((y : ℕ) → (y ≡ x → ⊥) → ident′ y ≡ ident y) → freeCells ident′ (around l (nextCell l x) (l .nodes)) ≡ xs
+free-behind l ident ident′ c x xs h e taken same =
+    ap (freeCells ident′) (around-behind l c (f .passed) x (f .rest) h (f .order))
+    ∙ free-append ident′ (f .rest) (f .passed ++ x ∷ [])
+    ∙ ap₂ (λ (s t : List ℕ). s ++ t)
+    (free-same ident ident′ (f .rest) (in-all (λ y. ident′ y ≡ ident y) (f .rest) (λ y m. same y (apart y (Memᴰ·append-right (f .passed) m))))
+    ∙ free-others ident (around l c (l .nodes)) x xs e f)
+    (free-taken ident′ (f .passed ++ x ∷ [])
+    (all-append (λ y. ident′ y ≡ 0 → ⊥) (f .passed) (x ∷ [])
+    (in-all (λ y. ident′ y ≡ 0 → ⊥) (f .passed)
+    (λ y m z. all-in (λ y. ident y ≡ 0 → ⊥) (f .passed) (f .taken) m (sym (same y (apart y (Memᴰ·append-left (f .rest) m))) ∙ z)))
+    (taken, tt)))
+    ∙ append-nil xs
+  where
+    f : FirstFree ident (around l c (l .nodes)) x
+    f = first-free ident (around l c (l .nodes)) x (free-first ident (around l c (l .nodes)) x xs e)
+
+    apart : (y : ℕ) → y ∈ (f .passed ++ f .rest) → y ≡ x → ⊥
+    apart y m q =
+        out-without (f .passed) x (f .rest) (subst Different (f .order) (around-different l c h)) (subst (λ (z : ℕ). z ∈ (f .passed ++ f .rest)) q m)
+
+-- the first cells of a turn, and their number
+around-take : (l : Layout) (c n : ℕ) → take n (around l c (suc n)) ≡ around l c n
+unfolding around
+around-take l c zero = refl
+around-take l c (suc n) = ap (λ (s : List ℕ). c ∷ s) (around-take l (nextCell l c) n)
+
+around-length : (l : Layout) (c n : ℕ) → length (around l c n) ≡ n
+unfolding around
+around-length l c zero = refl
+around-length l c (suc n) = ap suc (around-length l (nextCell l c) n)
+
+-- The turn begun at the cell x found, not before it, meets the same free cells.
+pub free-from
+    : (l : Layout) (ident : ℕ → ℕ) (c x : ℕ) (xs : List ℕ) → Node l c → 0 < l .nodes → freeCells ident (around l c (l .nodes)) ≡ x ∷ xs
+    → freeCells ident (around l x (l .nodes)) ≡ x ∷ xs
+unfolding around freeCells
+free-from l ident c x xs h some e =
+    ap (λ (n : ℕ). freeCells ident (around l x n)) whole
+    ∙ here
+    ∙ ap (λ (s : List ℕ). x ∷ freeCells ident s) turned
+    ∙ ap (λ (s : List ℕ). x ∷ s)
+    (free-append ident (f .rest) (f .passed)
+    ∙ ap₂ (λ (s t : List ℕ). s ++ t) (free-others ident (around l c (l .nodes)) x xs e f) (free-taken ident (f .passed) (f .taken))
+    ∙ append-nil xs)
+  where
+    f : FirstFree ident (around l c (l .nodes)) x
+    f = first-free ident (around l c (l .nodes)) x (free-first ident (around l c (l .nodes)) x xs e)
+
+    n : ℕ
+    n = l .nodes - 1
+
+    whole : l .nodes ≡ suc n
+    whole = omega arith
+
+    here : freeCells ident (around l x (suc n)) ≡ x ∷ freeCells ident (around l (nextCell l x) n)
+    here = rw (eq-eqb (ident x) 0 (f .free))
+
+    others : length (f .rest ++ f .passed) ≡ n
+    others =
+        omega (
+          arith,
+          length-append (f .rest) (f .passed),
+          length-append (f .passed) (x ∷ f .rest),
+          ap length (sym (f .order)),
+          around-length l c (l .nodes),
+        )
+
+    turned : around l (nextCell l x) n ≡ f .rest ++ f .passed
+    turned =
+        sym (around-take l (nextCell l x) n)
+        ∙ ap (λ (m : ℕ). take n (around l (nextCell l x) m)) (sym whole)
+        ∙ ap (take n) (around-behind l c (f .passed) x (f .rest) h (f .order) ∙ sym (append-assoc (f .rest) (f .passed) (x ∷ [])))
+        ∙ take-at (f .rest ++ f .passed) (x ∷ []) n others

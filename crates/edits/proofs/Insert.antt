@@ -76,7 +76,7 @@ module _ (l : Layout) (w : List ℕ) (exact : length w ≡ sizeOf l) (s : SoundL
       run-out (insertWrites l k site words) w (cellAt l x + f)
       (insert-spares l w exact k site hk ha hb hi ca cb words size x f h nc nk na nb)
 
-  keeps-ident : (x : ℕ) → (x ≡ i → ⊥) → getD Done (identAt l x) 0 ≡ getD w (identAt l x) 0
+  pub keeps-ident : (x : ℕ) → (x ≡ i → ⊥) → getD Done (identAt l x) 0 ≡ getD w (identAt l x) 0
   keeps-ident x n =
       ap (λ (a : ℕ). getD Done a 0) (ident-word l x)
       ∙ insert-keeps x 0 (links-words l x 0 (omega arith)) n (λ _ e. omega arith) (λ _ e. omega arith) (λ _ e. omega arith)

@@ -5,3 +5,8 @@ pub mod Delete
 pub mod Free
 pub mod Done
 pub mod Inside
+pub mod Several
+pub mod OneByOne
+pub mod Gaps
+pub mod Room
+pub mod Underway

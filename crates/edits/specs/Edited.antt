@@ -1,18 +1,22 @@
 -- Demand 2: what insert and delete leave, when done, is what plain sequences would.
-use Prim.Native.Nat.{ℕ, _+_, _<_}
+use Prim.Native.Nat.{ℕ, zero, suc, _+_, _<_}
 use mathlib.Core.Path.{_≡_}
-use mathlib.Core.List.{List, _∷_, _++_}
+use mathlib.Core.List.{List, [], _∷_, _++_, map}
 use mathlib.Core.Bool.{cond}
 use lib.Dec.{eqb}
-use lib.ListN.{getD, take, drop}
-use Rattle.sequences.specs.Sequence.{_∈_, All}
+use lib.ListN.{length, getD, take, drop}
+use Rattle.sequences.specs.Sequence.{_∈_, All, Different}
 use Rattle.layout.specs.declared.Layout.{Layout}
-use Rattle.layout.specs.Words.{recordAt, identAt, layoutOf}
+use Rattle.layout.specs.Words.{Node, recordAt, identAt, layoutOf}
 use Rattle.lists.specs.Lists.{Sound, SameCells}
 
 -- plain sequences
 abbrev pub insertAt {ℓ} : {A : Type ℓ} → ℕ → A → List A → List A
 insertAt p c s = take p s ++ c ∷ drop p s
+
+-- several members at consecutive positions, from p on
+abbrev pub spliceAt {ℓ} : {A : Type ℓ} → ℕ → List A → List A → List A
+spliceAt p cs s = take p s ++ (cs ++ drop p s)
 
 abbrev pub deleteAt {ℓ} : {A : Type ℓ} → ℕ → List A → List A
 deleteAt p s = take p s ++ drop (p + 1) s
@@ -29,9 +33,20 @@ pub record FirstFree (ident : ℕ → ℕ) (cells : List ℕ) (i : ℕ) : Type 0
   pub free : ident i ≡ 0
   pub taken : All (λ c. ident c ≡ 0 → ⊥) passed
 
+-- different nodes that are free
+pub record FreeNodes (l : Layout) (w cells : List ℕ) : Type 0 where
+  pub nodes : All (Node l) cells
+  pub different : Different cells
+  pub free : All (λ c. getD w (identAt l c) 0 ≡ 0) cells
+
 -- the record in a cell
 abbrev pub recordIn : Layout → List ℕ → ℕ → List ℕ
 recordIn l w c = take (l .width) (drop (recordAt l c) w)
+
+-- the first r records, of n words each
+unfoldable pub recordsOf : ℕ → ℕ → List ℕ → List (List ℕ)
+recordsOf zero n words = []
+recordsOf (suc r) n words = take n words ∷ recordsOf r n (drop n words)
 
 -- words 0 to 7 as they were, the lists sound with these sequences, every other list as it was word for word, and the records of
 -- the cells that list k had as they were
@@ -47,6 +62,12 @@ pub record Inserted (w : List ℕ) (before : Sound w) (k p c : ℕ) (words w′ 
   pub edited : Edited w before k (insertAt p c (before .lists .sequence k)) w′
   pub free : getD w (identAt (layoutOf w) c) 0 ≡ 0
   pub given : recordIn (layoutOf w) w′ c ≡ words
+
+-- an insert of several cells from position p on, done: the plain sequence with these, which were free, and the records as given
+pub record InsertedAll (w : List ℕ) (before : Sound w) (k p : ℕ) (cells words w′ : List ℕ) : Type 0 where
+  pub edited : Edited w before k (spliceAt p cells (before .lists .sequence k)) w′
+  pub free : FreeNodes (layoutOf w) w cells
+  pub given : map (recordIn (layoutOf w) w′) cells ≡ recordsOf (length cells) (layoutOf w .width) words
 
 -- a delete at position p, done: the plain sequence without the cell, which is free
 pub record Deleted (w : List ℕ) (before : Sound w) (k p : ℕ) (w′ : List ℕ) : Type 0 where

@@ -1,12 +1,12 @@
 -- Laws of the search for a free node, and of the questions of a request.
-use Prim.Native.Nat.{ℕ, suc, _+_, _-_, _≤_, _<_}
+use Prim.Native.Nat.{ℕ, suc, _+_, _-_, _%_, _≤_, _<_}
 use mathlib.Core.Path.{_≡_, refl, sym, ap, _∙_}
 use mathlib.Core.List.{List}
-use mathlib.Core.Bool.{Bool, true, false}
+use mathlib.Core.Bool.{Bool, true, false, _&&_, and-eq-true-iff}
 use native.Mathlib.Omega.{arith}
 use native.Mathlib.Decide.{ℕ-discrete}
-use lib.Dec.{eqb, leb}
-use borrow.Author.Tests.{lt-ltb, le-ltb, eq-eqb, ne-eqb, leb-true, eqb-true}
+use lib.Dec.{eqb, leb, ltb}
+use borrow.Author.Tests.{lt-ltb, le-ltb, eq-eqb, ne-eqb, leb-true, ltb-true, eqb-true}
 use Rattle.layout.specs.declared.Layout.{Layout}
 use Rattle.layout.specs.declared.Opened.the-variants as O
 use Rattle.layout.specs.Words.{firstNode, cellCount, Node, isNode, InRange, Laid, ask, opened}
@@ -16,10 +16,10 @@ use Rattle.lists.proofs.Stepwise.{sound-count, sound-same}
 use Rattle.requests.specs.declared.Free.the-variants.{Cell, Full}
 use Rattle.requests.specs.declared.Site.{Site}
 use Rattle.requests.specs.declared.Request.{Request}
-use Rattle.requests.specs.declared.Request.the-variants.{Check, Whole, Member, Gap}
+use Rattle.requests.specs.declared.Request.the-variants.{Check, Whole, Member, Gap, Gaps}
 use Rattle.requests.specs.declared.Sited.the-variants.{At, Refused}
 use Rattle.requests.specs.declared.Looked.the-variants as K
-use Rattle.requests.specs.Requests.{nextCell, around, firstFree, memberAt, askGap, gapAt, siteIn, listOf, siteOf, lookOf}
+use Rattle.requests.specs.Requests.{nextCell, around, firstFree, memberAt, askGap, askGaps, gapAt, gapsAt, siteIn, listOf, siteOf, lookOf}
 
 -- the node after a node: the first after the last, else the next
 module _ (l : Layout) (c : ℕ) where
@@ -55,28 +55,42 @@ module _ (l : Layout) (ident : ℕ → ℕ) (c n : ℕ) where
   unfolding around firstFree
   free-none e = rw e
 
+-- three questions in a row: none is answered no, or the first no refuses
+three-yes : (a b d : Bool) → _≡_ {A = ℕ} (ask a 7 (ask b 8 (ask d 9 0))) 0 → (a ≡ true) × (b ≡ true) × (d ≡ true)
+three-yes true true true e = (refl, refl, refl)
+three-yes true true false e = absurd (omega arith)
+three-yes true false d e = absurd (omega arith)
+three-yes false b d e = absurd (omega arith)
+
+three-number {ℓ} : {A : Type ℓ} (a b d : Bool) (refuse : ℕ → A) (rest : A) → ask a (refuse 7) (ask b (refuse 8) (ask d (refuse 9) rest))
+    ≡ (let x : ℕ = ask a 7 (ask b 8 (ask d 9 0)) in ask (eqb x 0) (refuse x) rest)
+three-number true true true refuse rest = refl
+three-number true true false refuse rest = refl
+three-number true false d refuse rest = refl
+three-number false b d refuse rest = refl
+
 -- questions 7 to 9 with r for the number of the first no: all are answered yes, or r refuses
 module _ (l : Layout) (n p c m : ℕ) {r : ℕ} (e : r ≡ askGap l n p c m (λ x. x) 0) where
   pub gap-asked : r ≡ 0 → (p ≤ n) × Node l c × (m ≡ l .width)
-  gap-asked z = by (leb p n) refl (isNode l c) refl (eqb m (l .width)) refl (sym e ∙ z)
-    where
-      by : (a : Bool) → leb p n ≡ a → (b : Bool) → isNode l c ≡ b → (d : Bool) → eqb m (l .width) ≡ d
-          → _≡_ {A = ℕ} (ask a 7 (ask b 8 (ask d 9 0))) 0 → (p ≤ n) × Node l c × (m ≡ l .width)
-      by true x true y true z q = (leb-true p n x, is-node l c y, eqb-true m (l .width) z)
-      by true x true y false z q = absurd (omega arith)
-      by true x false y d z q = absurd (omega arith)
-      by false x b y d z q = absurd (omega arith)
+  gap-asked z =
+      let y = three-yes (leb p n) (isNode l c) (eqb m (l .width)) (sym e ∙ z) in
+      (leb-true p n (y .0), is-node l c (y .1), eqb-true m (l .width) (y .2))
 
   pub asked-number {ℓ} : {A : Type ℓ} (refuse : ℕ → A) (rest : A) → askGap l n p c m refuse rest ≡ ask (eqb r 0) (refuse r) rest
   asked-number refuse rest =
-      by (leb p n) (isNode l c) (eqb m (l .width)) ∙ ap (λ (x : ℕ). ask (eqb x 0) (refuse x) rest) (sym e)
-    where
-      by : (a b d : Bool) → ask a (refuse 7) (ask b (refuse 8) (ask d (refuse 9) rest))
-          ≡ (let x : ℕ = ask a 7 (ask b 8 (ask d 9 0)) in ask (eqb x 0) (refuse x) rest)
-      by true true true = refl
-      by true true false = refl
-      by true false d = refl
-      by false b d = refl
+      three-number (leb p n) (isNode l c) (eqb m (l .width)) refuse rest ∙ ap (λ (x : ℕ). ask (eqb x 0) (refuse x) rest) (sym e)
+
+-- the same of several records
+module _ (l : Layout) (n p c m : ℕ) {r : ℕ} (e : r ≡ askGaps l n p c m (λ x. x) 0) where
+  pub gaps-asked : r ≡ 0 → (p ≤ n) × Node l c × (0 < m) × (m % l .width ≡ 0)
+  gaps-asked z =
+      let y = three-yes (leb p n) (isNode l c) (ltb 0 m && eqb (m % l .width) 0) (sym e ∙ z) in
+      let b = and-eq-true-iff (ltb 0 m) (eqb (m % l .width) 0) .0 (y .2) in
+      (leb-true p n (y .0), is-node l c (y .1), ltb-true 0 m (b .0), eqb-true (m % l .width) 0 (b .1))
+
+  pub gaps-number {ℓ} : {A : Type ℓ} (refuse : ℕ → A) (rest : A) → askGaps l n p c m refuse rest ≡ ask (eqb r 0) (refuse r) rest
+  gaps-number refuse rest =
+      three-number (leb p n) (isNode l c) (ltb 0 m && eqb (m % l .width) 0) refuse rest ∙ ap (λ (x : ℕ). ask (eqb x 0) (refuse x) rest) (sym e)
 
 module _ (l : Layout) (v : View) (count : ℕ → ℕ) where
   -- question 5 of a request that names a list beyond the last; a check names none
@@ -86,6 +100,7 @@ module _ (l : Layout) (v : View) (count : ℕ → ℕ) where
   site-unlisted (Whole k) r h = rw (le-ltb k (l .lists) h)
   site-unlisted (Member k p) r h = rw (le-ltb k (l .lists) h)
   site-unlisted (Gap k p c m) r h = rw (le-ltb k (l .lists) h)
+  site-unlisted (Gaps k p c m) r h = rw (le-ltb k (l .lists) h)
 
   -- question 6
   pub site-unsound : (q : Request) → listOf q < l .lists → soundIn l v count ≡ false → Refused 6 ≡ siteIn l v count q
@@ -94,6 +109,7 @@ module _ (l : Layout) (v : View) (count : ℕ → ℕ) where
   site-unsound (Whole k) h e = rw (lt-ltb k (l .lists) h, e)
   site-unsound (Member k p) h e = rw (lt-ltb k (l .lists) h, e)
   site-unsound (Gap k p c m) h e = rw (lt-ltb k (l .lists) h, e)
+  site-unsound (Gaps k p c m) h e = rw (lt-ltb k (l .lists) h, e)
 
   -- and what follows them
   module _ (q : Request) (h : listOf q < l .lists) (e : soundIn l v count ≡ true) where
@@ -113,6 +129,10 @@ module _ (l : Layout) (v : View) (count : ℕ → ℕ) where
     unfolding siteIn
     site-gap {k} z = rw (z, lt-ltb k (l .lists) (rw z at h), e)
 
+    pub site-gaps : {k p c m : ℕ} → q ≡ Gaps k p c m → gapsAt l (v .ident) k p c m (sequenceIn l v k) ≡ siteIn l v count q
+    unfolding siteIn
+    site-gaps {k} z = rw (z, lt-ltb k (l .lists) (rw z at h), e)
+
   -- of the counts only soundness asks, and only of the lists'
   pub site-same : (other : ℕ → ℕ) (q : Request) → ((k : ℕ) → k < l .lists → count k ≡ other k) → siteIn l v count q ≡ siteIn l v other q
   unfolding siteIn
@@ -120,6 +140,7 @@ module _ (l : Layout) (v : View) (count : ℕ → ℕ) where
   site-same other (Whole k) h = rw (sound-same l v count other h)
   site-same other (Member k p) h = rw (sound-same l v count other h)
   site-same other (Gap k p c m) h = rw (sound-same l v count other h)
+  site-same other (Gaps k p c m) h = rw (sound-same l v count other h)
 
 -- an opened store is laid out
 pub opened-laid : (w : List ℕ) (l : Layout) → opened w ≡ O.Open l → Laid l w

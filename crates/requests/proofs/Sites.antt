@@ -1,28 +1,33 @@
 -- Laws of the sites of a list that holds: where its links lead, and what is found there.
-use Prim.Native.Nat.{ℕ, suc, _+_, _-_, _≤_, _<_}
+use Prim.Native.Nat.{ℕ, suc, _+_, _*_, _-_, _/_, _%_, _≤_, _<_}
 use mathlib.Core.Path.{_≡_, refl, ap, _∙_, sym, subst⁻¹}
 use mathlib.Core.List.{List, [], _∷_, _++_}
-use mathlib.Core.Bool.{true}
+use mathlib.Core.Bool.{Bool, true, false, _&&_, and-eq-true-iff}
 use native.Mathlib.Omega.{arith}
+use native.Mathlib.Nat.{div-add-mod'}
 use native.Mathlib.Numerals.{add-one}
+use lib.Dec.{eqb, leb, ltb}
 use lib.ListN.{length, getD, length-append, List·getD-append}
-use borrow.Author.Tests.{lt-ltb, le-ltb, eq-eqb, ne-eqb}
+use borrow.Author.Tests.{lt-ltb, le-ltb, le-leb, lt-leb, eq-eqb, ne-eqb, leb-true, ltb-true, eqb-true}
 use Rattle.sequences.specs.Sequence.{All, follow}
 use Rattle.sequences.proofs.Members.{all-in, in-all, all-nth, at-in, in-front}
 use Rattle.sequences.proofs.Splice.{forward-at}
 use Rattle.sequences.proofs.Trail.{trail-inside}
 use Rattle.sequences.proofs.Follow.{follow-forward, follow-backward, backward-at}
 use Rattle.layout.specs.declared.Layout.{Layout}
-use Rattle.layout.specs.Words.{Node, isNode, cellCount}
+use Rattle.layout.specs.Words.{Node, isNode, cellCount, ask}
 use Rattle.layout.proofs.Laws.{is-node}
 use Rattle.lists.specs.Decide.{View, sequenceIn, soundIn}
 use Rattle.lists.proofs.Agree.{Holds, holds-true}
 use Rattle.lists.proofs.Stepwise.{sound-hold}
+use Rattle.requests.specs.declared.Free.{Free}
 use Rattle.requests.specs.declared.Free.the-variants.{Cell, Full}
+use Rattle.requests.specs.declared.Site.{Site}
+use Rattle.requests.specs.declared.Sited.{Sited}
 use Rattle.requests.specs.declared.Sited.the-variants.{At, Refused}
-use Rattle.requests.specs.Requests.{around, firstFree, memberAt, askGap, freeGap, gapAt}
-use Rattle.requests.specs.Sites.{HeldList, gapSite}
-use Rattle.requests.proofs.Laws.{asked-number}
+use Rattle.requests.specs.Requests.{nextCell, around, firstFree, withFree, freeCells, memberAt, askGap, freeGap, gapAt, askGaps, gapsAt}
+use Rattle.requests.specs.Sites.{HeldList, gapSite, nextSite}
+use Rattle.requests.proofs.Laws.{asked-number, gaps-number}
 
 module _ {l : Layout} {v : View} {k n : ℕ} (h : HeldList l v k n) where
   abbrev members : List ℕ
@@ -143,6 +148,75 @@ module _ (l : Layout) (ident : ℕ → ℕ) (k p c : ℕ) (s : List ℕ) where
     pub gap-open : r ≡ 0 → freeGap l ident k p c s ≡ gapAt l ident k p c m s
     unfolding gapAt
     gap-open z = rw (← h) (sym (asked-number l n p c m e Refused _ ∙ rw (eq-eqb r 0 z)))
+
+  -- the same of several records; and by question 10, if the free cells are too few
+  module _ {n : ℕ} (h : n ≡ length s) (m : ℕ) {r : ℕ} (e : r ≡ askGaps l n p c m (λ x. x) 0) where
+    abbrev free : ℕ
+    free = length (freeCells ident (around l c (l .nodes)))
+
+    pub gaps-shut : (r ≡ 0 → ⊥) → Refused r ≡ gapsAt l ident k p c m s
+    unfolding gapsAt
+    gaps-shut z = rw (← h) (sym (gaps-number l n p c m e Refused _ ∙ rw (ne-eqb r 0 z)))
+
+    pub gaps-few : r ≡ 0 → free < m / l .width → Refused 10 ≡ gapsAt l ident k p c m s
+    unfolding gapsAt
+    gaps-few z g = rw (← h) (sym (gaps-number l n p c m e Refused _ ∙ rw (eq-eqb r 0 z, lt-leb (m / l .width) free g)))
+
+    pub gaps-open : r ≡ 0 → m / l .width ≤ free → freeGap l ident k p c s ≡ gapsAt l ident k p c m s
+    unfolding gapsAt
+    gaps-open z g = rw (← h) (sym (gaps-number l n p c m e Refused _ ∙ rw (eq-eqb r 0 z, le-leb (m / l .width) free g)))
+
+-- the next site: no cell is free, or the first that is
+module _ (l : Layout) (ident : ℕ → ℕ) (t : Site) where
+  pub next-full : Full ≡ firstFree ident (around l (nextCell l (t .cell)) (l .nodes)) → t ≡ nextSite l ident t
+  unfolding nextSite
+  next-full g = rw (← g)
+
+  pub next-found : {x : ℕ} → Cell x ≡ firstFree ident (around l (nextCell l (t .cell)) (l .nodes))
+      → record { before = t .cell; cell = x; after = t .after; count = t .count + 1 } ≡ nextSite l ident t
+  unfolding nextSite
+  next-found g = rw (← g)
+
+-- what the questions of several records tell: whole records, enough free cells, and the gap with the first of them
+pub record GapsFacts (l : Layout) (ident : ℕ → ℕ) (k p c m : ℕ) (s : List ℕ) (t : Site) : Type 0 where
+  pub position : p ≤ length s
+  pub start : Node l c
+  pub some : 0 < m
+  pub whole : m ≡ m / l .width * l .width
+  pub enough : m / l .width ≤ length (freeCells ident (around l c (l .nodes)))
+  pub first : firstFree ident (around l c (l .nodes)) ≡ Cell (t .cell)
+  pub site : t ≡ gapSite k p (t .cell) s
+
+pub gaps-facts : (l : Layout) (ident : ℕ → ℕ) (k p c m : ℕ) (s : List ℕ) (t : Site) → gapsAt l ident k p c m s ≡ At t → GapsFacts l ident k p c m s t
+unfolding gapsAt
+gaps-facts l ident k p c m s t e =
+    let a = yes-at (leb p (length s)) 7 _ t e in
+    let b = yes-at (isNode l c) 8 _ t (a .1) in
+    let d = yes-at (ltb 0 m && eqb (m % l .width) 0) 9 _ t (b .1) in
+    let f = yes-at (leb (m / l .width) (length (freeCells ident (around l c (l .nodes))))) 10 _ t (d .1) in
+    let q = and-eq-true-iff (ltb 0 m) (eqb (m % l .width) 0) .0 (d .0) in
+    let g = found (firstFree ident (around l c (l .nodes))) refl (f .1) in
+    record {
+      position = leb-true p (length s) (a .0);
+      start = is-node l c (b .0);
+      some = ltb-true 0 m (q .0);
+      whole = omega (arith, eqb-true (m % l .width) 0 (q .1), div-add-mod' m (l .width));
+      enough = leb-true (m / l .width) (length (freeCells ident (around l c (l .nodes)))) (f .0);
+      first = g .0;
+      site = g .1;
+    }
+  where
+    yes-at : (b : Bool) (n : ℕ) (r : Sited) (t : Site) → ask b (Refused n) r ≡ At t → (b ≡ true) × (r ≡ At t)
+    yes-at true n r t e = (refl, e)
+    yes-at false n r t e = let z : _≡_ {A = ℕ} 0 1 = cc in absurd (omega arith)
+
+    found : (x : Free) → firstFree ident (around l c (l .nodes)) ≡ x → withFree x (Refused 10) (λ i. At (gapSite k p i s)) ≡ At t
+        → (firstFree ident (around l c (l .nodes)) ≡ Cell (t .cell)) × (t ≡ gapSite k p (t .cell) s)
+    found Full q e = let z : _≡_ {A = ℕ} 0 1 = cc in absurd (omega arith)
+    found (Cell i) q e =
+        let u : gapSite k p i s ≡ t = cc in
+        let v : i ≡ t .cell = ap (λ (x : Site). x .cell) u in
+        (q ∙ ap Cell v, sym u ∙ ap (λ (x : ℕ). gapSite k p x s) v)
 
 -- a sound store's lists hold
 pub sound-held : (l : Layout) (v : View) (count : ℕ → ℕ) (j : ℕ) → j < l .lists → soundIn l v count ≡ true → {k n : ℕ} → k ≡ j → n ≡ count j → HeldList l v k n

@@ -1,7 +1,7 @@
 -- Questions 5 to 10: what a call asks for, and the site in the lists that it gets.
-use Prim.Native.Nat.{ℕ, zero, suc, _+_}
+use Prim.Native.Nat.{ℕ, zero, suc, _+_, _/_, _%_}
 use mathlib.Core.List.{List, [], _∷_, _++_}
-use mathlib.Core.Bool.{cond}
+use mathlib.Core.Bool.{cond, _&&_}
 use lib.Dec.{eqb, leb, ltb}
 use lib.ListN.{length, getD}
 use Rattle.layout.specs.declared.Layout.{Layout}
@@ -11,7 +11,7 @@ use Rattle.requests.specs.declared.Free.{Free}
 use Rattle.requests.specs.declared.Free.the-variants.{Cell, Full}
 use Rattle.requests.specs.declared.Site.{Site}
 use Rattle.requests.specs.declared.Request.{Request}
-use Rattle.requests.specs.declared.Request.the-variants.{Check, Whole, Member, Gap}
+use Rattle.requests.specs.declared.Request.the-variants.{Check, Whole, Member, Gap, Gaps}
 use Rattle.requests.specs.declared.Sited.{Sited}
 use Rattle.requests.specs.declared.Sited.the-variants.{At, Refused}
 use Rattle.requests.specs.declared.Looked.{Looked}
@@ -33,6 +33,11 @@ firstFree ident (c ∷ cs) = cond (eqb (ident c) 0) (Cell c) (firstFree ident cs
 abbrev pub withFree {ℓ} : {A : Type ℓ} → Free → A → (ℕ → A) → A
 withFree Full refusal rest = refusal
 withFree (Cell c) refusal rest = rest c
+
+-- of these cells, those that are free, in order
+unfoldable pub freeCells : (ℕ → ℕ) → List ℕ → List ℕ
+freeCells ident [] = []
+freeCells ident (c ∷ cs) = cond (eqb (ident c) 0) (c ∷ freeCells ident cs) (freeCells ident cs)
 
 -- question 7 of read and delete: the member of list k at position p, with the cells before and after it
 unfoldable pub memberAt : ℕ → ℕ → List ℕ → Sited
@@ -57,6 +62,21 @@ freeGap l ident k p c s =
 unfoldable pub gapAt : Layout → (ℕ → ℕ) → ℕ → ℕ → ℕ → ℕ → List ℕ → Sited
 gapAt l ident k p c m s = askGap l (length s) p c m Refused (freeGap l ident k p c s)
 
+-- of an insert of several records, m words in all, "question 9 is: is the record length a positive multiple of P?
+abbrev pub askGaps {ℓ} : {A : Type ℓ} → Layout → ℕ → ℕ → ℕ → ℕ → (ℕ → A) → A → A
+askGaps l n p c m refuse rest =
+    ask (leb p n) (refuse 7)
+    (ask (isNode l c) (refuse 8)
+    (ask (ltb 0 m && eqb (m % l .width) 0) (refuse 9)
+    rest))
+
+-- Question 10: are there enough free nodes for all?" Then the gap, with the first of them.
+unfoldable pub gapsAt : Layout → (ℕ → ℕ) → ℕ → ℕ → ℕ → ℕ → List ℕ → Sited
+gapsAt l ident k p c m s =
+    askGaps l (length s) p c m Refused
+    (ask (leb (m / l .width) (length (freeCells ident (around l c (l .nodes))))) (Refused 10)
+    (freeGap l ident k p c s))
+
 -- questions 5 and 6, before those of the sequence of list k
 abbrev pub ofList : Layout → View → (ℕ → ℕ) → ℕ → (List ℕ → Sited) → Sited
 ofList l v count k rest =
@@ -70,6 +90,7 @@ siteIn l v count Check = ask (soundIn l v count) (Refused 6) (At (record { befor
 siteIn l v count (Whole k) = ofList l v count k (λ s. At (record { before = k; cell = k; after = k; count = length s }))
 siteIn l v count (Member k p) = ofList l v count k (memberAt k p)
 siteIn l v count (Gap k p c m) = ofList l v count k (gapAt l (v .ident) k p c m)
+siteIn l v count (Gaps k p c m) = ofList l v count k (gapsAt l (v .ident) k p c m)
 
 -- the list that a request names; a check asks nothing of list 0 that every store does not answer
 abbrev pub listOf : Request → ℕ
@@ -77,6 +98,7 @@ listOf Check = 0
 listOf (Whole k) = k
 listOf (Member k p) = k
 listOf (Gap k p c m) = k
+listOf (Gaps k p c m) = k
 
 -- the same of the words of a store
 abbrev pub siteOf : Layout → List ℕ → Request → Sited

@@ -3,8 +3,9 @@
 // byte_requests in lent bytes.
 use layout::Layout;
 ghost use mathlib.Core.Path.{_≡_};
-ghost use Rattle.layout.specs.Words.{InRange, Node};
-ghost use Rattle.requests.specs.Requests.{nextCell, askGap, listOf};
+ghost use lib.Dec.{leb};
+ghost use Rattle.layout.specs.Words.{ask, isNode, InRange, Node};
+ghost use Rattle.requests.specs.Requests.{nextCell, askGap, askGaps, listOf};
 
 // What a call asks for.
 pub enum Request {
@@ -16,6 +17,8 @@ pub enum Request {
     Member(u16, u16),
     // The gap of a list at a position, with a free cell searched from a starting cell for a record of so many words.
     Gap(u16, u16, u16, usize),
+    // The same with free cells for several records, of so many words in all.
+    Gaps(u16, u16, u16, usize),
 }
 
 // Where a call works.
@@ -62,13 +65,14 @@ pub fn list_of(q: Request) -> u16
         Request::Whole(k) => k,
         Request::Member(k, _) => k,
         Request::Gap(k, _, _, _) => k,
+        Request::Gaps(k, _, _, _) => k,
     }
 }
 
-// Questions 7 to 9: the number of the first no, 0 for none.
-pub fn gap_number(l: Layout, n: u16, p: u16, start: u16, size: usize) -> u16
+// Questions 7 to 9, of which the last is whether the size fits: the number of the first no, 0 for none.
+fn place_number(l: Layout, n: u16, p: u16, start: u16, fits: bool) -> u16
     requires { ⌜ InRange l ⌝ }
-    ensures { λ r. ⌜ r ≡ askGap l n p start size (λ x. x) 0 ⌝ }
+    ensures { λ r. ⌜ r ≡ ask (leb p n) 7 (ask (isNode l start) 8 (ask fits 9 0)) ⌝ }
 {
     if n < p {
         return 7;
@@ -76,8 +80,24 @@ pub fn gap_number(l: Layout, n: u16, p: u16, start: u16, size: usize) -> u16
     if !l.is_node(start) {
         return 8;
     }
-    if size != l.width as usize {
+    if !fits {
         return 9;
     }
     0
+}
+
+// Questions 7 to 9 of a record.
+pub fn gap_number(l: Layout, n: u16, p: u16, start: u16, size: usize) -> u16
+    requires { ⌜ InRange l ⌝ }
+    ensures { λ r. ⌜ r ≡ askGap l n p start size (λ x. x) 0 ⌝ }
+{
+    place_number(l, n, p, start, size == l.width as usize)
+}
+
+// Questions 7 to 9 of several records.
+pub fn gaps_number(l: Layout, n: u16, p: u16, start: u16, size: usize) -> u16
+    requires { ⌜ InRange l ⌝ }
+    ensures { λ r. ⌜ r ≡ askGaps l n p start size (λ x. x) 0 ⌝ }
+{
+    place_number(l, n, p, start, 0 < size && size % l.width as usize == 0)
 }

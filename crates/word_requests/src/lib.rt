@@ -16,8 +16,8 @@ ghost use Rattle.sequences.specs.Sequence.{follow};
 ghost use Rattle.layout.specs.Words.{Laid, Node, linkWords};
 ghost use Rattle.lists.specs.Decide.{viewOf, sequenceOf};
 ghost use Rattle.spans.specs.Spans.{Gridded};
-ghost use Rattle.requests.specs.Requests.{around, firstFree, memberAt, freeGap, gapAt, siteOf, lookOf};
-ghost use Rattle.requests.specs.Sites.{HeldList, linkIn, gapSite};
+ghost use Rattle.requests.specs.Requests.{around, firstFree, memberAt, freeGap, gapAt, gapsAt, siteOf, lookOf};
+ghost use Rattle.requests.specs.Sites.{HeldList, linkIn, gapSite, nextSite};
 
 // The cell that so many links lead to from cell c; a link is word f of a node.
 fn follow_links(words: &[u16], l: Layout, g: Grid, f: usize, c: usize, n: u16) -> usize
@@ -67,7 +67,7 @@ fn member(words: &[u16], l: Layout, g: Grid, k: u16, n: u16, p: u16) -> Sited
 }
 
 // The first free one of n nodes: from the starting cell on, and on from the first node after the last.
-pub fn free_cell(words: &[u16], l: Layout, g: Grid, start: u16, n: u16) -> Free
+fn free_cell(words: &[u16], l: Layout, g: Grid, start: u16, n: u16) -> Free
     requires { ⌜ Gridded l g × Laid l (now words) × Node l start ⌝ }
     ensures { λ r. ⌜ r ≡ firstFree (viewOf l (now (words .entry)) .ident) (around l start n) ⌝ }
 {
@@ -121,6 +121,42 @@ fn gap(words: &[u16], l: Layout, g: Grid, k: u16, n: u16, p: u16, start: u16, si
     free_gap(words, l, g, k, n, p, start)
 }
 
+// The same for several records, of so many words in all: question 10 is then of the number of free nodes.
+fn gaps(words: &[u16], l: Layout, g: Grid, k: u16, n: u16, p: u16, start: u16, size: usize) -> Sited
+    requires { ⌜ Gridded l g × Laid l (now words) × HeldList l (viewOf l (now words)) k n ⌝ }
+    ensures { λ r. ⌜ r ≡ gapsAt l (viewOf l (now (words .entry)) .ident) k p start size (sequenceOf l (now (words .entry)) k) ⌝ }
+{
+    let refusal = requests::gaps_number(l, n, p, start, size);
+    if refusal != 0 {
+        return Sited::Refused(refusal);
+    }
+    let free = l.nodes as usize - word_walks::used_in(words, l, g) as usize;
+    let width = l.width as usize;
+    if free < size / width {
+        return Sited::Refused(10);
+    }
+    free_gap(words, l, g, k, n, p, start)
+}
+
+// The site of the next of several records, behind the one just inserted at site t. The search goes on behind the cell just used, so all
+// searches together are one turn.
+pub fn next_site(words: &[u16], l: Layout, t: Site) -> Site
+    requires { ⌜ Laid l (now words) × Node l (t .cell) × (t .count ≤ l .nodes) ⌝ }
+    ensures { λ r. ⌜ r ≡ nextSite l (viewOf l (now (words .entry)) .ident) t ⌝ }
+{
+    let g = Grid::of(l);
+    let from = requests::next_cell(l, t.cell);
+    match free_cell(words, l, g, from, l.nodes) {
+        Free::Full => t,
+        Free::Cell(cell) => Site {
+            before: t.cell,
+            cell,
+            after: t.after,
+            count: t.count + 1,
+        },
+    }
+}
+
 // The site that a request gets.
 fn site_of(words: &[u16], l: Layout, q: Request) -> Sited
     requires { ⌜ Laid l (now words) ⌝ }
@@ -150,6 +186,7 @@ fn site_of(words: &[u16], l: Layout, q: Request) -> Sited
         }),
         Request::Member(k, p) => member(words, l, g, k, n, p),
         Request::Gap(k, p, start, size) => gap(words, l, g, k, n, p, start, size),
+        Request::Gaps(k, p, start, size) => gaps(words, l, g, k, n, p, start, size),
     }
 }
 

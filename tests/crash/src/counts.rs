@@ -35,9 +35,9 @@ impl Counts {
     }
 
     /// A kill in a call of so many stores.
-    pub fn note(&mut self, state: &State, call: &Call, whole: u16) {
+    pub fn note(&mut self, state: &State, call: &Call, width: usize, whole: u16) {
         let place = match state {
-            _ if state.lost(call) => &mut self.lost,
+            _ if state.lost(call, width) => &mut self.lost,
             State { torn: Some(_), .. } => &mut self.torn,
             State { made: 0, .. } => &mut self.before,
             State { made, .. } if *made == whole => &mut self.behind,

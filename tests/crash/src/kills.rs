@@ -5,9 +5,8 @@ use crate::log::{Log, CALLS};
 use crate::plain::Plain;
 use crate::process::{kill_me_in, Child};
 use crate::states::states;
-use crate::{in_file, random_call, recovered, same_lists};
+use crate::{in_file, pool, random_call, recovered, same_lists};
 use interface::memory::Mapped;
-use interface::stores::record;
 use interface::{bytes_of, words_of, Call, ENOUGH};
 use model::random::Random;
 use model::store::Shape;
@@ -20,17 +19,18 @@ const KILLS: [(usize, usize, usize, usize, usize); 5] =
 
 /// The child: announces many calls, makes them one after the other, and is killed at a random moment.
 fn work(store: &mut [u8], log: &mut Log, shape: Shape, mut lengths: Vec<usize>, mut random: Random, longest: usize) {
-    let some = record(&mut random, 64);
+    let pool = pool(&mut random);
     let mut calls = vec![];
     for i in 0..CALLS {
-        let call = random_call(&mut random, shape, &lengths);
-        let record = &some[random.below(64)..][..2 * shape.width];
-        log.announce(i, &call, record);
-        let all: usize = lengths.iter().sum();
+        let call = random_call(&mut random, shape, &lengths, &pool);
+        log.announce(i, &call);
+        let (all, number) = (lengths.iter().sum::<usize>(), call.records().len() / 2 / shape.width);
         match call {
-            Call::Insert { list, position, .. } => {
+            Call::Insert { list, position, .. } | Call::InsertSeveral { list, position, .. } => {
                 let length = &mut lengths[usize::from(list)];
-                *length += usize::from(usize::from(position) <= *length && all < shape.nodes);
+                if usize::from(position) <= *length && all + number <= shape.nodes {
+                    *length += number;
+                }
             }
             Call::Delete { list, position } => {
                 let length = &mut lengths[usize::from(list)];
@@ -38,11 +38,11 @@ fn work(store: &mut [u8], log: &mut Log, shape: Shape, mut lengths: Vec<usize>, 
             }
             _ => (),
         }
-        calls.push((call, record));
+        calls.push(call);
     }
     kill_me_in(random.below(1000 * longest));
-    for (i, (call, record)) in calls.iter().enumerate() {
-        log.noted(i, || call.make(store, record, ENOUGH));
+    for (i, call) in calls.iter().enumerate() {
+        log.noted(i, || call.make(store, call.records(), ENOUGH));
     }
     loop {
         std::thread::sleep(Duration::from_secs(1));
@@ -57,7 +57,7 @@ fn killed(counts: &mut Counts, store: &mut Mapped, log: &mut Log, plain: &mut Pl
         Child::doing(|| work(store.bytes(), log, shape, lengths, random, longest))
     };
     counts.holds(child.killed(), || "a child was not killed".into());
-    let mut calls = log.calls(plain.shape.width);
+    let mut calls = log.calls();
     let interrupted = if matches!(calls.last(), Some((_, None))) { calls.pop() } else { None };
     counts.calls += calls.len();
     let wrong = calls.iter().find(|(call, answer)| *answer != Some(plain.make(call)));
@@ -75,7 +75,7 @@ fn killed(counts: &mut Counts, store: &mut Mapped, log: &mut Log, plain: &mut Pl
             let found = possible.iter().find(|state| state.bytes == store);
             counts.holds(found.is_some(), || format!("no state that a kill may leave: {call:?}"));
             found.map_or(false, |state| {
-                counts.note(state, &call, possible[possible.len() - 1].made);
+                counts.note(state, &call, plain.shape.width, possible[possible.len() - 1].made);
                 recovered(counts, store, plain, &call, state)
             })
         }

@@ -1,6 +1,7 @@
 //! The log of a child's calls, in memory that its parent reads after the kill: the arguments of each call, whether it has begun, and
 //! its answer when it has returned.
 
+use crate::MOST_RECORDS;
 use interface::memory::Mapped;
 use interface::Call;
 use std::sync::atomic::{AtomicU32, Ordering::AcqRel, Ordering::Acquire, Ordering::Release};
@@ -8,18 +9,22 @@ use std::sync::atomic::{AtomicU32, Ordering::AcqRel, Ordering::Acquire, Ordering
 /// The most calls of a log.
 pub const CALLS: usize = 1 << 13;
 
-const RECORD: usize = 26;
+/// The most bytes of a call's records.
+const RECORDS: usize = MOST_RECORDS * 26;
 
 #[repr(C)]
 struct Entry {
     /// 0, or 1 once the call has begun, or 2 once the answer is written.
     state: AtomicU32,
     answer: AtomicU32,
-    inserting: u16,
+    /// 0 for a delete, 1 for an insert, 2 for an insert of several records.
+    kind: u16,
     list: u16,
     position: u16,
     start: u16,
-    record: [u8; RECORD],
+    /// The bytes of the records, and their number.
+    records: [u8; RECORDS],
+    size: u16,
 }
 
 pub struct Log(Mapped);
@@ -40,16 +45,17 @@ impl Log {
     }
 
     /// By the child: the arguments of call `i`, before it is made.
-    pub fn announce(&mut self, i: usize, call: &Call, record: &[u8]) {
+    pub fn announce(&mut self, i: usize, call: &Call) {
         let entry = &mut self.entries()[i];
-        match *call {
-            Call::Insert { list, position, start, .. } => {
-                (entry.inserting, entry.list, entry.position, entry.start) = (1, list, position, start);
-                entry.record[..record.len()].copy_from_slice(record);
-            }
-            Call::Delete { list, position } => (entry.inserting, entry.list, entry.position) = (0, list, position),
-            _ => (),
-        }
+        (entry.kind, entry.list, entry.position, entry.start) = match *call {
+            Call::Insert { list, position, start, .. } => (1, list, position, start),
+            Call::InsertSeveral { list, position, start, .. } => (2, list, position, start),
+            Call::Delete { list, position } => (0, list, position, 0),
+            _ => unreachable!("a child inserts and deletes"),
+        };
+        let size = call.records().len();
+        entry.records[..size].copy_from_slice(call.records());
+        entry.size = size as u16;
     }
 
     /// By the child: makes call `i`, noted before and after.
@@ -68,7 +74,7 @@ impl Log {
     }
 
     /// By the parent: the calls, each with its answer. The last may have none.
-    pub fn calls(&mut self, width: usize) -> Vec<(Call, Option<u32>)> {
+    pub fn calls(&mut self) -> Vec<(Call, Option<u32>)> {
         let mut calls = vec![];
         for entry in self.entries().iter() {
             let state = entry.state.load(Acquire);
@@ -76,8 +82,10 @@ impl Log {
                 break;
             }
             let Entry { list, position, start, .. } = *entry;
-            let call = match entry.inserting {
-                1 => Call::Insert { list, position, start, record: entry.record[..2 * width].to_vec() },
+            let records = entry.records[..entry.size.into()].to_vec();
+            let call = match entry.kind {
+                1 => Call::Insert { list, position, start, record: records },
+                2 => Call::InsertSeveral { list, position, start, records },
                 _ => Call::Delete { list, position },
             };
             calls.push((call, (state == 2).then(|| entry.answer.load(Acquire))));

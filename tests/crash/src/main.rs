@@ -13,21 +13,36 @@ mod steps;
 
 use counts::Counts;
 use interface::memory::Mapped;
+use interface::stores::record;
 use interface::{bytes_of, words_of, Call, ENOUGH};
 use model::random::Random;
 use model::store::{self, Shape};
 use plain::Plain;
-use states::{central, State};
+use states::State;
 use std::os::unix::io::AsRawFd;
 
-/// A random insert or delete. A few are refused: beyond the list's end, or with no node free.
-pub fn random_call(random: &mut Random, shape: Shape, lengths: &[usize]) -> Call {
+/// The most records of a call.
+pub const MOST_RECORDS: usize = 4;
+
+/// Random bytes to take records from.
+pub fn pool(random: &mut Random) -> Vec<u8> {
+    record(random, 32 + MOST_RECORDS * 13)
+}
+
+/// A random insert, of one record or several, or delete. A few are refused: beyond the list's end, or with too few nodes free.
+pub fn random_call(random: &mut Random, shape: Shape, lengths: &[usize], pool: &[u8]) -> Call {
     let list = random.below(shape.lists);
     let all: usize = lengths.iter().sum();
     let (beyond, list_number) = (usize::from(random.below(50) == 0), list as u16);
     if lengths[list] == 0 || random.below(shape.nodes + 1) >= all {
         let (position, start) = (random.between(0, lengths[list]) + beyond, shape.lists + random.below(shape.nodes));
-        return Call::Insert { list: list_number, position: position as u16, start: start as u16, record: vec![] };
+        let (list, position, start) = (list_number, position as u16, start as u16);
+        let (from, number) = (random.below(64), random.between(0, MOST_RECORDS));
+        let records = pool[from..][..2 * shape.width * number.max(1)].to_vec();
+        return match number {
+            0 => Call::Insert { list, position, start, record: records },
+            _ => Call::InsertSeveral { list, position, start, records },
+        };
     }
     let position = if beyond == 1 { lengths[list] } else { random.below(lengths[list]) };
     Call::Delete { list: list_number, position: position as u16 }
@@ -49,14 +64,14 @@ pub fn recovered(counts: &mut Counts, store: &mut [u8], plain: &mut Plain, call:
     let (expected, left) = Call::Recover.expected(store, ENOUGH);
     let answer = Call::Recover.make(store, &[], ENOUGH);
     counts.holds(answer == expected && store == left, || format!("recover: answer {answer}, not {expected}; {state:?}"));
-    counts.holds((answer == 11) == state.lost(call), || format!("recover: answer {answer}; {call:?}, {state:?}"));
-    if let (11, Some(low)) = (answer, state.torn) {
-        store[low] = bytes_of(&plain.words)[low];
+    counts.holds((answer == 11) == state.lost(call, plain.shape.width), || {
+        format!("recover: answer {answer}; {call:?}, {state:?}")
+    });
+    if let (11, Some((low, byte))) = (answer, state.torn) {
+        store[low] = byte;
         Call::Recover.make(store, &[], ENOUGH);
     }
-    if state.made >= central(call) {
-        plain.make(call);
-    }
+    plain.make_first(call, call.due(plain.shape.width, state.made));
     plain.words = words_of(store);
     let sound = Call::Check.make(store, &[], 0);
     let due = sound == 0 && same_lists(store, plain);

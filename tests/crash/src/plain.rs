@@ -40,9 +40,19 @@ impl Plain {
 
     /// Makes the call whole, and says its answer.
     pub fn make(&mut self, call: &Call) -> u32 {
+        self.make_first(call, u16::MAX)
+    }
+
+    /// Makes the first stores of the call, so many: none, all, or of an insert of several records all of the first records.
+    pub fn make_first(&mut self, call: &Call, stores: u16) -> u32 {
+        let records = usize::from(stores) / (self.shape.width + 6);
         match *call {
+            _ if stores == 0 => DONE,
             Call::Insert { list, position, start, ref record } => {
                 self.insert(list.into(), position.into(), start.into(), words_of(record))
+            }
+            Call::InsertSeveral { list, position, start, records: ref all } => {
+                self.insert_several(list.into(), position.into(), start.into(), words_of(all), records)
             }
             Call::Delete { list, position } => self.delete(list.into(), position.into()),
             _ => unreachable!("a child inserts and deletes"),
@@ -70,6 +80,23 @@ impl Plain {
             (shape.cell(b) + 2, cell as u16),
         ]);
         DONE + shape.width as u32 + 6
+    }
+
+    /// Inserts the first records, so many at most.
+    fn insert_several(&mut self, list: usize, position: usize, start: usize, all: Vec<u16>, most: usize) -> u32 {
+        let (width, nodes) = (self.shape.width, self.shape.node_cells());
+        if position > self.lists[list].len() {
+            return 7;
+        }
+        if self.lengths().iter().sum::<usize>() + all.len() / width > self.shape.nodes {
+            return 10;
+        }
+        let mut start = start;
+        for (i, record) in all.chunks(width).take(most).enumerate() {
+            self.insert(list, position + i, start, record.to_vec());
+            start = nodes.start + (self.lists[list][position + i].0 + 1 - nodes.start) % self.shape.nodes;
+        }
+        DONE + (all.len() / width * (width + 6)) as u32
     }
 
     fn delete(&mut self, list: usize, position: usize) -> u32 {

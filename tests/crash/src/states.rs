@@ -6,7 +6,7 @@
 //! word with the second, so there a word is never torn; a file mapping takes each byte at once.)
 //!
 //! No word is torn: a cut, as specified. Recovery leaves the list without the call if j is below the number of the central store,
-//! else with it.
+//! else with it. An insert of several records is one insert after the other: it leaves the records whose central store was made.
 //!
 //! Word j + 1 is torn, and is neither the old nor the new value: one wrong word more than specified, in the list of the call. By
 //! place of the word, for a call between the members a and b:
@@ -33,8 +33,8 @@ pub struct State {
     pub bytes: Vec<u8>,
     /// The number of whole word stores that were made.
     pub made: u16,
-    /// The place of the byte that alone was stored of the next.
-    pub torn: Option<usize>,
+    /// The place of the byte that alone was stored of the next, and what it was before.
+    pub torn: Option<(usize, u8)>,
 }
 
 /// All states in their order. A word is torn only if both its bytes change. A store of an equal value gives the same bytes again.
@@ -49,26 +49,18 @@ pub fn states(before: &[u16], call: &Call) -> Vec<State> {
         let changed: Vec<usize> = (0..bytes.len()).filter(|&i| bytes[i] != last[i]).collect();
         if let [low, high] = changed[..] {
             assert!(low % 2 == 0 && high == low + 1, "a store changes one word");
-            let mut torn = last;
+            let mut torn = last.clone();
             torn[low] = bytes[low];
-            states.push(State { bytes: torn, made: made - 1, torn: Some(low) });
+            states.push(State { bytes: torn, made: made - 1, torn: Some((low, last[low])) });
         }
         states.push(State { bytes, made, torn: None });
     }
     states
 }
 
-/// The number of the central store.
-pub fn central(call: &Call) -> u16 {
-    match call {
-        Call::Insert { record, .. } => record.len() as u16 / 2 + 5,
-        _ => 2,
-    }
-}
-
 impl State {
-    /// Does recovery refuse it?
-    pub fn lost(&self, call: &Call) -> bool {
-        self.torn.is_some() && self.made + 1 == central(call)
+    /// Does recovery refuse it? The torn store is a central one: with it more of the call counts as made.
+    pub fn lost(&self, call: &Call, width: usize) -> bool {
+        self.torn.is_some() && call.due(width, self.made + 1) > call.due(width, self.made)
     }
 }

@@ -5,7 +5,7 @@ use crate::log::Log;
 use crate::plain::Plain;
 use crate::process::Child;
 use crate::states::{states, State};
-use crate::{in_file, random_call, recovered};
+use crate::{in_file, pool, random_call, recovered};
 use interface::memory::Mapped;
 use interface::stores::record;
 use interface::{bytes_of, words_of, Call, ENOUGH};
@@ -30,8 +30,7 @@ fn stepped(
     let possible = states(before, call);
     store.bytes().copy_from_slice(&bytes_of(before));
     log.clear();
-    let record = if let Call::Insert { record, .. } = call { record.clone() } else { vec![] };
-    let child = Child::stepping(|| log.noted(0, || call.make(store.bytes(), &record, ENOUGH)))?;
+    let child = Child::stepping(|| log.noted(0, || call.make(store.bytes(), call.records(), ENOUGH)))?;
     let (mut at, mut met, mut steps) = (0, vec![possible[0].clone()], 0);
     while !log.first().1 && child.step() {
         steps += usize::from(log.first().0);
@@ -62,10 +61,10 @@ fn step_call(
     let (mut steps, met) = stepped(counts, store, log, &plain.words, call)?;
     let whole = met.last().expect("a state").made;
     for (i, state) in met.iter().enumerate() {
-        counts.note(state, call, whole);
+        counts.note(state, call, plain.shape.width, whole);
         let (mut bytes, mut after) = (state.bytes.clone(), plain.clone());
         recovered(counts, &mut bytes, &mut after, call, state);
-        if i % STRIDE == turn % STRIDE && !state.lost(call) {
+        if i % STRIDE == turn % STRIDE && !state.lost(call, plain.shape.width) {
             let (more, cuts) = stepped(counts, store, log, &words_of(&state.bytes), &Call::Recover)?;
             steps += more;
             for cut in &cuts {
@@ -85,13 +84,10 @@ fn recovered_again(counts: &mut Counts, cut: &State, last: &[u8]) {
     counts.holds(answer == expected && bytes == left && due, || format!("recovery cut, then {answer}: {cut:?}"));
 }
 
-/// A random call with its record.
-fn whole_call(random: &mut Random, plain: &Plain) -> Call {
-    let mut call = random_call(random, plain.shape, &plain.lengths());
-    if let Call::Insert { record: words, .. } = &mut call {
-        *words = record(random, plain.shape.width);
-    }
-    call
+/// A random call on what the store holds.
+fn next_call(random: &mut Random, plain: &Plain) -> Call {
+    let pool = pool(random);
+    random_call(random, plain.shape, &plain.lengths(), &pool)
 }
 
 /// Inserts records at random until there are so many.
@@ -112,7 +108,7 @@ pub fn steps(counts: &mut Counts, random: &mut Random) {
         let (mut here, mut instructions) = (Counts::default(), 0);
         fill(&mut plain, random, nodes * 7 / 8);
         for turn in 0..calls {
-            let call = whole_call(random, &plain);
+            let call = next_call(random, &plain);
             match step_call(&mut here, &mut store, &mut log, &plain, &call, turn) {
                 Some(steps) => instructions += steps,
                 None => return println!("calls are not stepped: the system does not allow it"),
@@ -131,11 +127,11 @@ pub fn enumerated(counts: &mut Counts, random: &mut Random) {
         let mut here = Counts::default();
         fill(&mut plain, random, records);
         for _ in 0..calls {
-            let call = whole_call(random, &plain);
+            let call = next_call(random, &plain);
             let possible = states(&plain.words, &call);
             let whole = possible.last().expect("a state").made;
             for state in &possible {
-                here.note(state, &call, whole);
+                here.note(state, &call, width, whole);
                 recovered(&mut here, &mut state.bytes.clone(), &mut plain.clone(), &call, state);
             }
             plain.make(&call);

@@ -121,6 +121,38 @@ pub fn records(t: &mut Tests) {
     }
 }
 
+/// Sound stores: every number of records up to one more than nodes are free, at every allowance; each cut is recovered. One record as
+/// by insert. Numbers of bytes that are no multiple.
+pub fn several_records(t: &mut Tests) {
+    for turn in 0..40 {
+        let shape = t.shape(if turn % 4 == 0 { 9 } else { 4 });
+        let (lists, words) = t.sound_store(shape);
+        let bytes = bytes_of(&words);
+        let list = t.random.below(shape.lists);
+        let (position, start) = (t.random.between(0, lists[list].len()) as u16, t.random.below(shape.nodes));
+        let (list, start) = (list as u16, (shape.lists + start) as u16);
+        for number in 1..=shape.nodes - lists.concat().len() + 1 {
+            let records = record(&mut t.random, number * shape.width);
+            let several = InsertSeveral { list, position, start, records: records.clone() };
+            for allowance in 0..several.whole(shape.width) + 2 {
+                let (answer, cut) = t.call(&bytes, &several, allowance);
+                if answer >= STOPPED {
+                    t.at_each_allowance(&cut, &Recover);
+                }
+                if number == 1 {
+                    let single = t.call(&bytes, &Insert { list, position, start, record: records.clone() }, allowance);
+                    t.holds(single == (answer, cut), || format!("one of several on {words:?}"));
+                }
+            }
+        }
+        for len in 0..=4 * shape.width + 3 {
+            let mut records = record(&mut t.random, 2 * shape.width + 2);
+            records.truncate(len);
+            t.at_each_allowance(&bytes, &InsertSeveral { list, position, start, records });
+        }
+    }
+}
+
 /// Sound stores with some words altered, from one to nearly all.
 pub fn damaged_stores(t: &mut Tests) {
     for turn in 0..2000 {
@@ -232,6 +264,12 @@ pub fn largest(t: &mut Tests) {
             t.call(&bytes_of(&words), &Check, 0);
             t.call(&bytes_of(&words), &Recover, ENOUGH);
         }
+    }
+    let empty = bytes_of(&store_of(shape, &vec![vec![]; 8], || 0));
+    for (records, allowance) in [(2001, ENOUGH), (2000, ENOUGH), (2000, 20_000), (2000, 37_999)] {
+        let records = record(&mut t.random, 13 * records);
+        let (_, left) = t.call(&empty, &InsertSeveral { list: 2, position: 0, start: 1500, records }, allowance);
+        t.call(&left, &Recover, ENOUGH);
     }
     let mut words = store_of(shape, &vec![vec![]; 8], || 0);
     for list in 0..8 {

@@ -30,7 +30,7 @@ impl Tests {
         Tests {
             random: Random::new(seed),
             store: Block::new(MOST_BYTES),
-            record: Block::new(64),
+            record: Block::new(MOST_BYTES),
             turn: 0,
             passed: 0,
             failed: 0,
@@ -52,7 +52,7 @@ impl Tests {
 
     /// Makes the call on these bytes and holds it against the model. Gives its answer and the bytes that it left.
     pub fn call(&mut self, bytes: &[u8], call: &Call, allowance: u16) -> (u32, Vec<u8>) {
-        let record: &[u8] = if let Insert { record, .. } = call { record } else { &[] };
+        let record = call.records();
         self.turn += 1;
         self.store.put(bytes, self.turn);
         self.record.put(record, self.turn / 3);
@@ -71,7 +71,7 @@ impl Tests {
     /// At every allowance up to one above the number of stores, and with enough. Gives the bytes left then.
     pub fn at_each_allowance(&mut self, bytes: &[u8], call: &Call) -> Vec<u8> {
         let (answer, left) = self.call(bytes, call, ENOUGH);
-        let stores = matches!(call, Insert { .. } | Delete { .. } | Recover);
+        let stores = matches!(call, Insert { .. } | InsertSeveral { .. } | Delete { .. } | Recover);
         let whole = if stores && answer >= DONE { answer as u16 } else { 0 };
         for allowance in 0..=if stores { whole + 1 } else { 0 } {
             self.call(bytes, call, allowance);
@@ -79,7 +79,7 @@ impl Tests {
         left
     }
 
-    /// Check, length, insert, delete and recover at every allowance: for each list and one beyond, at random and wrong places.
+    /// Check, length, the inserts, delete and recover at every allowance: for each list and one beyond, at random and wrong places.
     pub fn all_calls(&mut self, bytes: &[u8], shape: Shape) {
         self.call(bytes, &Check, 0);
         self.at_each_allowance(bytes, &Recover);
@@ -91,11 +91,20 @@ impl Tests {
             }
             let starts = [shape.lists - 1, shape.lists + shape.nodes, shape.lists + self.random.below(shape.nodes)];
             let start = if self.random.below(8) == 0 { self.random.pick(&starts) } else { starts[2] } as u16;
-            let width = if self.random.below(8) == 0 { self.random.between(0, 14) } else { shape.width };
-            let mut record = record(&mut self.random, width);
-            record.truncate(record.len() - usize::from(self.random.below(16) == 0 && width > 0));
+            let record = self.records(shape, 1);
             self.at_each_allowance(bytes, &Insert { list, position: length, start, record });
+            let number = self.random.between(1, 3);
+            let records = self.records(shape, number);
+            self.at_each_allowance(bytes, &InsertSeveral { list, position: length, start, records });
         }
+    }
+
+    /// The bytes of so many records; a few have another width, or lack a byte.
+    fn records(&mut self, shape: Shape, number: usize) -> Vec<u8> {
+        let width = if self.random.below(8) == 0 { self.random.between(0, 14) } else { shape.width };
+        let mut records = record(&mut self.random, width * number);
+        records.truncate(records.len() - usize::from(self.random.below(16) == 0 && width > 0));
+        records
     }
 
     pub fn shape(&mut self, nodes: usize) -> Shape {

@@ -1,31 +1,34 @@
-//! Courses: an insert or delete, alterations in the lists that it does not name, recoveries.
+//! Courses: an insert, of one record or several, or a delete, alterations in the lists that it does not name, recoveries.
 
 use crate::checks::Tests;
 use interface::stores::{alteration, deal, edit, sound};
-use interface::{answer_of, bytes_of, words_of, Call, Call::*, DONE, ENOUGH};
+use interface::{answer_of, bytes_of, words_of, Call, Call::*, ENOUGH};
 use model::recovery::Course;
-use model::store::{store_of, Answer, Shape, IDENTIFIER};
+use model::store::{open, store_of, Answer, Shape, IDENTIFIER};
 use std::panic::{catch_unwind, AssertUnwindSafe};
+
+/// The list of the call that a course begins with.
+fn named(call: &Call) -> u16 {
+    match *call {
+        Insert { list, .. } | InsertSeveral { list, .. } | Delete { list, .. } => list,
+        _ => unreachable!("a course begins with an insert or delete"),
+    }
+}
 
 impl Tests {
     /// One insert or delete on a sound store, cut; then these alterations, at most one in each list that it does not name; then
     /// recoveries with these allowances, and a whole one. It must end as `Course` says.
     fn course(&mut self, sound: &[u16], call: &Call, allowance: u16, altered: &[(usize, u16)], recoveries: &[u16]) {
         self.courses += 1;
-        let (named, central) = match call {
-            Insert { list, record, .. } => (*list, record.len() as u16 / 2 + 5),
-            Delete { list, .. } => (*list, 2),
-            _ => unreachable!("a course begins with an insert or delete"),
-        };
         let bytes = bytes_of(sound);
-        let new = words_of(&call.expected(&bytes, ENOUGH).1);
-        let (answer, left) = self.call(&bytes, call, allowance);
+        let width = open(sound).expect("a store").width;
+        let new = words_of(&call.expected(&bytes, call.due(width, allowance)).1);
+        let (_, left) = self.call(&bytes, call, allowance);
         let mut found = words_of(&left);
         for &(at, value) in altered {
             found[at] = value;
         }
-        let made = (answer >= DONE && allowance >= central).then_some(&new[..]);
-        let mut course = Course::new(sound, named, made, &found);
+        let mut course = Course::new(sound, named(call), &new, &found);
         let mut bytes = bytes_of(&found);
         let mut answers = vec![];
         for &allowance in recoveries.iter().chain(&[ENOUGH]) {
@@ -44,12 +47,8 @@ impl Tests {
 
     /// A random course that begins so.
     fn random_course(&mut self, shape: Shape, sound: &[u16], lists: &[Vec<usize>], call: &Call, allowance: usize) {
-        let named = match *call {
-            Insert { list, .. } | Delete { list, .. } => list,
-            _ => return,
-        };
         let mut altered = vec![];
-        for (list, sequence) in lists.iter().enumerate().filter(|&(list, _)| list != usize::from(named)) {
+        for (list, sequence) in lists.iter().enumerate().filter(|&(list, _)| list != usize::from(named(call))) {
             if self.random.below(5) > 0 {
                 let cell = [&[list][..], sequence].concat()[self.random.below(sequence.len() + 1)];
                 altered.push(alteration(&mut self.random, shape, sound, cell));
@@ -63,8 +62,8 @@ impl Tests {
     fn courses(&mut self, shape: Shape, lists: &[Vec<usize>], edits: usize, everywhere: bool) {
         let sound = sound(&mut self.random, shape, lists);
         for turn in 0..edits {
-            let call = edit(&mut self.random, shape, lists, turn % 2 == 0);
-            let whole = if turn % 2 == 0 { shape.width + 6 } else { 4 };
+            let call = edit(&mut self.random, shape, lists, turn);
+            let whole = usize::from(call.whole(shape.width));
             let some = vec![self.random.below(whole), whole - 1 - turn % 3, self.random.between(0, whole)];
             for allowance in if everywhere { (0..=whole).collect() } else { some } {
                 self.random_course(shape, &sound, lists, &call, allowance);
@@ -90,9 +89,13 @@ pub fn every_course(t: &mut Tests) {
             let mut places: Vec<usize> = (0..4).map(|i| shape.cell(1 - list) + i).collect();
             places.extend(lists[1 - list].iter().flat_map(|&cell| (0..3).map(move |i| shape.cell(cell) + i)));
             for position in 0..=lists[list].len() as u16 {
-                let (list, record) = (list as u16, vec![1, 2]);
-                for call in [Insert { list, position, start: b as u16, record }, Delete { list, position }] {
-                    for allowance in 0..=7 {
+                let (list, start) = (list as u16, b as u16);
+                for call in [
+                    Insert { list, position, start, record: vec![1, 2] },
+                    InsertSeveral { list, position, start, records: vec![1, 2, 3, 4] },
+                    Delete { list, position },
+                ] {
+                    for allowance in 0..=call.whole(1) {
                         for (at, value) in places.iter().flat_map(|&at| values.map(|value| (at, value))) {
                             for cut in 0..3 {
                                 t.course(&sound, &call, allowance, &[(at, value)], &[cut]);
@@ -111,7 +114,7 @@ pub fn small_courses(t: &mut Tests) {
         let shape = t.shape(if turn % 2 == 0 { 4 } else { 12 });
         let used = t.random.between(0, shape.nodes);
         let lists = deal(&mut t.random, shape, used);
-        t.courses(shape, &lists, 4, true);
+        t.courses(shape, &lists, 6, true);
     }
 }
 

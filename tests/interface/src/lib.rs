@@ -5,7 +5,7 @@
 pub mod memory;
 pub mod stores;
 
-use model::recovery::recover;
+use model::recovery::{due_of_delete, due_of_insert, recover};
 use model::store::{self, Answer};
 
 mod c {
@@ -23,6 +23,16 @@ mod c {
             record_len: usize,
             allowance: u16,
         ) -> u32;
+        pub fn axle_insert_several(
+            store: *mut u8,
+            store_len: usize,
+            list: u16,
+            position: u16,
+            start: u16,
+            records: *const u8,
+            records_len: usize,
+            allowance: u16,
+        ) -> u32;
         pub fn axle_delete(store: *mut u8, store_len: usize, list: u16, position: u16, allowance: u16) -> u32;
         pub fn axle_recover(store: *mut u8, store_len: usize, allowance: u16) -> u32;
     }
@@ -34,13 +44,14 @@ pub const ENOUGH: u16 = 65_535;
 pub const DONE: u32 = 65_536;
 pub const STOPPED: u32 = 131_072;
 
-/// A call but for the store and the allowance. A record is given in bytes.
+/// A call but for the store and the allowance. Records are given in bytes.
 #[derive(Clone, Debug, PartialEq, Eq)]
 pub enum Call {
     Format { lists: u16, nodes: u16, width: u16 },
     Check,
     Length { list: u16 },
     Insert { list: u16, position: u16, start: u16, record: Vec<u8> },
+    InsertSeveral { list: u16, position: u16, start: u16, records: Vec<u8> },
     Delete { list: u16, position: u16 },
     Recover,
 }
@@ -54,15 +65,45 @@ impl Call {
             Check => "check",
             Length { .. } => "length",
             Insert { .. } => "insert",
+            InsertSeveral { .. } => "insert_several",
             Delete { .. } => "delete",
             Recover => "recover",
         }
     }
 
-    /// Makes the call. No bytes are lent as NULL. `record` holds the bytes of an insert's record.
-    pub fn make(&self, store: &mut [u8], record: &[u8], allowance: u16) -> u32 {
+    /// The bytes of its records.
+    pub fn records(&self) -> &[u8] {
+        match self {
+            Insert { record, .. } => record,
+            InsertSeveral { records, .. } => records,
+            _ => &[],
+        }
+    }
+
+    /// The stores of an insert or delete that is not refused.
+    pub fn whole(&self, width: usize) -> u16 {
+        let records = self.records().len() / 2 / width;
+        if let Delete { .. } = self {
+            4
+        } else {
+            (records * (width + 6)) as u16
+        }
+    }
+
+    /// The stores of an insert or delete that count as made if it is cut after so many.
+    pub fn due(&self, width: usize, made: u16) -> u16 {
+        if let Delete { .. } = self {
+            due_of_delete(made)
+        } else {
+            due_of_insert(width, made).min(self.whole(width))
+        }
+    }
+
+    /// Makes the call. No bytes are lent as NULL. `records` holds the bytes of an insert's records.
+    pub fn make(&self, store: &mut [u8], records: &[u8], allowance: u16) -> u32 {
         let len = store.len();
         let at = if len == 0 { std::ptr::null_mut() } else { store.as_mut_ptr() };
+        let (from, size) = (if records.is_empty() { std::ptr::null() } else { records.as_ptr() }, records.len());
         // Each pointer and length are those of a slice, or NULL and 0; the calls read and write nothing else.
         unsafe {
             match *self {
@@ -70,8 +111,10 @@ impl Call {
                 Check => c::axle_check(at, len),
                 Length { list } => c::axle_length(at, len, list),
                 Insert { list, position, start, .. } => {
-                    let from = if record.is_empty() { std::ptr::null() } else { record.as_ptr() };
-                    c::axle_insert(at, len, list, position, start, from, record.len(), allowance)
+                    c::axle_insert(at, len, list, position, start, from, size, allowance)
+                }
+                InsertSeveral { list, position, start, .. } => {
+                    c::axle_insert_several(at, len, list, position, start, from, size, allowance)
                 }
                 Delete { list, position } => c::axle_delete(at, len, list, position, allowance),
                 Recover => c::axle_recover(at, len, allowance),
@@ -85,14 +128,17 @@ impl Call {
             return (4, store.to_vec());
         }
         let mut words = words_of(store);
+        // No record of a store is empty: records of no words are answered as those of an odd number of bytes.
+        let records = if self.records().len() % 2 == 1 { vec![] } else { words_of(self.records()) };
         let answer = match *self {
             Format { lists, nodes, width } => store::format(&mut words, lists, nodes, width).into(),
             Check => store::check(&words).into(),
             Length { list } => store::length(&words, list).map_or_else(u32::from, |n| DONE + u32::from(n)),
-            Insert { list, position, start, ref record } => {
-                // No record of a store is empty: a record of no words is answered as one of an odd number of bytes.
-                let record = if record.len() % 2 == 1 { vec![] } else { words_of(record) };
-                number_of(store::insert(&mut words, list, position, start, &record, allowance))
+            Insert { list, position, start, .. } => {
+                number_of(store::insert(&mut words, list, position, start, &records, allowance))
+            }
+            InsertSeveral { list, position, start, .. } => {
+                number_of(store::insert_several(&mut words, list, position, start, &records, allowance))
             }
             Delete { list, position } => number_of(store::delete(&mut words, list, position, allowance)),
             Recover => number_of(recover(&mut words, allowance)),

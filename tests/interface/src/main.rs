@@ -10,11 +10,12 @@ use interface::{DONE, STOPPED};
 use std::time::Instant;
 
 /// The answers that each call can give: refusals, then whether it can be done, and stopped.
-const ANSWERS: [(&str, &[u32], bool, bool); 6] = [
+const ANSWERS: [(&str, &[u32], bool, bool); 7] = [
     ("format", &[0, 3, 4], false, false),
     ("check", &[0, 1, 2, 3, 4, 6], false, false),
     ("length", &[1, 2, 3, 4, 5, 6], true, false),
     ("insert", &[1, 2, 3, 4, 5, 6, 7, 8, 9, 10], true, true),
+    ("insert_several", &[1, 2, 3, 4, 5, 6, 7, 8, 9, 10], true, true),
     ("delete", &[1, 2, 3, 4, 5, 6, 7], true, true),
     ("recover", &[1, 2, 3, 4, 11, 12], true, true),
 ];
@@ -45,13 +46,14 @@ type Part = (&'static str, fn(&mut Tests));
 
 fn main() {
     let mut t = Tests::new(1201);
-    let parts: [Part; 15] = [
+    let parts: [Part; 16] = [
         ("lengths", calls::lengths),
         ("heads", calls::heads),
         ("formats", calls::formats),
         ("smallest stores", calls::smallest_stores),
         ("sound stores", calls::sound_stores),
         ("records", calls::records),
+        ("several records", calls::several_records),
         ("damaged stores", calls::damaged_stores),
         ("two sequences", calls::two_sequences),
         ("garbage", calls::garbage),

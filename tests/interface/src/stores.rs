@@ -46,14 +46,20 @@ pub fn record(random: &mut Random, width: usize) -> Vec<u8> {
     bytes_of(&(0..width).map(|_| random.word()).collect::<Vec<_>>())
 }
 
-/// An insert or delete that is not refused, but if it must: no node is free, or every list is empty.
-pub fn edit(random: &mut Random, shape: Shape, lists: &[Vec<usize>], insert: bool) -> Call {
+/// By turns an insert, a delete and an insert of some records. It is not refused, but if it must: no node is free, or every list is
+/// empty.
+pub fn edit(random: &mut Random, shape: Shape, lists: &[Vec<usize>], turn: usize) -> Call {
     let list = random.below(shape.lists);
-    let length = lists[list].len();
-    if insert {
-        let (position, start) = (random.between(0, length), shape.lists + random.below(shape.nodes));
-        let record = record(random, shape.width);
-        return Call::Insert { list: list as u16, position: position as u16, start: start as u16, record };
+    if turn % 3 != 1 {
+        let (position, start) = (random.between(0, lists[list].len()), shape.lists + random.below(shape.nodes));
+        let (list, position, start) = (list as u16, position as u16, start as u16);
+        if turn % 3 == 0 {
+            return Call::Insert { list, position, start, record: record(random, shape.width) };
+        }
+        let free = shape.nodes - lists.concat().len();
+        let number = random.between(1, free.clamp(1, 4));
+        let records = record(random, number * shape.width);
+        return Call::InsertSeveral { list, position, start, records };
     }
     let filled: Vec<usize> = (0..shape.lists).filter(|&k| !lists[k].is_empty()).collect();
     let list = if filled.is_empty() { list } else { random.pick(&filled) };

@@ -1,7 +1,7 @@
 //! All courses of one call on a small store: every cut of the call, every word of the cells altered to each of some values, every
 //! cut of a first and of a second recovery, then a whole one.
 
-use crate::recovery::{recover_plan, Course};
+use crate::recovery::{due_of_delete, due_of_insert, recover_plan, Course};
 use crate::store::{self, delete, insert, make, open, Answer, WordStore};
 use std::collections::HashMap;
 
@@ -52,11 +52,11 @@ impl Call {
         }
     }
 
-    fn central(self) -> u16 {
-        if self.start == 0 {
-            2
-        } else {
-            6
+    /// The stores that count as made if it is cut after so many.
+    fn due(self, allowance: u16) -> u16 {
+        match self.start {
+            0 => due_of_delete(allowance),
+            _ => due_of_insert(1, allowance),
         }
     }
 }
@@ -107,15 +107,7 @@ fn alterable(words: &[u16]) -> Option<Vec<Vec<usize>>> {
 
 impl Courses {
     /// The course from the words found, if the alterations are those that a course may have.
-    fn course(
-        &self,
-        sound: &[u16],
-        lists: &[Vec<usize>],
-        cut: &[u16],
-        found: &[u16],
-        answer: Answer,
-        allowance: u16,
-    ) -> Option<Course> {
+    fn course(&self, sound: &[u16], lists: &[Vec<usize>], cut: &[u16], found: &[u16], allowance: u16) -> Option<Course> {
         let altered: Vec<usize> = (0..cut.len()).filter(|&i| cut[i] != found[i]).collect();
         let list_of = |at: usize| lists.iter().position(|places| places.contains(&at));
         let hit: Option<Vec<usize>> = altered.into_iter().map(list_of).collect();
@@ -126,10 +118,8 @@ impl Courses {
             return None;
         }
         let mut new = sound.to_vec();
-        self.call.run(&mut new, ENOUGH);
-        let refused = matches!(answer, Answer::Refused(_));
-        let made = (!refused && allowance >= self.call.central()).then_some(&new[..]);
-        Some(Course::new(sound, self.call.list, made, found))
+        self.call.run(&mut new, self.call.due(allowance));
+        Some(Course::new(sound, self.call.list, &new, found))
     }
 
     /// All courses on the words, which stay as they are.
@@ -148,7 +138,7 @@ impl Courses {
                     }
                     found[at] = value;
                     told.digest.mix_answer(answer);
-                    let course = lists.as_ref().and_then(|lists| self.course(words, lists, &cut, &found, answer, allowance));
+                    let course = lists.as_ref().and_then(|lists| self.course(words, lists, &cut, &found, allowance));
                     recoveries(&mut told, &mut plans, &found, course);
                 }
             }

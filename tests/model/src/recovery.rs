@@ -104,6 +104,22 @@ pub fn recover(words: &mut [u16], allowance: u16) -> Answer {
     answer
 }
 
+/// The stores of an insert, of one record or several, that count as made if it is cut after so many: all of each record whose central
+/// store was made. Record i has the stores from i × (P + 6) on, and its central one is the fifth behind its P words.
+pub fn due_of_insert(width: usize, allowance: u16) -> u16 {
+    let central = |i: usize| i * (width + 6) + width + 5;
+    ((0..2000).take_while(|&i| central(i) <= allowance.into()).count() * (width + 6)) as u16
+}
+
+/// The stores of a delete that count as made: all four if the second, the central one, was made.
+pub fn due_of_delete(allowance: u16) -> u16 {
+    if allowance < 2 {
+        0
+    } else {
+        4
+    }
+}
+
 /// A course: an insert or delete on a sound store, alterations in the lists that it does not name, then recover calls.
 #[derive(Clone)]
 pub struct Course {
@@ -116,25 +132,23 @@ pub struct Course {
 }
 
 impl Course {
-    /// `new` are the words with every store of the call made, if it must count as made: it was not refused and its allowance
-    /// is not below the central store's number.
-    pub fn new(sound: &[u16], list: u16, new: Option<&[u16]>, found: &[u16]) -> Course {
+    /// `new` are the words that the call leaves if it is made with exactly the stores that count as made: those before it, if
+    /// none does or it is refused.
+    pub fn new(sound: &[u16], list: u16, new: &[u16], found: &[u16]) -> Course {
         let shape = open(sound).expect("a store");
-        let old = lists(sound, shape).expect("a sound store");
+        let sequences = |words| lists(words, shape).expect("a sound store");
+        let (before, after) = (sequences(sound), sequences(new));
         let mut last = found.to_vec();
         let mut members = vec![];
-        for (k, sequence) in old.iter().enumerate() {
-            let (words, sequence) = match new {
-                Some(new) if k == usize::from(list) => (new, lists(new, shape).expect("a sound store")[k].clone()),
-                _ => (sound, sequence.clone()),
-            };
+        for k in 0..shape.lists {
+            let (words, sequence) = if k == usize::from(list) { (new, &after[k]) } else { (sound, &before[k]) };
             let header = shape.cell(k)..shape.cell(k) + 4;
             last[header.clone()].copy_from_slice(&words[header]);
-            for &cell in &sequence {
+            for &cell in sequence {
                 let node = shape.cell(cell)..shape.cell(cell) + 3 + shape.width;
                 last[node.clone()].copy_from_slice(&words[node]);
             }
-            members.push(sequence);
+            members.push(sequence.clone());
         }
         for cell in orphans(found, shape, &members) {
             last[shape.cell(cell)] = 0;
@@ -169,7 +183,7 @@ impl Course {
 mod tests {
     use super::*;
     use crate::random::Random;
-    use crate::store::{check, delete, format, insert, store_of};
+    use crate::store::{check, delete, format, insert, insert_several, store_of};
 
     const ENOUGH: u16 = 65_535;
 
@@ -308,6 +322,15 @@ mod tests {
         assert!(seen.iter().all(|&n| n > 100), "{seen:?}");
     }
 
+    /// The central stores of records of one word are the sixth, the thirteenth, the twentieth and so on.
+    #[test]
+    fn due() {
+        let whole = |allowance| due_of_insert(1, allowance) / 7;
+        assert_eq!([0, 5, 6, 7, 12, 13, 19, 20].map(whole), [0, 0, 1, 1, 1, 2, 2, 3]);
+        assert_eq!([37_998, 37_999, ENOUGH].map(|allowance| due_of_insert(13, allowance) / 19), [1999, 2000, 2000]);
+        assert_eq!([0, 1, 2, 3, 4].map(due_of_delete), [0, 0, 4, 4, 4]);
+    }
+
     /// Courses from sound stores of many shapes end as they must.
     #[test]
     fn courses() {
@@ -321,18 +344,20 @@ mod tests {
             let named = random.below(shape.lists + beyond);
             let position = random.between(0, lists.get(named).map_or(0, |s| s.len())) as u16;
             let start = (shape.lists + random.below(shape.nodes)) as u16;
-            let record: Vec<u16> = (0..shape.width).map(|_| random.word()).collect();
-            let inserting = random.below(2) == 0;
-            let call = |words: &mut [u16], allowance| match inserting {
-                true => insert(words, named as u16, position, start, &record, allowance),
-                false => delete(words, named as u16, position, allowance),
+            let kind = random.below(3);
+            let number = if kind == 2 { random.between(1, 4) } else { 1 };
+            let records: Vec<u16> = (0..number * shape.width).map(|_| random.word()).collect();
+            let call = |words: &mut [u16], allowance| match kind {
+                0 => insert(words, named as u16, position, start, &records, allowance),
+                1 => delete(words, named as u16, position, allowance),
+                _ => insert_several(words, named as u16, position, start, &records, allowance),
             };
-            let central = if inserting { shape.width as u16 + 5 } else { 2 };
-            let allowance = random.below(shape.width + 8) as u16;
+            let allowance = random.below(number * (shape.width + 6) + 2) as u16;
             let mut found = sound.clone();
-            let refused = matches!(call(&mut found, allowance), Answer::Refused(_));
+            call(&mut found, allowance);
+            let due = if kind == 1 { due_of_delete(allowance) } else { due_of_insert(shape.width, allowance) };
             let mut new = sound.clone();
-            call(&mut new, ENOUGH);
+            call(&mut new, due);
             for (list, sequence) in lists.iter().enumerate().filter(|&(list, _)| list != named) {
                 let cell = [&[list][..], sequence].concat()[random.below(sequence.len() + 1)];
                 let i = random.below(if cell == list { 4 } else { 3 });
@@ -340,8 +365,7 @@ mod tests {
                     found[shape.cell(cell) + i] = value(&mut random, shape, i);
                 }
             }
-            let made = (!refused && allowance >= central).then_some(&new[..]);
-            let mut course = Course::new(&sound, named as u16, made, &found);
+            let mut course = Course::new(&sound, named as u16, &new, &found);
             let mut words = found;
             for _ in 0..random.below(4) {
                 let allowance = random.below(4) as u16;

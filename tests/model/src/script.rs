@@ -10,6 +10,7 @@ pub const CAPACITY: usize = 32_100;
 /// The most words of a record that an entry has.
 pub const LONGEST: usize = 64;
 
+/// An insert of several records has `size` words in all: those of `repeated`, over and over.
 #[derive(Clone, Debug, PartialEq, Eq)]
 pub enum Operation {
     Fill { size: u16, value: u16 },
@@ -23,6 +24,7 @@ pub enum Operation {
     Delete { list: u16, position: u16, allowance: u16 },
     Recover { allowance: u16 },
     AllCourses(Courses),
+    InsertSeveral { list: u16, position: u16, start: u16, size: u16, repeated: Vec<u16>, allowance: u16 },
 }
 
 use Operation::*;
@@ -44,6 +46,9 @@ impl Operation {
             Recover { allowance } => vec![10, allowance],
             AllCourses(Courses { call: Call { list, position, start, record }, other: (at, value), ref values }) => {
                 [&[11, list, position, start, record, at, value, values.len() as u16], &values[..]].concat()
+            }
+            InsertSeveral { list, position, start, size, ref repeated, allowance } => {
+                [&[12, list, position, start, size, repeated.len() as u16], &repeated[..], &[allowance]].concat()
             }
         }
     }
@@ -69,6 +74,10 @@ impl Operation {
                 other: (at, value),
                 values: rest.get(..n.into())?.to_vec(),
             }),
+            [12, list, position, start, size, n, ref rest @ ..] if usize::from(size) <= CAPACITY && n > 0 => {
+                let (repeated, &allowance) = (rest.get(..n.into())?.to_vec(), rest.get(usize::from(n))?);
+                InsertSeveral { list, position, start, size, repeated, allowance }
+            }
             _ => return None,
         })
     }
@@ -126,6 +135,12 @@ impl Operation {
                 let text = format!("courses{} = {}", spaced(&self.words()[1..8]), told.digest.0);
                 vec![Line { courses: told.courses, demanded: told.demanded, ..Line::answer("courses", 0, text) }]
             }
+            InsertSeveral { list, position, start, size, ref repeated, allowance } => {
+                let records: Vec<u16> = repeated.iter().copied().cycle().take(size.into()).collect();
+                let answer = store::insert_several(words, list, position, start, &records, allowance);
+                let call = format!("insert_several {list} {position} {start} {size} {allowance}");
+                vec![Line::ended(&SEVERAL, answer, allowance, call), words_line(words)]
+            }
         }
     }
 }
@@ -181,13 +196,16 @@ impl Line {
     }
 }
 
-/// The ends of insert, delete and recover; refused without an allowance is one of its own.
+/// The ends of the calls that store; refused without an allowance is one of its own.
 const INSERT: [&str; 4] = ["insert done", "insert stopped", "insert refused with 0", "insert refused"];
 const DELETE: [&str; 4] = ["delete done", "delete stopped", "delete refused with 0", "delete refused"];
+const SEVERAL: [&str; 4] =
+    ["insert_several done", "insert_several stopped", "insert_several refused with 0", "insert_several refused"];
 const RECOVER: [&str; 4] = ["recover done", "recover stopped", "recover refused with 0", "recover refused"];
 
-/// The answer numbers that each call can give; of the numbers of recover's stores, those of small stores and the most.
-pub const ANSWERS: [(&str, &[u16]); 17] = [
+/// The answer numbers that each call can give; of the numbers of stores of recover and of an insert of several records, those of small
+/// stores and the most.
+pub const ANSWERS: [(&str, &[u16]); 21] = [
     ("format", &[0, 3, 4]),
     ("check", &[0, 1, 2, 3, 4, 6]),
     ("length", &[0, 1, 2, 3, 4, 5, 6]),
@@ -196,6 +214,13 @@ pub const ANSWERS: [(&str, &[u16]); 17] = [
     (INSERT[1], &[0, 1, 2, 3, 4, 5, 6, 7, 8, 9, 10, 11, 12, 13, 14, 15, 16, 17, 18]),
     (INSERT[2], &[1, 2, 3, 4, 5, 6, 7, 8, 9, 10]),
     (INSERT[3], &[1, 2, 3, 4, 5, 6, 7, 8, 9, 10]),
+    (SEVERAL[0], &[7, 8, 14, 16, 21, 24, 28, 32, 38, 38_000]),
+    (
+        SEVERAL[1],
+        &[0, 1, 2, 3, 4, 5, 6, 7, 8, 9, 10, 11, 12, 13, 14, 15, 16, 17, 18, 19, 20, 21, 22, 23, 24, 25, 26, 27, 37_999],
+    ),
+    (SEVERAL[2], &[1, 2, 3, 4, 5, 6, 7, 8, 9, 10]),
+    (SEVERAL[3], &[1, 2, 3, 4, 5, 6, 7, 8, 9, 10]),
     (DELETE[0], &[4]),
     (DELETE[1], &[0, 1, 2, 3]),
     (DELETE[2], &[1, 2, 3, 4, 5, 6, 7]),
@@ -256,6 +281,8 @@ mod tests {
                 other: (5, 6),
                 values: vec![7, 8],
             }),
+            InsertSeveral { list: 2, position: 4, start: 5, size: 0, repeated: vec![7], allowance: 6 },
+            InsertSeveral { list: 2, position: 4, start: 5, size: 32_100, repeated: vec![7, 8, 9], allowance: 6 },
         ];
         for operation in all {
             let words = operation.words();
@@ -277,6 +304,20 @@ mod tests {
         assert_eq!(texts(&bytes(&longest)), ["insert 0 0 0 64 0 = refused 1", "words =", "end"]);
         let too_long = [&[8, 0, 0, 0, 65], &[7; 65][..], &[0]].concat();
         assert_eq!(texts(&bytes(&too_long)), ["bad script", "end"]);
+        let several = |size, n| bytes(&[12, 0, 0, 0, size, n, 7, 7]);
+        assert_eq!(texts(&several(32_100, 1)), ["insert_several 0 0 0 32100 7 = refused 1", "words =", "end"]);
+        for (size, n) in [(32_101, 1), (1, 0), (1, 2)] {
+            assert_eq!(texts(&several(size, n)), ["bad script", "end"]);
+        }
+    }
+
+    /// Two records of one word each are inserted: the words given are repeated.
+    #[test]
+    fn repeated_words() {
+        let script = bytes(&[1, 20, 0, 4, 1, 2, 1, 12, 0, 0, 1, 2, 1, 9, 65_535, 7, 0, 0, 7, 0, 1]);
+        let lines = texts(&script);
+        assert_eq!(lines[2], "insert_several 0 0 1 2 65535 = done 14");
+        assert_eq!(lines[4..], ["read 0 0 = 0: 9", "read 0 1 = 0: 9", "end"]);
     }
 
     #[test]

@@ -1,5 +1,5 @@
-//! A store is a slice of words. Here is what its words mean, when it is sound, and what format, check, length, read, insert
-//! and delete answer and leave. What recover does is in `recovery`.
+//! A store is a slice of words. Here is what its words mean, when it is sound, and what format, check, length, read, insert,
+//! insert_several and delete answer and leave. What recover does is in `recovery`.
 
 use std::collections::HashSet;
 use std::ops::Range;
@@ -253,20 +253,26 @@ fn neighbours(list: usize, before: &[usize], after: &[usize]) -> (usize, usize) 
     (*before.last().unwrap_or(&list), *after.first().unwrap_or(&list))
 }
 
-/// The cell that an insert uses and its stores in their order, or the number of the refusal.
-fn insert_plan(words: &[u16], list: u16, position: u16, start: u16, record: &[u16]) -> Result<(usize, Vec<WordStore>), u16> {
+/// Questions 1 to 8 of an insert.
+fn gap(words: &[u16], list: u16, position: u16, start: u16) -> Result<(Shape, Vec<Vec<usize>>), u16> {
     let (shape, lists) = lists_of(words, list)?;
-    let sequence = &lists[usize::from(list)];
-    if usize::from(position) > sequence.len() {
+    if usize::from(position) > lists[usize::from(list)].len() {
         return Err(7);
     }
     if !shape.node_cells().contains(&start.into()) {
         return Err(8);
     }
+    Ok((shape, lists))
+}
+
+/// The cell that an insert uses and its stores in their order, or the number of the refusal.
+fn insert_plan(words: &[u16], list: u16, position: u16, start: u16, record: &[u16]) -> Result<(usize, Vec<WordStore>), u16> {
+    let (shape, lists) = gap(words, list, position, start)?;
     if record.len() != shape.width {
         return Err(9);
     }
     let &cell = free_cells(shape, &lists, start.into()).first().ok_or(10u16)?;
+    let sequence = &lists[usize::from(list)];
     let (before, after) = sequence.split_at(position.into());
     let (a, b) = neighbours(list.into(), before, after);
     let mut stores: Vec<WordStore> = vec![];
@@ -323,6 +329,44 @@ pub fn insert(words: &mut [u16], list: u16, position: u16, start: u16, record: &
     }
     words.copy_from_slice(&left);
     answer
+}
+
+/// The questions of an insert of several records: the number of words of each, or the number of the refusal.
+fn width_of_several(words: &[u16], list: u16, position: u16, start: u16, records: &[u16]) -> Result<usize, u16> {
+    let (shape, lists) = gap(words, list, position, start)?;
+    if records.is_empty() || records.len() % shape.width != 0 {
+        return Err(9);
+    }
+    if free_cells(shape, &lists, start.into()).len() < records.len() / shape.width {
+        return Err(10);
+    }
+    Ok(shape.width)
+}
+
+/// The cell after the one that holds the record at the position: cell L after the last.
+fn next_cell(words: &[u16], list: u16, position: u16) -> u16 {
+    let (shape, lists) = lists_of(words, list).expect("a sound store");
+    let cell = lists[usize::from(list)][usize::from(position)];
+    (if cell + 1 < shape.node_cells().end { cell + 1 } else { shape.lists }) as u16
+}
+
+/// Insert of several records: if no question refuses it, they are inserted one by one at consecutive positions, each next
+/// from the cell after the one just used, until the allowance is spent.
+pub fn insert_several(words: &mut [u16], list: u16, position: u16, start: u16, records: &[u16], allowance: u16) -> Answer {
+    let width = match width_of_several(words, list, position, start, records) {
+        Err(number) => return Answer::Refused(number),
+        Ok(width) => width,
+    };
+    let (mut start, mut made) = (start, 0);
+    for (position, record) in (position..).zip(records.chunks(width)) {
+        match insert(words, list, position, start, record, allowance - made) {
+            Answer::Done(stores) => made += stores,
+            Answer::Stopped(_) => return Answer::Stopped(allowance),
+            Answer::Refused(number) => panic!("one record of several is refused with {number}"),
+        }
+        start = next_cell(words, list, position);
+    }
+    Answer::Done(made)
 }
 
 /// Delete. Done, it is held against the removal from a plain sequence, and the cell is free.
@@ -432,6 +476,105 @@ mod tests {
         words[shape.cell(0) + 3] = 2;
         assert_eq!(delete(&mut words, 1, 1, 0), Answer::Refused(6));
         assert_eq!(insert(&mut words, 1, 2, 9, &[], 0), Answer::Refused(6));
+    }
+
+    /// Three records behind 700 in cell 2, from cell 4 on: in cells 4, 1 and 3. The stores of each come in insert's order.
+    #[test]
+    fn marked_several() {
+        let shape = Shape::new(1, 4, 1);
+        let mut sound = store_of(shape, &[vec![2]], || 7);
+        sound[19] = 700;
+        let stores = [
+            [(27, 11), (25, 0), (26, 2), (24, 42400), (11, 2), (17, 4), (10, 4)],
+            [(15, 12), (13, 0), (14, 4), (12, 42400), (11, 3), (25, 1), (10, 1)],
+            [(23, 13), (21, 0), (22, 1), (20, 42400), (11, 4), (13, 3), (10, 3)],
+        ]
+        .concat();
+        for allowance in 0..24u16 {
+            let mut expected = sound.clone();
+            stores.iter().take(allowance.into()).for_each(|&(at, value)| expected[at] = value);
+            let mut words = sound.clone();
+            let answer = insert_several(&mut words, 0, 1, 4, &[11, 12, 13], allowance);
+            assert_eq!(answer, if allowance < 21 { Answer::Stopped(allowance) } else { Answer::Done(21) });
+            assert_eq!(words, expected);
+            assert_eq!(check(&words) == 0, [0, 1, 2, 3, 7, 8, 9, 10, 14, 15, 16, 17, 21, 22, 23].contains(&allowance));
+        }
+    }
+
+    /// Questions 9 and 10 of several records, each before the next and before the allowance; the others come first.
+    #[test]
+    fn refused_several() {
+        let shape = Shape::new(2, 5, 3);
+        let sound = store_of(shape, &[vec![3], vec![2, 6]], || 9);
+        for (list, position, start, size, number) in [
+            (2, 9, 9, 0, 5),
+            (1, 3, 9, 0, 7),
+            (1, 2, 1, 0, 8),
+            (1, 2, 7, 9, 8),
+            (1, 2, 6, 0, 9),
+            (1, 2, 6, 1, 9),
+            (1, 2, 6, 8, 9),
+            (1, 2, 6, 10, 9),
+            (1, 2, 6, 9, 10),
+            (0, 0, 2, 65_535, 10),
+        ] {
+            for allowance in [0, 1, 65_535] {
+                let mut words = sound.clone();
+                let answer = insert_several(&mut words, list, position, start, &vec![5; size], allowance);
+                assert_eq!(answer, Answer::Refused(number));
+                assert_eq!(words, sound);
+            }
+        }
+        let mut words = sound.clone();
+        assert_eq!(insert_several(&mut words, 0, 1, 6, &[5; 6], 65_535), Answer::Done(18));
+        assert_eq!(lists(&words, shape), Some(vec![vec![3, 4, 5], vec![2, 6]]));
+        assert_eq!(insert_several(&mut words, 0, 1, 6, &[5; 3], 65_535), Answer::Refused(10));
+    }
+
+    /// One record is inserted as by insert, at every allowance; several leave what single inserts leave, from the cells that are
+    /// counted up here by hand.
+    #[test]
+    fn several_are_inserts() {
+        let mut random = Random::new(3);
+        for _ in 0..2_000 {
+            let shape = Shape::new(random.between(1, 3), random.between(1, 9), random.between(1, 3));
+            let mut cells: Vec<usize> = shape.node_cells().collect();
+            random.shuffle(&mut cells);
+            let dealt = random.below(shape.nodes);
+            let mut sequences = vec![vec![]; shape.lists];
+            cells[..dealt].iter().for_each(|&cell| sequences[random.below(shape.lists)].push(cell));
+            let sound = store_of(shape, &sequences, || random.word());
+            let list = random.below(shape.lists);
+            let position = random.between(0, sequences[list].len());
+            let start = random.between(shape.lists, shape.lists + shape.nodes - 1);
+            let number = random.between(1, shape.nodes - dealt);
+            let records: Vec<u16> = (0..number * shape.width).map(|_| random.word()).collect();
+            let allowance = random.between(0, number * (shape.width + 6) + 1) as u16;
+            let mut words = sound.clone();
+            let answer = insert_several(&mut words, list as u16, position as u16, start as u16, &records, allowance);
+            let mut expected = sound.clone();
+            let mut left = allowance;
+            for (i, (cell, record)) in
+                free_cells(shape, &sequences, start).iter().zip(records.chunks(shape.width)).enumerate()
+            {
+                match insert(&mut expected, list as u16, (position + i) as u16, *cell as u16, record, left) {
+                    Answer::Done(stores) => left -= stores,
+                    single => {
+                        assert_eq!(single, Answer::Stopped(left));
+                        left = 0;
+                        break;
+                    }
+                }
+            }
+            let whole = (number * (shape.width + 6)) as u16;
+            assert_eq!(answer, if allowance < whole { Answer::Stopped(allowance) } else { Answer::Done(allowance - left) });
+            assert_eq!(words, expected);
+            if number == 1 {
+                let mut single = sound.clone();
+                assert_eq!(insert(&mut single, list as u16, position as u16, start as u16, &records, allowance), answer);
+                assert_eq!(single, words);
+            }
+        }
     }
 
     #[test]

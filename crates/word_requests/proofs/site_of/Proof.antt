@@ -8,7 +8,7 @@ use Rattle.layout.proofs.Laws.{answered-no, answered-yes}
 use Rattle.lists.specs.Decide.{View, viewOf, countIn, soundIn}
 use Rattle.requests.specs.Requests.{listOf}
 use Rattle.requests.specs.Sites.{HeldList}
-use Rattle.requests.proofs.Laws.{site-unlisted, site-unsound, site-check, site-whole, site-member, site-gap}
+use Rattle.requests.proofs.Laws.{site-unlisted, site-unsound, site-check, site-whole, site-member, site-gap, site-gaps}
 use Rattle.requests.proofs.Sites.{sound-held}
 use Rattle.word_requests.proofs.site_of.Statement.{statement}
 use Rattle.word_requests.proofs.site_of.Tie as tie
@@ -92,6 +92,15 @@ gap-requires c κs =
     let n = q .before .before in
     (n .before .of .ensures, start n .pre, held n (q .q3 .given .0 .0) (sym (ap listOf (q .q3 .given .1))))
 
+enum-known-q-4 : tie.Need-enum-known-q-4
+enum-known-q-4 c = search needs
+
+gaps-requires : tie.Need-gaps-requires
+gaps-requires c κs =
+    let q = c .before in
+    let n = q .before .before in
+    (n .before .of .ensures, start n .pre, held n (q .q4 .given .0 .0) (sym (ap listOf (q .q4 .given .1))))
+
 returns-3 : tie.Need-returns-3
 returns-3 c =
     let n = c .before .before in
@@ -119,6 +128,13 @@ returns-6 c =
     let s = start n in
     c .gap .ensures ∙ site-gap (s .args .l) (view s) (counts s) (s .args .q) (listed n) (sounds n) (q .q3 .given .1)
 
+returns-7 : tie.Need-returns-7
+returns-7 c =
+    let q = c .before .before in
+    let n = q .before .before in
+    let s = start n in
+    c .gaps .ensures ∙ site-gaps (s .args .l) (view s) (counts s) (s .args .q) (listed n) (sounds n) (q .q4 .given .1)
+
 pub site-of-spec : {M : Type 1} → statement M
 site-of-spec =
     tie.close
@@ -135,7 +151,10 @@ site-of-spec =
     member-requires
     enum-known-q-3
     gap-requires
+    enum-known-q-4
+    gaps-requires
     returns-3
     returns-4
     returns-5
-    returns-6)
+    returns-6
+    returns-7)

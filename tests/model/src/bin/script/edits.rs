@@ -1,16 +1,18 @@
 //! The parts of the script that insert and delete.
 
 use crate::{altered, values_for, Script};
+use model::recovery::{due_of_delete, due_of_insert};
 use model::script::{Operation, Operation::*, LONGEST};
 use model::store::{self, sequences, store_of, Shape, IDENTIFIER};
 
 /// No call needs a larger allowance.
 pub const ENOUGH: u16 = 65_535;
 
-/// A call that stores but for its allowance.
+/// A call that stores but for its allowance. Several records have `size` words in all: those of `repeated`, over and over.
 #[derive(Clone)]
 pub enum Edit {
     Insertion { list: usize, position: usize, start: usize, record: Vec<u16> },
+    Insertions { list: usize, position: usize, start: usize, size: usize, repeated: Vec<u16> },
     Deletion { list: usize, position: usize },
 }
 
@@ -26,15 +28,38 @@ impl Edit {
                 record: record.clone(),
                 allowance,
             },
+            Insertions { list, position, start, size, ref repeated } => InsertSeveral {
+                list: list as u16,
+                position: position as u16,
+                start: start as u16,
+                size: size as u16,
+                repeated: repeated.clone(),
+                allowance,
+            },
             Deletion { list, position } => Delete { list: list as u16, position: position as u16, allowance },
         }
     }
 
+    pub fn list(&self) -> usize {
+        match *self {
+            Insertion { list, .. } | Insertions { list, .. } | Deletion { list, .. } => list,
+        }
+    }
+
     /// The number of its stores.
-    pub fn whole(&self) -> u16 {
+    pub fn whole(&self, shape: Shape) -> u16 {
         match self {
             Insertion { record, .. } => record.len() as u16 + 6,
+            Insertions { size, .. } => (size / shape.width * (shape.width + 6)) as u16,
             Deletion { .. } => 4,
+        }
+    }
+
+    /// The stores that count as made if it is cut after so many.
+    pub fn due(&self, shape: Shape, allowance: u16) -> u16 {
+        match self {
+            Deletion { .. } => due_of_delete(allowance),
+            _ => due_of_insert(shape.width, allowance),
         }
     }
 }
@@ -62,7 +87,7 @@ impl Script {
     }
 
     /// The call, and the store put back.
-    fn attempt(&mut self, edit: &Edit, allowance: u16) {
+    pub fn attempt(&mut self, edit: &Edit, allowance: u16) {
         let words = self.words.clone();
         self.add(edit.with(allowance));
         self.load(&words);
@@ -84,9 +109,9 @@ impl Script {
     }
 
     /// The call at every allowance from 0 to one above the number of its stores. The store is put back after each.
-    fn cut(&mut self, shape: Shape, edit: &Edit) {
+    pub fn cut(&mut self, shape: Shape, edit: &Edit) {
         let words = self.words.clone();
-        for allowance in 0..=edit.whole() + 1 {
+        for allowance in 0..=edit.whole(shape) + 1 {
             self.add(edit.with(allowance));
             self.aftermath(shape, 0);
             self.load(&words);
@@ -438,7 +463,7 @@ fn history(s: &mut Script, shape: Shape, calls: usize) {
         }
         let words = s.words.clone();
         let edit = random_edit(s, shape, &lists, growing);
-        let whole = edit.whole();
+        let whole = edit.whole(shape);
         let allowance = match s.random.below(16) {
             0 => s.random.below(whole.into()) as u16,
             1 => whole,

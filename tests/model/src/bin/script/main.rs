@@ -2,6 +2,7 @@
 
 mod edits;
 mod recoveries;
+mod several;
 
 use model::random::Random;
 use model::script::{Operation, Operation::*, CAPACITY};
@@ -581,6 +582,13 @@ fn main() -> std::io::Result<()> {
         recoveries::every_course_of_small_stores,
         recoveries::large_courses,
         recoveries::largest,
+        several::cuts,
+        several::searches,
+        several::limits,
+        several::short_stores,
+        several::several_reasons,
+        several::courses,
+        several::largest,
     ] {
         part(&mut script);
     }

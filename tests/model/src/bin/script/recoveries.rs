@@ -61,7 +61,7 @@ pub fn marked_store(s: &mut Script) {
     for (words, edit) in
         [(&c2, &second), (&c3, &Deletion { list: 0, position: 0 }), (&c3, &Deletion { list: 0, position: 1 })]
     {
-        for allowance in 0..=edit.whole() {
+        for allowance in 0..=edit.whole(shape) {
             s.load(words);
             s.add(edit.with(allowance));
             let cut = s.words.clone();
@@ -268,16 +268,12 @@ pub fn many_stores(s: &mut Script) {
 
 /// One insert or delete on the sound store that is there, with an allowance; at most one word altered in each list that it
 /// does not name; recover calls with small allowances, and one with enough. It must end as `Course` says.
-fn course(s: &mut Script, shape: Shape, edit: &Edit, allowance: u16, most: usize) {
+pub fn course(s: &mut Script, shape: Shape, edit: &Edit, allowance: u16, most: usize) {
     let sound = s.words.clone();
     let lists = store::lists(&sound, shape).expect("a sound store");
-    let (named, central) = match *edit {
-        Insertion { list, ref record, .. } => (list, record.len() as u16 + 5),
-        Deletion { list, .. } => (list, 2),
-    };
+    let named = edit.list();
     let mut new = sound.clone();
-    edit.with(ENOUGH).run(&mut new);
-    let refused = new == sound;
+    edit.with(edit.due(shape, allowance)).run(&mut new);
     s.add(edit.with(allowance));
     let mut found = s.words.clone();
     for (list, sequence) in lists.iter().enumerate().filter(|&(list, _)| list != named) {
@@ -288,8 +284,7 @@ fn course(s: &mut Script, shape: Shape, edit: &Edit, allowance: u16, most: usize
         }
     }
     s.load(&found);
-    let made = (!refused && allowance >= central).then(|| &new[..]);
-    let mut course = Course::new(&sound, named as u16, made, &found);
+    let mut course = Course::new(&sound, named as u16, &new, &found);
     for _ in 0..s.random.between(0, most) {
         let allowance = s.random.pick(&[0, 1, 1, 2, 3, 5]);
         let answer = s.recover(allowance);
@@ -324,7 +319,7 @@ pub fn courses(s: &mut Script) {
             let words = s.words.clone();
             let dealt = store::lists(&words, shape).expect("a sound store");
             let edit = random_edit(s, shape, &dealt, turn % 2 == 0);
-            for allowance in 0..=edit.whole() {
+            for allowance in 0..=edit.whole(shape) {
                 s.load(&words);
                 course(s, shape, &edit, allowance, most);
             }
@@ -399,7 +394,7 @@ pub fn large_courses(s: &mut Script) {
         for turn in 0..courses {
             let dealt = store::lists(&s.words, shape).expect("a sound store");
             let edit = random_edit(s, shape, &dealt, turn % 2 == 0);
-            let allowance = s.random.below(usize::from(edit.whole()) + 2) as u16;
+            let allowance = s.random.below(usize::from(edit.whole(shape)) + 2) as u16;
             course(s, shape, &edit, allowance, 5);
         }
     }
@@ -414,7 +409,7 @@ pub fn largest(s: &mut Script) {
     s.load(&words);
     for turn in 0..3 {
         let edit = random_edit(s, shape, &dealt, turn % 2 == 0);
-        for allowance in [edit.whole() - 3, edit.whole() - 1] {
+        for allowance in [edit.whole(shape) - 3, edit.whole(shape) - 1] {
             s.load(&words);
             course(s, shape, &edit, allowance, 2);
         }

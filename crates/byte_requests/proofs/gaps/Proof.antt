@@ -1,0 +1,109 @@
+-- `byte_requests::gaps` meets its contract: questions 7 to 9, then as many free nodes as have no identifier, and then the gap.
+use Prim.Native.Nat.{ℕ, _+_, _%_, _≤_, _<_}
+use mathlib.Core.Path.{_≡_, _∙_}
+use mathlib.Core.List.{List}
+use native.Mathlib.Omega.{arith}
+use lib.ListN.{length}
+use borrow.Author.Needs.{needs}
+use Rattle.byte_form.specs.Bytes.{wordsIn}
+use Rattle.layout.specs.Words.{Node}
+use Rattle.lists.specs.Decide.{View, viewOf, sequenceOf}
+use Rattle.requests.specs.Requests.{around, freeCells}
+use Rattle.requests.proofs.Laws.{gaps-asked}
+use Rattle.requests.proofs.Sites.{held-count, gaps-shut, gaps-few, gaps-open}
+use Rattle.requests.proofs.Turn.{free-count}
+use Rattle.byte_requests.proofs.gaps.Statement.{statement}
+use Rattle.byte_requests.proofs.gaps.Tie as tie
+
+-- what is known at the start
+abbrev view : tie.Start → View
+view s = viewOf (s .args .l) (wordsIn (s .args .bytes .now))
+
+abbrev members : tie.Start → List ℕ
+members s = sequenceOf (s .args .l) (wordsIn (s .args .bytes .now)) (s .args .k)
+
+gaps-number-requires : tie.Need-gaps-number-requires
+gaps-number-requires c κs = c .before .pre .1 .inRange
+
+returns : tie.Need-returns
+returns c =
+    let s = c .before .before .before in
+    let a = s .args in
+    gaps-shut (a .l) (view s .ident) (a .k) (a .p) (a .start) (members s) (held-count (s .pre .2)) (a .size) (c .before .gaps-number .ensures) (c .if1 .taken)
+
+cast-free : tie.Need-cast-free
+cast-free c = search needs
+
+used-in-requires : tie.Need-used-in-requires
+used-in-requires c κs = search needs
+
+cast-free-2 : tie.Need-cast-free-2
+cast-free-2 c = search needs
+
+-- the questions, by the place where the nodes with an identifier are counted; their answers, and the free nodes
+abbrev asked : tie.After-used-in → tie.Else1
+asked c = c .before .before
+
+abbrev start : tie.After-used-in → tie.Start
+start c = asked c .before .before .before
+
+yes : (c : tie.After-used-in) → let a = start c .args in (a .p ≤ a .n) × Node (a .l) (a .start) × (0 < a .size) × (a .size % a .l .width ≡ 0)
+yes c =
+    let a = start c .args in
+    gaps-asked (a .l) (a .n) (a .p) (a .start) (a .size) (asked c .before .gaps-number .ensures) (asked c .if1 .left)
+
+free : (c : tie.After-used-in) → let s = start c in let l = s .args .l in
+    length (freeCells (view s .ident) (around l (s .args .start) (l .nodes))) + c .used-in .result ≡ l .nodes
+free c =
+    let s = start c in
+    omega (arith, c .used-in .ensures, free-count (s .args .l) (view s) (s .args .start) (yes c .1))
+
+sub-free : tie.Need-sub-free
+sub-free c = omega (arith, free c)
+
+cast-if2 : tie.Need-cast-if2
+cast-if2 c = search needs
+
+div-if2 : tie.Need-div-if2
+div-if2 c = search needs
+
+returns-2 : tie.Need-returns-2
+returns-2 c =
+    let u = c .before .before in
+    let s = start u in
+    let a = s .args in
+    gaps-few (a .l) (view s .ident) (a .k) (a .p) (a .start) (members s) (held-count (s .pre .2)) (a .size)
+    (asked u .before .gaps-number .ensures) (asked u .if1 .left) (omega (arith, free u))
+
+free-gap-requires : tie.Need-free-gap-requires
+free-gap-requires c κs =
+    let u = c .before .before in
+    let s = start u in
+    let q = yes u in
+    (s .pre .0, s .pre .1, s .pre .2, q .0, q .1)
+
+returns-3 : tie.Need-returns-3
+returns-3 c =
+    let e = c .before in
+    let u = e .before .before in
+    let s = start u in
+    let a = s .args in
+    c .free-gap .ensures
+    ∙ gaps-open (a .l) (view s .ident) (a .k) (a .p) (a .start) (members s) (held-count (s .pre .2)) (a .size)
+    (asked u .before .gaps-number .ensures) (asked u .if1 .left) (omega (arith, free u))
+
+pub gaps-spec : {M : Type 1} → statement M
+gaps-spec =
+    tie.close
+    (tie.spec
+    gaps-number-requires
+    returns
+    cast-free
+    used-in-requires
+    cast-free-2
+    sub-free
+    cast-if2
+    div-if2
+    returns-2
+    free-gap-requires
+    returns-3)
