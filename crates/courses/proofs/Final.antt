@@ -3,70 +3,32 @@ use Prim.Native.Nat.{ℕ, _+_, _<_, _≤_}
 use mathlib.Core.Path.{_≡_, ap, _∙_, sym, subst}
 use mathlib.Core.List.{List, _∷_, List·Memᴰ·head, List·Memᴰ·tail}
 use mathlib.Core.Logic.{_⊎_, inl, inr}
-use native.Mathlib.Decide.{ℕ-discrete, decLt}
+use native.Mathlib.Decide.{decLt}
 use native.Mathlib.Omega.{arith}
 use lib.ListN.{length, getD}
-use Rattle.sequences.specs.Sequence.{_∈_, Step, steps}
-use Rattle.sequences.proofs.Members.{all-in, in-all, in-behind}
+use Rattle.sequences.specs.Sequence.{_∈_}
+use Rattle.sequences.proofs.Members.{all-in, in-all}
 use Rattle.stores.specs.Stores.{Write, run, Spares}
 use Rattle.stores.proofs.Laws.{run-out}
 use Rattle.layout.specs.declared.Layout.{Layout}
-use Rattle.layout.specs.Words.{firstNode, Node, sizeOf, cellAt, cellWords, identAt, identOf}
+use Rattle.layout.specs.Words.{linkWords, countWord, firstNode, Node, sizeOf, cellAt, cellWords, identAt}
 use Rattle.layout.proofs.Apart.{cells-apart, words-apart, links-words, words-header, cell-behind}
 use Rattle.lists.specs.Lists.{asked, IsList, SoundLists, SameCells}
-use Rattle.lists.specs.Decide.{viewOf, countIn}
-use Rattle.lists.proofs.Agree.{Holds, agrees-holds}
-use Rattle.lists.proofs.Same.{ident-word, count-word}
+use Rattle.lists.proofs.Same.{ident-word}
 use Rattle.recovery.specs.Plan.{joined, recoverStores, Accepted, Kind, mend, clear}
-use Rattle.recovery.proofs.Required.{wrong-in}
-use Rattle.recovery.proofs.Slots.{Value, ident, forward, back, count, slot}
+use Rattle.recovery.proofs.Required.{Right, wrong-in}
+use Rattle.recovery.proofs.Slots.{Value, ident, forward, back, count, slot, asked-word}
 use Rattle.recovery.proofs.Joined.{one-joined}
 use Rattle.recovery.proofs.Count.{plan-kinds}
 use Rattle.recovery.proofs.Whole.{whole-sound}
-use Rattle.courses.proofs.Rival.{step-from, step-to, step-at}
 
 -- two stores in which list j has the sequence s hold the same words in its header and the same links in its members
 pub same-links
     : (l : Layout) (w x : List ℕ) (j : ℕ) → j < l .lists → (s : List ℕ) → IsList l w j s → IsList l x j s
-    → (c f : ℕ) → c ∈ (j ∷ s) → (f < 3) ⊎ ((c ≡ j) × (f ≡ 3)) → getD x (cellAt l c + f) 0 ≡ getD w (cellAt l c + f) 0
-same-links l w x j h s i i′ c f m k = by k
-  where
-    a : Holds (viewOf l w) j (countIn l w j) s
-    a = agrees-holds l w j s (i .agrees)
-
-    b : Holds (viewOf l x) j (countIn l x j) s
-    b = agrees-holds l x j s (i′ .agrees)
-
-    id-of : (u : List ℕ) → Holds (viewOf l u) j (countIn l u j) s → c ∈ (j ∷ s) → getD u (identAt l c) 0 ≡ identOf j
-    id-of u q (List·Memᴰ·head e) = ap (λ (d : ℕ). getD u (identAt l d) 0) e ∙ q .ident
-    id-of u q (List·Memᴰ·tail t) = all-in (λ d. getD u (identAt l d) 0 ≡ identOf j) s (q .turn .idents) t
-
-    word : Dec (f ≡ 0) → Dec (f ≡ 1) → f < 3 → getD x (cellAt l c + f) 0 ≡ getD w (cellAt l c + f) 0
-    word (yes e) d g =
-        ap (λ (n : ℕ). getD x (cellAt l c + n) 0) e ∙ ap (λ (n : ℕ). getD x n 0) (sym (ident-word l c)) ∙ id-of x b m
-        ∙ sym (ap (λ (n : ℕ). getD w (cellAt l c + n) 0) e ∙ ap (λ (n : ℕ). getD w n 0) (sym (ident-word l c)) ∙ id-of w a m)
-    word (no z) (yes e) g =
-        let t = step-from j s j c m in
-        let link : (u : List ℕ) → Holds (viewOf l u) j (countIn l u j) s → getD u (cellAt l c + 1) 0 ≡ t .0 .target =
-        λ u q. ap (λ (d : ℕ). getD u (cellAt l d + 1) 0) (sym (t .2))
-        ∙ step-at (λ (p : Step). viewOf l u .forward (p .source) ≡ p .target) (steps j s j) (q .turn .forwards) (t .1) in
-        ap (λ (n : ℕ). getD x (cellAt l c + n) 0) e ∙ link x b ∙ sym (ap (λ (n : ℕ). getD w (cellAt l c + n) 0) e ∙ link w a)
-    word (no z) (no y) g =
-        let e : f ≡ 2 = omega arith in
-        let t = step-to j s j c (in-behind j s m) in
-        let link : (u : List ℕ) → Holds (viewOf l u) j (countIn l u j) s → getD u (cellAt l c + 2) 0 ≡ t .0 .source =
-        λ u q. ap (λ (d : ℕ). getD u (cellAt l d + 2) 0) (sym (t .2))
-        ∙ step-at (λ (p : Step). viewOf l u .back (p .target) ≡ p .source) (steps j s j) (q .turn .backs) (t .1) in
-        ap (λ (n : ℕ). getD x (cellAt l c + n) 0) e ∙ link x b ∙ sym (ap (λ (n : ℕ). getD w (cellAt l c + n) 0) e ∙ link w a)
-
-    counted : (u : List ℕ) → Holds (viewOf l u) j (countIn l u j) s → c ≡ j → f ≡ 3 → getD u (cellAt l c + f) 0 ≡ length s
-    counted u q e g =
-        ap (λ (n : ℕ). getD u (cellAt l c + n) 0) g ∙ ap (λ (d : ℕ). getD u (cellAt l d + 3) 0) e
-        ∙ ap (λ (n : ℕ). getD u n 0) (sym (count-word l j h)) ∙ q .count
-
-    by : (f < 3) ⊎ ((c ≡ j) × (f ≡ 3)) → getD x (cellAt l c + f) 0 ≡ getD w (cellAt l c + f) 0
-    by (inl g) = word (ℕ-discrete f 0) (ℕ-discrete f 1) g
-    by (inr e) = counted x b (e .0) (e .1) ∙ sym (counted w a (e .0) (e .1))
+    → (c f : ℕ) → c ∈ (j ∷ s) → (f < linkWords) ⊎ ((c ≡ j) × (f ≡ countWord)) → getD x (cellAt l c + f) 0 ≡ getD w (cellAt l c + f) 0
+same-links l w x j h s i i′ c f m k =
+    let a = asked-word l j s h c f m k in
+    all-in (Right x) (asked l j s) (i′ .agrees) (a .1) ∙ sym (all-in (Right w) (asked l j s) (i .agrees) (a .1))
 
 module _ (l : Layout) (y : List ℕ) (exact : length y ≡ sizeOf l) (s : ℕ → List ℕ) (a : Accepted l y s) where
   abbrev pub Final : List ℕ

@@ -1,7 +1,7 @@
 -- A list with one altered word: its sequence fits, and no other does.
 use Prim.Native.Nat.{ℕ, _+_, _<_, _≤_}
 use mathlib.Core.Path.{_≡_, refl, ap, _∙_, sym, subst}
-use mathlib.Core.List.{List, [], _∷_, _++_, map, reverse, reverse-reverse, List·Memᴰ, List·Memᴰ·head, List·Memᴰ·tail}
+use mathlib.Core.List.{List, [], _∷_, _++_, map, map-id, reverse, reverse-reverse, List·Memᴰ, List·Memᴰ·head, List·Memᴰ·tail, Memᴰ·map}
 use mathlib.Core.Bool.{Bool, true, false}
 use mathlib.Core.Logic.{_⊎_, ⊎-elim}
 use native.Mathlib.Decide.{ℕ-discrete}
@@ -11,7 +11,8 @@ use lib.ListN.{length, getD, length-reverse}
 use borrow.Author.Tests.{eqb-true, eqb-false}
 use Rattle.sequences.specs.Sequence.{_∈_, All, Different, Step, steps, Forward, Backward}
 use Rattle.sequences.proofs.Members.{all-in, in-front}
-use Rattle.sequences.proofs.Reversed.{backward-forward, all-reverse, reverse-in, in-reverse, different-reverse}
+use Rattle.sequences.proofs.Steps.{sources, targets, step-source, step-target}
+use Rattle.sequences.proofs.Reversed.{backward-forward, ring-reverse, all-reverse, reverse-in, in-reverse, different-reverse}
 use Rattle.stores.specs.Stores.{Write, write}
 use Rattle.layout.specs.declared.Layout.{Layout}
 use Rattle.layout.specs.Words.{Node, isNode, cellAt, cellWords, identAt, forwardAt, backAt, countAt, identOf}
@@ -24,19 +25,15 @@ use Rattle.lists.proofs.Same.{ident-word, count-word}
 use Rattle.recovery.specs.Fits.{wrong, Fits}
 use Rattle.recovery.proofs.Required.{wrong-right, wrong-wrong}
 use Rattle.recovery.proofs.Candidates.{sequence-dec, wrong-parts, right-forward, right-backward, Whole, rivals}
-use Rattle.recovery.proofs.Slots.{step-source, step-target, ring-cells}
+use Rattle.recovery.proofs.Slots.{ring-cells}
 use Rattle.recovery.proofs.Disjoint.{no-paths}
 use Rattle.courses.specs.Course.{Alteration, untouched, altered}
-use Rattle.courses.proofs.Rival.{step-at, no-rival}
+use Rattle.courses.proofs.Rival.{no-rival}
 
 -- an alteration goes to word f of cell c
 abbrev pub Touches : Alteration → ℕ → ℕ → Type 0
 Touches untouched c f = ⊥
 Touches (altered d g v) c f = (c ≡ d) × (f ≡ g)
-
-in-map {ℓ} : {A : Type ℓ} (key : A → ℕ) (ys : List A) {y : A} → List·Memᴰ y ys → key y ∈ map key ys
-in-map key (z ∷ ys) (List·Memᴰ·head e) = List·Memᴰ·head (ap key e)
-in-map key (z ∷ ys) (List·Memᴰ·tail m) = List·Memᴰ·tail (in-map key ys m)
 
 map-all-right {ℓ} : {A : Type ℓ} (w : List ℕ) (g : A → Write) (xs : List A) → ((x : A) → List·Memᴰ x xs → getD w (g x .at) 0 ≡ g x .value)
     → wrong w (map g xs) ≡ []
@@ -57,23 +54,8 @@ one-wrong w key g (x ∷ xs) a d h =
     by r false e =
         let here : (key x ≡ a → ⊥) → ⊥ = λ n. eqb-false _ _ e (h x (List·Memᴰ·head refl) n) in
         let none : wrong w (map g xs) ≡ [] =
-        map-all-right w g xs (λ y m. h y (List·Memᴰ·tail m) (λ z. here (λ q. d .0 (subst (λ (c : ℕ). c ∈ map key xs) (z ∙ sym q) (in-map key xs m))))) in
+        map-all-right w g xs (λ y m. h y (List·Memᴰ·tail m) (λ z. here (λ q. d .0 (subst (λ (c : ℕ). c ∈ map key xs) (z ∙ sym q) (Memᴰ·map key m))))) in
         omega (arith, ap length (wrong-wrong w (g x) (map g xs) (eqb-false _ _ e)), ap length none)
-
--- the sources and the targets of the steps
-sources : (x : ℕ) (s : List ℕ) (z : ℕ) → map (λ (t : Step). t .source) (steps x s z) ≡ x ∷ s
-unfolding steps
-sources x [] z = refl
-sources x (y ∷ s) z = ap (λ (t : List ℕ). x ∷ t) (sources y s z)
-
-targets : (x : ℕ) (s : List ℕ) (z : ℕ) → map (λ (t : Step). t .target) (steps x s z) ≡ s ++ z ∷ []
-unfolding steps
-targets x [] z = refl
-targets x (y ∷ s) z = ap (λ (t : List ℕ). y ∷ t) (targets y s z)
-
-same-map : (s : List ℕ) → map (λ c. c) s ≡ s
-same-map [] = refl
-same-map (x ∷ s) = ap (λ (t : List ℕ). x ∷ t) (same-map s)
 
 -- a list of which all words but one are as a sound list has them
 module _ (l : Layout) (w y : List ℕ) (j : ℕ) (h : j < l .lists) (s : List ℕ) (i : IsList l w j s) (alt : Alteration)
@@ -106,7 +88,7 @@ module _ (l : Layout) (w y : List ℕ) (j : ℕ) (h : j < l .lists) (s : List �
 
   idents-few : length (wrong y (identsAsked l j s)) ≤ 1
   idents-few =
-      one-wrong y (λ c. c) (λ c. write (identAt l c) (identOf j)) (j ∷ s) at (subst Different (sym (same-map (j ∷ s))) (cells .0))
+      one-wrong y (λ c. c) (λ c. write (identAt l c) (identOf j)) (j ∷ s) at (subst Different (sym (map-id (j ∷ s))) (cells .0))
       (λ c m n. kept-ident c m (touched-cell c 0 n) ∙ was-ident c m)
 
   forwards-few : length (wrong y (forwardsAsked l j s)) ≤ 1
@@ -115,7 +97,7 @@ module _ (l : Layout) (w y : List ℕ) (j : ℕ) (h : j < l .lists) (s : List �
       (subst Different (sym (sources j s j)) (cells .0))
       (λ t m n.
       kept (t .source) 1 (step-source j s j m) (links-words l (t .source) 1 (omega arith)) (touched-cell (t .source) 1 n)
-      ∙ step-at (λ (u : Step). viewOf l w .forward (u .source) ≡ u .target) (steps j s j) (right .turn .forwards) m)
+      ∙ all-in (λ (u : Step). viewOf l w .forward (u .source) ≡ u .target) (steps j s j) (right .turn .forwards) m)
 
   backs-few : length (wrong y (backsAsked l j s)) ≤ 1
   backs-few =
@@ -123,7 +105,7 @@ module _ (l : Layout) (w y : List ℕ) (j : ℕ) (h : j < l .lists) (s : List �
       (subst Different (sym (targets j s j)) (cells .1))
       (λ t m n.
       kept (t .target) 2 (in-front j s (step-target j s j m)) (links-words l (t .target) 2 (omega arith)) (touched-cell (t .target) 2 n)
-      ∙ step-at (λ (u : Step). viewOf l w .back (u .target) ≡ u .source) (steps j s j) (right .turn .backs) m)
+      ∙ all-in (λ (u : Step). viewOf l w .back (u .target) ≡ u .source) (steps j s j) (right .turn .backs) m)
 
   -- an alteration of another word leaves a kind right
   abbrev pub Spared : ℕ → Type 0
@@ -137,14 +119,14 @@ module _ (l : Layout) (w y : List ℕ) (j : ℕ) (h : j < l .lists) (s : List �
       ap length (map-all-right y (λ (t : Step). write (forwardAt l (t .source)) (t .target)) (steps j s j)
       (λ t m.
       kept (t .source) 1 (step-source j s j m) (links-words l (t .source) 1 (omega arith)) (n (t .source))
-      ∙ step-at (λ (u : Step). viewOf l w .forward (u .source) ≡ u .target) (steps j s j) (right .turn .forwards) m))
+      ∙ all-in (λ (u : Step). viewOf l w .forward (u .source) ≡ u .target) (steps j s j) (right .turn .forwards) m))
 
   pub backs-right : Spared 2 → length (wrong y (backsAsked l j s)) ≡ 0
   backs-right n =
       ap length (map-all-right y (λ (t : Step). write (backAt l (t .target)) (t .source)) (steps j s j)
       (λ t m.
       kept (t .target) 2 (in-front j s (step-target j s j m)) (links-words l (t .target) 2 (omega arith)) (n (t .target))
-      ∙ step-at (λ (u : Step). viewOf l w .back (u .target) ≡ u .source) (steps j s j) (right .turn .backs) m))
+      ∙ all-in (λ (u : Step). viewOf l w .back (u .target) ≡ u .source) (steps j s j) (right .turn .backs) m))
 
   count-few : length (wrong y (countAsked l j s)) ≤ 1
   unfolding wrong
@@ -241,10 +223,6 @@ module _ (l : Layout) (w y : List ℕ) (j : ℕ) (h : j < l .lists) (s : List �
         (stay-by (viewOf l y .forward) r (f .nodes) (v .idents)
         (λ m t hm n nt c ct cr q b. no-paths l y m j hm h n (viewOf l y .forward) t r c nt (f .nodes) ct cr q p)) e
 
-    around-in : (t : List ℕ) (c : ℕ) → c ∈ (j ∷ reverse t) → c ∈ (j ∷ t)
-    around-in t c (List·Memᴰ·head e) = List·Memᴰ·head e
-    around-in t c (List·Memᴰ·tail m) = List·Memᴰ·tail (in-reverse t m)
-
     by-back : (r : List ℕ) → Fits l y j r → Whole l y j h r → length r ≡ length s → Backward (viewOf l y .back) j r j → r ≡ s
     by-back r f v e p =
         let dr = ring-cells l j (reverse r) h (all-reverse (Node l) r (f .nodes)) (different-reverse r (f .different)) in
@@ -254,13 +232,13 @@ module _ (l : Layout) (w y : List ℕ) (j : ℕ) (h : j < l .lists) (s : List �
         (nodes-all l (reverse s) (all-reverse (Node l) s (i .nodes))) (nodes-all l (reverse r) (all-reverse (Node l) r (f .nodes))) (header-out l j h)
         (ds .0) (different-reverse r (f .different)) (dr .1)
         (backward-forward (viewOf l w .back) j s j (right .turn .backs)) (backward-forward (viewOf l y .back) j r j p)
-        (λ c m. agree-back c (around-in s c m))
+        (λ c m. agree-back c (ring-reverse j s m))
         (λ c m q.
         reverse-in s (stay-by (viewOf l y .back) r (f .nodes) (v .idents)
         (λ m t hm n nt d ct cr a b.
         no-paths l y m j hm h n (viewOf l y .back) (reverse t) (reverse r) d (all-reverse (Node l) t nt) (all-reverse (Node l) r (f .nodes))
         (reverse-in t ct) (reverse-in r cr) (backward-forward (viewOf l y .back) m t m b) (backward-forward (viewOf l y .back) j r j p))
-        c (around-in s c m) (in-reverse r q)))
+        c (ring-reverse j s m) (in-reverse r q)))
         (length-reverse r ∙ e ∙ sym (length-reverse s)) in
         sym (reverse-reverse r) ∙ ap reverse z ∙ reverse-reverse s
 

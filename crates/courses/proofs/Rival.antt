@@ -8,34 +8,10 @@ use native.Mathlib.Decide.{ℕ-discrete}
 use native.Mathlib.Omega.{arith}
 use lib.ListN.{length}
 use Rattle.sequences.specs.Sequence.{_∈_, All, Different, Step, steps, Forward}
-use Rattle.sequences.proofs.Members.{member?, in-front, in-behind}
+use Rattle.sequences.proofs.Members.{all-in, in-all, member?, in-front, in-behind}
+use Rattle.sequences.proofs.Steps.{step-source, step-target, step-from, step-to, one-source}
 use Rattle.sequences.proofs.Pigeonhole.{pigeonhole-less}
 use Rattle.sequences.proofs.Trail.{leads-trail}
-use Rattle.recovery.proofs.Slots.{step-source, step-target, one-source}
-
--- the step that starts at a cell of a path, and the one that ends there
-pub step-from : (x : ℕ) (s : List ℕ) (z c : ℕ) → c ∈ (x ∷ s) → (t : Step) × List·Memᴰ t (steps x s z) × (t .source ≡ c)
-unfolding steps
-step-from x [] z c (List·Memᴰ·head e) = (record { source = x; target = z }, List·Memᴰ·head refl, sym e)
-step-from x [] z c (List·Memᴰ·tail m) = absurd (elim m [ ])
-step-from x (y ∷ s) z c (List·Memᴰ·head e) = (record { source = x; target = y }, List·Memᴰ·head refl, sym e)
-step-from x (y ∷ s) z c (List·Memᴰ·tail m) = let r = step-from y s z c m in (r .0, List·Memᴰ·tail (r .1), r .2)
-
-pub step-to : (x : ℕ) (s : List ℕ) (z c : ℕ) → c ∈ (s ++ z ∷ []) → (t : Step) × List·Memᴰ t (steps x s z) × (t .target ≡ c)
-unfolding steps
-step-to x [] z c (List·Memᴰ·head e) = (record { source = x; target = z }, List·Memᴰ·head refl, sym e)
-step-to x [] z c (List·Memᴰ·tail m) = absurd (elim m [ ])
-step-to x (y ∷ s) z c (List·Memᴰ·head e) = (record { source = x; target = y }, List·Memᴰ·head refl, sym e)
-step-to x (y ∷ s) z c (List·Memᴰ·tail m) = let r = step-to y s z c m in (r .0, List·Memᴰ·tail (r .1), r .2)
-
--- a property of all steps of a path
-pub all-steps : (P : Step → Type 0) (ts : List Step) → ((t : Step) → List·Memᴰ t ts → P t) → All P ts
-all-steps P [] h = tt
-all-steps P (t ∷ ts) h = (h t (List·Memᴰ·head refl), all-steps P ts (λ u m. h u (List·Memᴰ·tail m)))
-
-pub step-at : (P : Step → Type 0) (ts : List Step) → All P ts → {t : Step} → List·Memᴰ t ts → P t
-step-at P (u ∷ ts) h (List·Memᴰ·head e) = subst P (sym e) (h .0)
-step-at P (u ∷ ts) h (List·Memᴰ·tail m) = step-at P ts (h .1) m
 
 -- links that stay in s: all cells that they lead through are in s
 stays : (f : ℕ → ℕ) (j : ℕ) (s : List ℕ) (x : ℕ) (r : List ℕ) (z : ℕ) → Forward f x r z → x ∈ (j ∷ s)
@@ -78,14 +54,14 @@ module _ (inside : ℕ → Bool) (g f : ℕ → ℕ) (j a : ℕ) (s r : List ℕ
       source = step-source j s j m
 
       was : g (t .source) ≡ t .target
-      was = step-at (λ (u : Step). g (u .source) ≡ u .target) (steps j s j) old m
+      was = all-in (λ (u : Step). g (u .source) ≡ u .target) (steps j s j) old m
 
       by : Dec (t .source ≡ a) → f (t .source) ≡ t .target
       by (no n) = agree (t .source) source n ∙ was
       by (yes e) =
           -- the step of r from here ends at a cell of s, where a step of s ended: the same one
           let u = step-from j r j (t .source) (ring-in (t .source) source) in
-          let lead : f (u .0 .source) ≡ u .0 .target = step-at (λ (v : Step). f (v .source) ≡ v .target) (steps j r j) new (u .1) in
+          let lead : f (u .0 .source) ≡ u .0 .target = all-in (λ (v : Step). f (v .source) ≡ v .target) (steps j r j) new (u .1) in
           let there : u .0 .target ∈ (s ++ j ∷ []) = in-behind j s (ring-of (u .0 .target) (in-front j r (step-target j r j (u .1)))) in
           let b = step-to j s j (u .0 .target) there in
           same u lead b (ℕ-discrete (b .0 .source) a)
@@ -95,17 +71,17 @@ module _ (inside : ℕ → Bool) (g f : ℕ → ℕ) (j a : ℕ) (s r : List ℕ
           same u lead b (yes q) =
               -- a step of s from the one cell: it is t
               ap f (sym (u .2)) ∙ lead ∙ sym (b .2)
-              ∙ sym (step-at (λ (v : Step). g (v .source) ≡ v .target) (steps j s j) old (b .1)) ∙ ap g (q ∙ sym e) ∙ was
+              ∙ sym (all-in (λ (v : Step). g (v .source) ≡ v .target) (steps j s j) old (b .1)) ∙ ap g (q ∙ sym e) ∙ was
           same u lead b (no n) =
               let link : f (b .0 .source) ≡ b .0 .target =
               agree (b .0 .source) (step-source j s j (b .1)) n
-              ∙ step-at (λ (v : Step). g (v .source) ≡ v .target) (steps j s j) old (b .1) in
+              ∙ all-in (λ (v : Step). g (v .source) ≡ v .target) (steps j s j) old (b .1) in
               let w = step-from j r j (b .0 .source) (ring-in (b .0 .source) (step-source j s j (b .1))) in
               let end : w .0 .target ≡ u .0 .target =
-              sym (step-at (λ (v : Step). f (v .source) ≡ v .target) (steps j r j) new (w .1)) ∙ ap f (w .2) ∙ link ∙ b .2 in
+              sym (all-in (λ (v : Step). f (v .source) ≡ v .target) (steps j r j) new (w .1)) ∙ ap f (w .2) ∙ link ∙ b .2 in
               absurd (n (sym (w .2) ∙ one-source j r j drj (w .1) (u .1) end ∙ u .2 ∙ e))
 
   pub no-rival : r ≡ s
   no-rival =
-      let whole : Forward f j s j = all-steps (λ (t : Step). f (t .source) ≡ t .target) (steps j s j) kept in
+      let whole : Forward f j s j = in-all (λ (t : Step). f (t .source) ≡ t .target) (steps j s j) kept in
       sym (leads-trail f inside (length s) j r j inr′ out new (omega arith)) ∙ leads-trail f inside (length s) j s j ins out whole (omega arith)

@@ -1,3 +1,4 @@
+pub mod Differing
 pub mod Required
 pub mod Candidates
 pub mod Disjoint

@@ -16,6 +16,7 @@ use Rattle.stores.proofs.Laws.{run-out, length-run, applied-all}
 use Rattle.lists.specs.Lists.{Agrees}
 use Rattle.recovery.specs.Fits.{wrong}
 use Rattle.recovery.specs.Plan.{differing}
+use Rattle.recovery.proofs.Differing.{differing-self, differing-step}
 
 -- the words hold what a requirement asks
 abbrev pub Right : List ℕ → Write → Type 0
@@ -167,20 +168,6 @@ first-stored w (q ∷ rs) p ps o h e =
           ∙ wrong-out w (p .at) (p .value) rs (λ t m z. once-first q rs o t m (ap (λ (u : Write). u .at) (sym here) ∙ z))
           ∙ tail-eq-of-cons-eq r
     ]
-
--- places that differ, counted
-differing-self : (w : List ℕ) → differing w w ≡ 0
-unfolding differing
-differing-self [] = refl
-differing-self (a ∷ w) = rw (eq-eqb a a refl, differing-self w)
-
-differing-step : (w y : List ℕ) (b v : ℕ) → b < length w → length y ≡ length w → (getD w b 0 ≡ v → ⊥) → getD y b 0 ≡ v
-    → differing w y ≡ suc (differing (set w b v) y)
-unfolding differing
-differing-step [] y b v h e n q = absurd (omega arith)
-differing-step (c ∷ w) [] b v h e n q = absurd (omega arith)
-differing-step (c ∷ w) (d ∷ y) zero v h e n q = rw (ne-eqb c d (λ z. n (z ∙ q)), eq-eqb v d (sym q)) (omega arith)
-differing-step (c ∷ w) (d ∷ y) (suc b) v h e n q = rw (differing-step w y b v (omega arith) (omega arith) n q) (omega arith)
 
 -- the stores of what is wrong, made one after the other
 module _ (rs : List Write) (once : Once rs) where

@@ -1,44 +1,21 @@
 -- What is asked of a list goes to words of its cells, to each word once.
 use Prim.Native.Nat.{ℕ, _+_, _<_}
 use mathlib.Core.Path.{_≡_, refl, ap, _∙_, sym, subst}
-use mathlib.Core.List.{List, [], _∷_, _++_, map, map-id, List·Memᴰ, List·Memᴰ·head, List·Memᴰ·append-cases, List·Memᴰ·eq-of-singleton, Memᴰ·cast, Memᴰ·map, Memᴰ·of-map}
-use mathlib.Core.Logic.{⊎-elim}
+use mathlib.Core.List.{List, [], _∷_, _++_, map, map-id, List·Memᴰ, List·Memᴰ·head, List·Memᴰ·append-cases, List·Memᴰ·eq-of-singleton, Memᴰ·append-left, Memᴰ·append-right, Memᴰ·cast, Memᴰ·map, Memᴰ·of-map}
+use mathlib.Core.Logic.{_⊎_, inl, inr, ⊎-elim}
 use native.Mathlib.Decide.{ℕ-discrete}
 use native.Mathlib.Omega.{arith}
 use lib.ListN.{length}
 use Rattle.sequences.specs.Sequence.{_∈_, All, Different, Step, steps}
-use Rattle.sequences.proofs.Members.{all-in, in-front, different-append, one-image}
+use Rattle.sequences.proofs.Members.{all-in, in-front, in-behind, different-append}
+use Rattle.sequences.proofs.Steps.{sources, targets, step-source, step-target, step-from, step-to}
 use Rattle.stores.specs.Stores.{Write, write}
 use Rattle.layout.specs.declared.Layout.{Layout}
-use Rattle.layout.specs.Words.{Node, cellAt, cellWords, identAt, forwardAt, backAt, identOf}
+use Rattle.layout.specs.Words.{linkWords, countWord, Node, cellAt, cellWords, identAt, forwardAt, backAt, identOf}
 use Rattle.layout.proofs.Apart.{words-apart, cells-apart, links-words, words-header}
 use Rattle.lists.specs.Lists.{asked, identsAsked, forwardsAsked, backsAsked, countAsked, othersAsked}
 use Rattle.lists.proofs.Same.{ident-word, count-word}
 use Rattle.recovery.proofs.Required.{Once, once-append}
-
--- where the steps of a path start and end
-sources : (x : ℕ) (s : List ℕ) (z : ℕ) → map (λ (t : Step). t .source) (steps x s z) ≡ x ∷ s
-unfolding steps
-sources x [] z = refl
-sources x (y ∷ s) z = ap (λ (r : List ℕ). x ∷ r) (sources y s z)
-
-targets : (x : ℕ) (s : List ℕ) (z : ℕ) → map (λ (t : Step). t .target) (steps x s z) ≡ s ++ z ∷ []
-unfolding steps
-targets x [] z = refl
-targets x (y ∷ s) z = ap (λ (r : List ℕ). y ∷ r) (targets y s z)
-
-pub step-source : (x : ℕ) (s : List ℕ) (z : ℕ) {t : Step} → List·Memᴰ t (steps x s z) → t .source ∈ (x ∷ s)
-step-source x s z {t} m = subst (λ (r : List ℕ). t .source ∈ r) (sources x s z) (Memᴰ·map (λ (u : Step). u .source) m)
-
-pub step-target : (x : ℕ) (s : List ℕ) (z : ℕ) {t : Step} → List·Memᴰ t (steps x s z) → t .target ∈ (s ++ z ∷ [])
-step-target x s z {t} m = subst (λ (r : List ℕ). t .target ∈ r) (targets x s z) (Memᴰ·map (λ (u : Step). u .target) m)
-
--- a cell is the target of one step
-pub one-source : (x : ℕ) (s : List ℕ) (z : ℕ) → Different (s ++ z ∷ []) → {t u : Step} → List·Memᴰ t (steps x s z) → List·Memᴰ u (steps x s z)
-    → t .target ≡ u .target → t .source ≡ u .source
-one-source x s z d m m′ q =
-    ap (λ (t : Step). t .source)
-    (one-image (λ (t : Step). t .target) (steps x s z) (subst Different (sym (targets x s z)) d) m m′ q)
 
 -- the value that a list's sequence asks of word f of cell c
 pub data Value (k : ℕ) (s : List ℕ) : ℕ → ℕ → ℕ → Type 0 where
@@ -155,7 +132,42 @@ module _ (l : Layout) (k : ℕ) (s : List ℕ) (h : k < l .lists) where
       (List·Memᴰ·append-cases (identsAsked l k s) m))
       (λ m. count-slot m .0) (List·Memᴰ·append-cases (othersAsked l k s) m)
 
-  -- so no word is asked for twice
+  -- and every link of a cell of the list has one, and its count
+  pub asked-word : (c f : ℕ) → c ∈ (k ∷ s) → (f < linkWords) ⊎ ((c ≡ k) × (f ≡ countWord)) → (v : ℕ) × List·Memᴰ (write (cellAt l c + f) v) (asked l k s)
+  unfolding asked
+  asked-word c f m (inr e) =
+      (length s, Memᴰ·append-right (othersAsked l k s) (List·Memᴰ·head (ap (λ (a : ℕ). write a (length s)) (here ∙ sym (count-word l k h)))))
+    where
+      here : cellAt l c + f ≡ cellAt l k + countWord
+      here = ap (λ (d : ℕ). cellAt l d + f) (e .0) ∙ ap (λ (g : ℕ). cellAt l k + g) (e .1)
+  asked-word c f m (inl g) = by (ℕ-discrete f 0) (ℕ-discrete f 1)
+    where
+      other : {v : ℕ} → List·Memᴰ (write (cellAt l c + f) v) (othersAsked l k s) → (v : ℕ) × List·Memᴰ (write (cellAt l c + f) v) (asked l k s)
+      other {v} q = (v, Memᴰ·append-left (countAsked l k s) q)
+
+      by : Dec (f ≡ 0) → Dec (f ≡ 1) → (v : ℕ) × List·Memᴰ (write (cellAt l c + f) v) (asked l k s)
+      by (yes e) d =
+          other
+          (Memᴰ·append-left (forwardsAsked l k s ++ backsAsked l k s)
+          (Memᴰ·cast (ap (λ (a : ℕ). write a (identOf k)) (ap (λ (g : ℕ). cellAt l c + g) e ∙ sym (ident-word l c)))
+          (Memᴰ·map (λ c. write (identAt l c) (identOf k)) m)))
+      by (no z) (yes e) =
+          let t = step-from k s k c m in
+          other
+          (Memᴰ·append-right (identsAsked l k s)
+          (Memᴰ·append-left (backsAsked l k s)
+          (Memᴰ·cast (ap (λ (a : ℕ). write a (t .0 .target)) (ap (λ (g : ℕ). cellAt l c + g) e ∙ ap (forwardAt l) (sym (t .2))))
+          (Memᴰ·map (λ (t : Step). write (forwardAt l (t .source)) (t .target)) (t .1)))))
+      by (no z) (no y) =
+          let e : f ≡ 2 = omega arith in
+          let t = step-to k s k c (in-behind k s m) in
+          other
+          (Memᴰ·append-right (identsAsked l k s)
+          (Memᴰ·append-right (forwardsAsked l k s)
+          (Memᴰ·cast (ap (λ (a : ℕ). write a (t .0 .source)) (ap (λ (g : ℕ). cellAt l c + g) e ∙ ap (backAt l) (sym (t .2))))
+          (Memᴰ·map (λ (t : Step). write (backAt l (t .target)) (t .source)) (t .1)))))
+
+  -- no word is asked for twice
   apart : (f g : ℕ) (p q : Write) → (f ≡ g → ⊥) → SlotAt f p → SlotAt g q → p .at ≡ q .at → ⊥
   apart f g p q n x y e =
       words-apart l (x .0 .cell) (y .0 .cell) (x .0 .word) (y .0 .word) (λ _ z. n (sym (x .1) ∙ z ∙ y .1)) (x .0 .fits) (y .0 .fits)

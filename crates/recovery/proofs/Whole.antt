@@ -12,7 +12,7 @@ use Rattle.stores.specs.Stores.{Write, write, run, stores}
 use Rattle.layout.specs.declared.Layout.{Layout}
 use Rattle.layout.specs.declared.Opened.the-variants as O
 use Rattle.layout.specs.Words.{firstNode, Node, sizeOf, identAt, opened}
-use Rattle.lists.specs.Lists.{asked, Agrees, SoundLists}
+use Rattle.lists.specs.Lists.{asked, Agrees, IsList, SoundLists}
 use Rattle.recovery.specs.Fits.{wrong, Fits, Fit, none, only, several, fitOf}
 use Rattle.recovery.specs.Plan.{joined, outOf, nodesOut, listsAsked, clearsAsked, required, recoverStores, onlyOf, fittingOf, fitNumber, refusalFrom, recoverOf, recoverPlan, Accepted}
 use Rattle.recovery.proofs.Candidates.{Decided, decided}
@@ -61,12 +61,14 @@ all-only l w k (suc n) e j p q =
 pub number-accepted : (l : Layout) (w : List ℕ) → refusalFrom l w 0 (l .lists) ≡ 0 → Accepted l w (fittingOf l w)
 number-accepted l w e = fit-accepted l w (fittingOf l w) (λ k h. all-only l w 0 (l .lists) e k (omega arith) (omega arith))
 
--- sequences that agree below L give one plan
+-- sequences that agree below L require the same words, and give one plan
+pub required-same : (l : Layout) (s t : ℕ → List ℕ) → ((k : ℕ) → k < l .lists → s k ≡ t k) → required l s ≡ required l t
+required-same l s t h =
+    ap₂ _++_ (joined-same (λ k. asked l k (s k)) (λ k. asked l k (t k)) (l .lists) (λ k q. ap (asked l k) (h k q)))
+    (ap (λ (ms : List ℕ). map (λ c. write (identAt l c) 0) (outOf ms (firstNode l) (l .nodes))) (joined-same s t (l .lists) h))
+
 pub plan-same : (l : Layout) (w : List ℕ) (s t : ℕ → List ℕ) → ((k : ℕ) → k < l .lists → s k ≡ t k) → recoverStores l w s ≡ recoverStores l w t
-plan-same l w s t h =
-    ap (wrong w)
-    (ap₂ _++_ (joined-same (λ k. asked l k (s k)) (λ k. asked l k (t k)) (l .lists) (λ k q. ap (asked l k) (h k q)))
-    (ap (λ (ms : List ℕ). map (λ c. write (identAt l c) 0) (outOf ms (firstNode l) (l .nodes))) (joined-same s t (l .lists) h)))
+plan-same l w s t h = ap (wrong w) (required-same l s t h)
 
 -- the plan of an accepted store
 accepted-stores : (l : Layout) (w : List ℕ) (s : ℕ → List ℕ) → Accepted l w s → recoverOf l w ≡ stores (recoverStores l w s)
@@ -126,18 +128,22 @@ whole-sound l w s e a =
     agrees-sound l w (run (recoverStores l w s) w) s a
     (wrong-agreed (required l s) (required-once l w s (a .fits)) w (required-inside l w s (a .fits) e))
 
--- and a sound store needs no store
-pub sound-accepted : (l : Layout) (w : List ℕ) (x : SoundLists l w) → Accepted l w (x .sequence)
-sound-accepted l w x =
-    record { fits = fits; unique = λ k h. right-unique l w k h (x .sequence k) (fits k h) (agrees-wrong w (asked l k (x .sequence k)) (x .lists k h .agrees)) }
+-- where every list has all its words, each has only one sequence that fits
+pub lists-accepted : (l : Layout) (w : List ℕ) (s : ℕ → List ℕ) → ((k : ℕ) → k < l .lists → IsList l w k (s k)) → Accepted l w s
+lists-accepted l w s i =
+    record { fits = fits; unique = λ k h. right-unique l w k h (s k) (fits k h) (agrees-wrong w (asked l k (s k)) (i k h .agrees)) }
   where
-    fits : (k : ℕ) → k < l .lists → Fits l w k (x .sequence k)
+    fits : (k : ℕ) → k < l .lists → Fits l w k (s k)
     fits k h =
         record {
-          nodes = x .lists k h .nodes;
-          different = x .lists k h .different;
-          few = omega (arith, ap length (agrees-wrong w (asked l k (x .sequence k)) (x .lists k h .agrees)));
+          nodes = i k h .nodes;
+          different = i k h .different;
+          few = omega (arith, ap length (agrees-wrong w (asked l k (s k)) (i k h .agrees)));
         }
+
+-- so a sound store needs no store
+pub sound-accepted : (l : Layout) (w : List ℕ) (x : SoundLists l w) → Accepted l w (x .sequence)
+sound-accepted l w x = lists-accepted l w (x .sequence) (x .lists)
 
 pub sound-settled : (l : Layout) (w : List ℕ) (x : SoundLists l w) → recoverStores l w (x .sequence) ≡ []
 sound-settled l w x = agrees-wrong w (required l (x .sequence)) (sound-agrees l w x)

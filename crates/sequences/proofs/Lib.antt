@@ -1,5 +1,6 @@
 pub mod Members
 pub mod Pigeonhole
+pub mod Steps
 pub mod Trail
 pub mod Splice
 pub mod Reversed

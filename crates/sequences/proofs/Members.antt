@@ -52,6 +52,21 @@ member? x (y ∷ s) = by (ℕ-discrete x y) (member? x s)
     by (no k) (inl m) = inl (List·Memᴰ·tail m)
     by (no k) (inr h) = inr (cases h k)
 
+-- and so is whether all members of s are members of t
+pub within? : (s t : List ℕ) → ((x : ℕ) → x ∈ s → x ∈ t) ⊎ ((x : ℕ) × (x ∈ s) × (x ∈ t → ⊥))
+within? [] t = inl (λ x m. absurd (elim m [ ]))
+within? (y ∷ s) t = by (member? y t) (within? s t)
+  where
+    both : y ∈ t → ((x : ℕ) → x ∈ s → x ∈ t) → (x : ℕ) → x ∈ (y ∷ s) → x ∈ t
+    both m h x (List·Memᴰ·head e) = Memᴰ·cast e m
+    both m h x (List·Memᴰ·tail q) = h x q
+
+    by : (y ∈ t) ⊎ (y ∈ t → ⊥) → ((x : ℕ) → x ∈ s → x ∈ t) ⊎ ((x : ℕ) × (x ∈ s) × (x ∈ t → ⊥))
+        → ((x : ℕ) → x ∈ (y ∷ s) → x ∈ t) ⊎ ((x : ℕ) × (x ∈ (y ∷ s)) × (x ∈ t → ⊥))
+    by (inr n) r = inr (y, List·Memᴰ·head refl, n)
+    by (inl m) (inr r) = inr (r .0, List·Memᴰ·tail (r .1), r .2)
+    by (inl m) (inl h) = inl (both m h)
+
 -- the member at a position
 pub at-in : (s : List ℕ) (i : ℕ) → i < length s → getD s i 0 ∈ s
 at-in [] i h = absurd (omega arith)

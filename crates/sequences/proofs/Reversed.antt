@@ -32,6 +32,11 @@ in-reverse (y ∷ s) {x} m =
 pub reverse-in : (s : List ℕ) {x : ℕ} → x ∈ s → x ∈ reverse s
 reverse-in s {x} m = in-reverse (reverse s) (subst (λ (t : List ℕ). x ∈ t) (sym (reverse-reverse s)) m)
 
+-- the cells of a ring are those of the reversed one
+pub ring-reverse : (k : ℕ) (s : List ℕ) {x : ℕ} → x ∈ (k ∷ reverse s) → x ∈ (k ∷ s)
+ring-reverse k s (List·Memᴰ·head e) = List·Memᴰ·head e
+ring-reverse k s (List·Memᴰ·tail m) = List·Memᴰ·tail (in-reverse s m)
+
 pub all-reverse : (P : ℕ → Type 0) (s : List ℕ) → All P s → All P (reverse s)
 all-reverse P s h = in-all P (reverse s) (λ x m. all-in P s h (in-reverse s m))
 
