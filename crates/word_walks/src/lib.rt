@@ -31,16 +31,24 @@ pub fn link(words: &[u16], a: usize) -> usize
     word(words, a) as usize
 }
 
-// The cell whose words begin at a.
+// The cell that the part begins with: its identifier and links.
+fn links_of(part: &[u16]) -> Cell
+    requires { ⌜ linkWords ≤ length (now part) ⌝ }
+    ensures { λ r. ⌜ r ≡ cellOf (now (part .entry)) 0 ⌝ }
+{
+    Cell {
+        ident: word(part, Layout::IDENTIFIER),
+        forward: link(part, Layout::FORWARD),
+        back: link(part, Layout::BACK),
+    }
+}
+
+// The cell whose words begin at a: those from its first word onward, as a part.
 fn cell_at(words: &[u16], a: usize) -> Cell
     requires { ⌜ a + linkWords ≤ length (now words) ⌝ }
     ensures { λ r. ⌜ r ≡ cellOf (now (words .entry)) a ⌝ }
 {
-    Cell {
-        ident: word(words, a),
-        forward: link(words, a + Layout::FORWARD),
-        back: link(words, a + Layout::BACK),
-    }
+    links_of(&words[a..])
 }
 
 // Node y.
