@@ -1,6 +1,8 @@
 //! The archive held against the model: each call through C on many stores, at every allowance. A check is one call: its answer,
-//! every byte of the store, the bytes round it, the record and the bytes round that. The last line is 'N passed, M failed'.
+//! every byte of the store, the bytes round it, the record and the bytes round that. In `alterations` it is mostly check's answer
+//! alone. The last line is 'N passed, M failed'.
 
+mod alterations;
 mod calls;
 mod checks;
 mod courses;
@@ -46,7 +48,7 @@ type Part = (&'static str, fn(&mut Tests));
 
 fn main() {
     let mut t = Tests::new(1201);
-    let parts: [Part; 16] = [
+    let parts: [Part; 21] = [
         ("lengths", calls::lengths),
         ("heads", calls::heads),
         ("formats", calls::formats),
@@ -62,6 +64,11 @@ fn main() {
         ("small courses", courses::small_courses),
         ("large courses", courses::large_courses),
         ("largest", calls::largest),
+        ("one, two and three altered words", alterations::up_to_three),
+        ("one altered word put back", alterations::put_back),
+        ("altered words of larger stores", alterations::larger_stores),
+        ("four altered words", alterations::four_words),
+        ("free words", alterations::free_words),
         ("answers", answers),
     ];
     for (name, part) in parts {

@@ -1,8 +1,9 @@
 //! All courses of one call on a small store: every cut of the call, every word of the cells altered to each of some values, every
 //! cut of a first and of a second recovery, then a whole one.
 
+use crate::alterations::alterable;
 use crate::recovery::{due_of_delete, due_of_insert, recover_plan, Course};
-use crate::store::{self, delete, insert, make, open, Answer, WordStore};
+use crate::store::{delete, insert, make, Answer, WordStore};
 use std::collections::HashMap;
 
 /// Larger stores are not tried.
@@ -91,18 +92,6 @@ fn recover(plans: &mut Plans, words: &mut Vec<u16>, allowance: u16) -> Answer {
             answer
         }
     }
-}
-
-/// The words that may be altered in each list, one of each: the header's four, and a member's identifier, forward and back.
-fn alterable(words: &[u16]) -> Option<Vec<Vec<usize>>> {
-    let shape = open(words).ok()?;
-    let lists = store::lists(words, shape)?;
-    let of = |(k, sequence): (usize, &Vec<usize>)| {
-        let header = (0..4).map(|i| shape.cell(k) + i);
-        let members = sequence.iter().flat_map(|&cell| (0..3).map(move |i| shape.cell(cell) + i));
-        header.chain(members).collect()
-    };
-    Some(lists.iter().enumerate().map(of).collect())
 }
 
 impl Courses {

@@ -94,6 +94,21 @@ pub fn sequences(cells: &[usize]) -> Vec<Vec<usize>> {
     all
 }
 
+/// Every choice of the lists' sequences.
+pub fn all_lists(lists: usize, cells: &[usize]) -> Vec<Vec<Vec<usize>>> {
+    if lists == 0 {
+        return vec![vec![]];
+    }
+    let mut all = vec![];
+    for first in sequences(cells) {
+        let others: Vec<usize> = cells.iter().copied().filter(|c| !first.contains(c)).collect();
+        for rest in all_lists(lists - 1, &others) {
+            all.push([vec![first.clone()], rest].concat());
+        }
+    }
+    all
+}
+
 /// The list's sequence, found among all that there are.
 fn list_by_enumeration(words: &[u16], shape: Shape, list: usize, all: &[Vec<usize>]) -> Option<Vec<usize>> {
     let fitting: Vec<&Vec<usize>> = all.iter().filter(|s| is_list(words, shape, list, s)).collect();

@@ -3,7 +3,7 @@
 use crate::{altered, values_for, Script};
 use model::recovery::{due_of_delete, due_of_insert};
 use model::script::{Operation, Operation::*, LONGEST};
-use model::store::{self, sequences, store_of, Shape, IDENTIFIER};
+use model::store::{self, all_lists, store_of, Shape, IDENTIFIER};
 
 /// No call needs a larger allowance.
 pub const ENOUGH: u16 = 65_535;
@@ -195,21 +195,6 @@ pub fn smallest_stores(s: &mut Script) {
         s.cut(shape, &insertion);
         s.cut(shape, &Deletion { list: 0, position: 0 });
     }
-}
-
-/// Every choice of the lists' sequences.
-pub fn all_lists(lists: usize, cells: &[usize]) -> Vec<Vec<Vec<usize>>> {
-    if lists == 0 {
-        return vec![vec![]];
-    }
-    let mut all = vec![];
-    for first in sequences(cells) {
-        let others: Vec<usize> = cells.iter().copied().filter(|c| !first.contains(c)).collect();
-        for rest in all_lists(lists - 1, &others) {
-            all.push([vec![first.clone()], rest].concat());
-        }
-    }
-    all
 }
 
 /// All sound stores of some small shapes: an insert at every position and a delete of every member, and just beyond.

@@ -1,11 +1,12 @@
 //! The parts of the script that recover.
 
-use crate::edits::{all_lists, formatted, random_edit, Edit, Edit::*, ENOUGH};
+use crate::edits::{formatted, random_edit, Edit, Edit::*, ENOUGH};
 use crate::{altered, values_for, Script};
+use model::alterations::adversarial;
 use model::courses::{Call, Courses};
 use model::recovery::{recover, Course};
 use model::script::Operation::*;
-use model::store::{self, store_of, Answer, Shape, IDENTIFIER};
+use model::store::{self, all_lists, store_of, Answer, Shape, IDENTIFIER};
 
 impl Script {
     /// Recover, and its answer.
@@ -326,13 +327,6 @@ pub fn courses(s: &mut Script) {
         }
         course(s, shape, &Deletion { list: lists, position: 0 }, ENOUGH, most);
     }
-}
-
-/// The values that a word of a cell is altered to: every cell number and one beyond, every identifier, 65,535.
-fn adversarial(shape: Shape) -> Vec<u16> {
-    let cells = 0..=(shape.lists + shape.nodes) as u16;
-    let identifiers = (0..shape.lists as u16).map(|k| IDENTIFIER + k);
-    cells.chain(identifiers).chain([65_535]).collect()
 }
 
 /// Every insert and delete that the store allows, and those just beyond, with all their courses. A second word is altered too.
