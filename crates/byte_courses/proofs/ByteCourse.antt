@@ -28,7 +28,7 @@ edit-plan b (insert k p c rec) h = rw (eq-eqb (length b % 2) 0 h)
 edit-plan b (several k p c rec) h = rw (eq-eqb (length b % 2) 0 h)
 edit-plan b (delete k p) h = rw (eq-eqb (length b % 2) 0 h)
 
-recover-plan : (y : List ℕ) → length y % 2 ≡ 0 → byteRecover y ≡ recoverPlan (wordsIn y)
+pub recover-plan : (y : List ℕ) → length y % 2 ≡ 0 → byteRecover y ≡ recoverPlan (wordsIn y)
 unfolding byteRecover
 recover-plan y h = rw (eq-eqb (length y % 2) 0 h)
 
@@ -36,7 +36,7 @@ recover-plan y h = rw (eq-eqb (length y % 2) 0 h)
 edit-words : (b : List ℕ) (e : Edit) (m : ℕ) → length b % 2 ≡ 0 → wordsIn (bytesAfter (byteEdit b e) m b) ≡ wordsAfter (editPlan (wordsIn b) (inWords e)) m (wordsIn b)
 edit-words b e m h = words-after (byteEdit b e) m b h ∙ ap (λ (p : Plan). wordsAfter p m (wordsIn b)) (edit-plan b e h)
 
-recover-words : (y : List ℕ) (m : ℕ) → length y % 2 ≡ 0 → wordsIn (bytesAfter (byteRecover y) m y) ≡ wordsAfter (recoverPlan (wordsIn y)) m (wordsIn y)
+pub recover-words : (y : List ℕ) (m : ℕ) → length y % 2 ≡ 0 → wordsIn (bytesAfter (byteRecover y) m y) ≡ wordsAfter (recoverPlan (wordsIn y)) m (wordsIn y)
 recover-words y m h = words-after (byteRecover y) m y h ∙ ap (λ (p : Plan). wordsAfter p m (wordsIn y)) (recover-plan y h)
 
 even-after : (y : List ℕ) (m : ℕ) → length y % 2 ≡ 0 → length (bytesAfter (byteRecover y) m y) % 2 ≡ 0

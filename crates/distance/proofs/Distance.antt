@@ -1,0 +1,97 @@
+-- The statement on altered words holds, for the calls on words and for those from C; and four altered words can pass, by calculation.
+use Prim.Native.Nat.{ℕ, _%_, _≤_}
+use mathlib.Core.Path.{_≡_, refl, ap, _∙_, sym}
+use mathlib.Core.List.{List}
+use native.Mathlib.Decide.{ℕ-discrete}
+use native.Mathlib.Omega.{arith}
+use lib.ListN.{length, getD, set}
+use lib.Seq.{getD-set-other}
+use borrow.Author.Tests.{eq-eqb}
+use Rattle.sequences.specs.Sequence.{trail}
+use Rattle.stores.specs.Stores.{run, Plan, refuse, stores, answerOf}
+use Rattle.byte_form.specs.Bytes.{wordsIn, byteWrites, bytesAfter}
+use Rattle.layout.specs.Words.{isNode, checkWords, nodeAt, cellAt, sizeOf, marked, layoutOf, layoutFor, inRange, openedBy, emptyHeaders, formatted}
+use Rattle.lists.specs.Lists.{Sound}
+use Rattle.lists.specs.Decide.{turn, holds, allHold, members, used, soundIn}
+use Rattle.requests.specs.Requests.{siteIn, lookOf}
+use Rattle.recovery.specs.Plan.{recoverPlan, differing}
+use Rattle.axle_store.specs.declared.Checked.the-variants as C
+use Rattle.axle_store.specs.Answers.{checkedNumber}
+use Rattle.axle_store.specs.Calls.{checkAnswer}
+use Rattle.axle_store.proofs.Calls.{check-sound}
+use Rattle.axle.specs.Interface.{codeOf, checkCode, byteRecover}
+use Rattle.byte_courses.proofs.ByteCourse.{recover-plan, recover-words}
+use Rattle.distance.specs.Distance.{Place, header, identifier, Changed, PutBack, BytesPutBack, Distance}
+use Rattle.distance.proofs.Noticed.{noticed}
+use Rattle.distance.proofs.PutBack.{put-back}
+
+-- A formatted store of one list and one node, and the same in which the node is a member. Its links, 0, need no change: both are the header.
+empty : List ℕ
+empty = formatted (layoutFor 1 1 1)
+
+single : List ℕ
+single = set (set (set (set empty 9 1) 10 1) 11 1) 12 42400
+
+empty-check : checkAnswer empty ≡ C.Sound
+unfolding empty trail isNode checkWords nodeAt cellAt sizeOf marked inRange openedBy emptyHeaders formatted turn holds allHold members used soundIn siteIn lookOf checkAnswer
+empty-check = refl
+
+single-check : checkAnswer single ≡ C.Sound
+unfolding empty single trail isNode checkWords nodeAt cellAt sizeOf marked inRange openedBy emptyHeaders formatted turn holds allHold members used soundIn siteIn lookOf checkAnswer
+single-check = refl
+
+four-differ : differing empty single ≡ 4
+unfolding empty single emptyHeaders formatted checkWords differing
+four-differ = refl
+
+four-places : (s : Sound empty) → Changed empty s single
+unfolding empty single emptyHeaders formatted checkWords nodeAt cellAt
+four-places s =
+    record { size = refl; places = λ a. by a (ℕ-discrete a 9) (ℕ-discrete a 10) (ℕ-discrete a 11) (ℕ-discrete a 12) }
+  where
+    by : (a : ℕ) → Dec (a ≡ 9) → Dec (a ≡ 10) → Dec (a ≡ 11) → Dec (a ≡ 12) → (getD empty a 0 ≡ getD single a 0 → ⊥)
+        → Place (layoutOf empty) (s .lists .sequence) a
+    by a (yes e) q r t n = header 0 1 (omega arith) (omega arith) e
+    by a (no p) (yes e) r t n = header 0 2 (omega arith) (omega arith) e
+    by a (no p) (no q) (yes e) t n = header 0 3 (omega arith) (omega arith) e
+    by a (no p) (no q) (no r) (yes e) n = identifier 1 (record { low = omega arith; high = omega arith }) e
+    by a (no p) (no q) (no r) (no t) n =
+        absurd (n (sym (
+        getD-set-other (set (set (set empty 9 1) 10 1) 11 1) 12 a 42400 0 t
+        ∙ getD-set-other (set (set empty 9 1) 10 1) 11 a 1 0 r
+        ∙ getD-set-other (set empty 9 1) 10 a 1 0 q
+        ∙ getD-set-other empty 9 a 1 0 p)))
+
+-- the calls from C
+no-store : (p : Plan) (b : List ℕ) → bytesAfter p 0 b ≡ b
+unfolding run byteWrites
+no-store (refuse n) b = refl
+no-store (stores ps) b = refl
+
+module _ (b : List ℕ) (s : Sound (wordsIn b)) (b′ : List ℕ) (even : length b′ % 2 ≡ 0) (c : Changed (wordsIn b) s (wordsIn b′)) where
+  bytes-noticed : 1 ≤ differing (wordsIn b) (wordsIn b′) → differing (wordsIn b) (wordsIn b′) ≤ 3 → checkCode b′ ≡ 6
+  unfolding checkCode
+  bytes-noticed some few = rw (eq-eqb (length b′ % 2) 0 even) (ap checkedNumber (noticed (wordsIn b) s (wordsIn b′) c some few))
+
+  bytes-back : differing (wordsIn b) (wordsIn b′) ≡ 1 → BytesPutBack (wordsIn b) b′
+  bytes-back one =
+      record {
+        done = λ m h. let r = p .done m h in (ap codeOf (answer m ∙ r .0), recover-words b′ m even ∙ r .1);
+        cut = (ap codeOf (answer 0 ∙ p .cut .0), no-store (byteRecover b′) b′);
+      }
+    where
+      p : PutBack (wordsIn b) (wordsIn b′)
+      p = put-back (wordsIn b) s (wordsIn b′) c one
+
+      answer : (m : ℕ) → answerOf (byteRecover b′) m ≡ answerOf (recoverPlan (wordsIn b′)) m
+      answer m = ap (λ (q : Plan). answerOf q m) (recover-plan b′ even)
+
+pub distance : Distance
+distance =
+    record {
+      noticed = λ w s w′ c some few. noticed w s w′ c some (omega (arith, few));
+      putBack = put-back;
+      four = (empty, check-sound empty empty-check, single, four-places (check-sound empty empty-check), four-differ, single-check);
+      noticedInBytes = bytes-noticed;
+      putBackInBytes = bytes-back;
+    }

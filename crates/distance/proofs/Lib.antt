@@ -1,0 +1,5 @@
+pub mod Rings
+pub mod Far
+pub mod Noticed
+pub mod PutBack
+pub mod Distance

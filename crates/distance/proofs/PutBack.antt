@@ -1,0 +1,182 @@
+-- One altered word is put back: every list still takes its sequence, so what is wrong of the required words is that word alone.
+use Prim.Native.Nat.{ℕ, zero, suc, _+_, _<_, _≤_}
+use mathlib.Core.Path.{_≡_, refl, ap, _∙_, sym, subst}
+use mathlib.Core.List.{List, [], _∷_, List·Memᴰ·head, List·Memᴰ·tail}
+use mathlib.Core.Bool.{Bool, true, false, cond}
+use mathlib.Core.Logic.{_⊎_, inl, inr}
+use native.Mathlib.Decide.{ℕ-discrete}
+use native.Mathlib.Omega.{arith}
+use lib.Dec.{eqb, ltb}
+use lib.ListN.{length, getD, set, length-set}
+use lib.Seq.{getD-set-other, set-set, set-getD}
+use borrow.Author.Tests.{eq-eqb, ne-eqb, lt-ltb, le-ltb, ltb-true, ltb-false}
+use Rattle.sequences.specs.Sequence.{_∈_}
+use Rattle.sequences.proofs.Members.{all-in, member?}
+use Rattle.stores.specs.declared.Answer.the-variants as A
+use Rattle.stores.specs.Stores.{Write, write, run, Plan, stores, answerOf, wordsAfter}
+use Rattle.stores.proofs.Laws.{applied-all}
+use Rattle.layout.specs.declared.Layout.{Layout}
+use Rattle.layout.specs.Words.{Node, cellAt, identAt, layoutOf}
+use Rattle.layout.proofs.Apart.{cells-apart, links-words}
+use Rattle.lists.specs.Lists.{SoundLists, Sound}
+use Rattle.lists.proofs.Same.{ident-word, list-same}
+use Rattle.edits.specs.Edited.{replaced}
+use Rattle.edits.proofs.Edited.{replaced-other}
+use Rattle.recovery.specs.Fits.{wrong, Fits}
+use Rattle.recovery.specs.Plan.{joined, required, recoverPlan, Accepted, differing}
+use Rattle.recovery.proofs.Required.{wrong-one}
+use Rattle.recovery.proofs.Differing.{differing-step, differ-none, differ-some}
+use Rattle.recovery.proofs.Joined.{one-joined, joined-one}
+use Rattle.recovery.proofs.Count.{required-once}
+use Rattle.recovery.proofs.Whole.{accepted-plan, lists-accepted, sound-agrees, sound-accepted}
+use Rattle.courses.specs.Course.{Alteration, untouched, altered, alter, Allowed, AllowedBut, alteredBelow}
+use Rattle.courses.proofs.Found.{found-accepted}
+use Rattle.distance.specs.Distance.{Place, header, identifier, link, Changed, PutBack}
+use Rattle.distance.proofs.Noticed.{place-asked, changed-opened}
+
+-- a word of a list is altered: one alteration of demand 3, after a call that names no list
+module _ (l : Layout) (w : List ℕ) (x : SoundLists l w) (j : ℕ) (h : j < l .lists) (c f v : ℕ) (allowed : Allowed j (x .sequence j) (altered c f v)) where
+  alts : ℕ → Alteration
+  alts i = cond (eqb i j) (altered c f v) untouched
+
+  own : (i : ℕ) → i ≡ j → alts i ≡ altered c f v
+  unfolding alts
+  own i e = rw (eq-eqb i j e)
+
+  others : (i : ℕ) → (i ≡ j → ⊥) → alts i ≡ untouched
+  unfolding alts
+  others i n = rw (ne-eqb i j n)
+
+  all-allowed : AllowedBut (l .lists) (l .lists) (x .sequence) alts
+  all-allowed i g n = by (ℕ-discrete i j)
+    where
+      by : Dec (i ≡ j) → Allowed i (x .sequence i) (alts i)
+      by (yes e) = subst (Allowed i (x .sequence i)) (sym (own i e)) (subst (λ (q : ℕ). Allowed q (x .sequence q) (altered c f v)) (sym e) allowed)
+      by (no q) = subst (Allowed i (x .sequence i)) (sym (others i q)) tt
+
+  -- below list j nothing is altered, and from there on that word
+  below : (n : ℕ) → n ≤ l .lists → alteredBelow l (l .lists) alts n w ≡ cond (ltb j n) (set w (cellAt l c + f) v) w
+  unfolding alteredBelow
+  below zero g = rw (le-ltb j 0 (omega arith))
+  below (suc n) g =
+      rw (ne-eqb n (l .lists) (λ e. omega (arith, e))) (ap (alter l (alts n)) (below n (omega arith)) ∙ by (ℕ-discrete n j))
+    where
+      by : Dec (n ≡ j) → alter l (alts n) (cond (ltb j n) (set w (cellAt l c + f) v) w) ≡ cond (ltb j (suc n)) (set w (cellAt l c + f) v) w
+      by (yes e) = rw (own n e, le-ltb j n (omega arith), lt-ltb j (suc n) (omega arith))
+      by (no q) = rw (others n q, later)
+        where
+          later : ltb j (suc n) ≡ ltb j n
+          later = both (ltb j n) refl
+            where
+              both : (b : Bool) → ltb j n ≡ b → ltb j (suc n) ≡ b
+              both true z = lt-ltb j (suc n) (omega (arith, ltb-true j n z))
+              both false z = le-ltb j (suc n) (omega (arith, ltb-false j n z, q))
+
+  list-accepted : Accepted l (set w (cellAt l c + f) v) (x .sequence)
+  list-accepted =
+      record {
+        fits = λ i g. subst (Fits l (set w (cellAt l c + f) v) i) (kept i g) (found .fits i g);
+        unique = λ i g r q. found .unique i g r q ∙ kept i g;
+      }
+    where
+      found : Accepted l (set w (cellAt l c + f) v) (replaced (x .sequence) (l .lists) [])
+      found =
+          subst (λ (y : List ℕ). Accepted l y (replaced (x .sequence) (l .lists) []))
+          (below (l .lists) (omega arith) ∙ rw (lt-ltb j (l .lists) h))
+          (found-accepted l w x (l .lists) alts all-allowed w (λ _ _ _ _ _ _ _. refl)
+          (λ i n o. inl (x .outside i n (λ k g m. o k g (λ e. omega (arith, e)) m))) [] (λ g. absurd (omega arith)))
+
+      kept : (i : ℕ) → i < l .lists → replaced (x .sequence) (l .lists) [] i ≡ x .sequence i
+      kept i g = replaced-other (x .sequence) (l .lists) [] i (λ e. omega (arith, e))
+
+-- the identifier of a node in no list is altered: every list has all its words
+outside-accepted : (l : Layout) (w : List ℕ) (x : SoundLists l w) (i v : ℕ) → Node l i → (i ∈ joined (x .sequence) (l .lists) → ⊥)
+    → Accepted l (set w (identAt l i) v) (x .sequence)
+outside-accepted l w x i v n o =
+    lists-accepted l (set w (identAt l i) v) (x .sequence)
+    (λ k h.
+    list-same l w k h (x .sequence k) (x .lists k h) (set w (identAt l i) v)
+    (λ c f m g.
+    getD-set-other w (identAt l i) (cellAt l c + f) v 0
+    (λ e.
+    cells-apart l c i f 0 (λ q. apart k h c m q) g (links-words l i 0 (omega arith)) (e ∙ ident-word l i))))
+  where
+    apart : (k : ℕ) → k < l .lists → (c : ℕ) → c ∈ (k ∷ x .sequence k) → c ≡ i → ⊥
+    apart k h c (List·Memᴰ·head e) q = omega (arith, n .low)
+    apart k h c (List·Memᴰ·tail m) q = o (one-joined (x .sequence) (l .lists) k i h (subst (λ (d : ℕ). d ∈ x .sequence k) q m))
+
+place-accepted : (l : Layout) (w : List ℕ) (x : SoundLists l w) (a v : ℕ) → Place l (x .sequence) a → Accepted l (set w a v) (x .sequence)
+place-accepted l w x a v (header k f h g e) =
+    subst (λ (b : ℕ). Accepted l (set w b v) (x .sequence)) (sym e) (list-accepted l w x k h k f v (inl (refl, g)))
+place-accepted l w x a v (link k c f h m g e) =
+    subst (λ (b : ℕ). Accepted l (set w b v) (x .sequence)) (sym e) (list-accepted l w x k h c f v (inr (m, g)))
+place-accepted l w x a v (identifier i n e) = by (member? i (joined (x .sequence) (l .lists)))
+  where
+    by : (i ∈ joined (x .sequence) (l .lists)) ⊎ (i ∈ joined (x .sequence) (l .lists) → ⊥) → Accepted l (set w a v) (x .sequence)
+    by (inl m) =
+        let k = joined-one (x .sequence) (l .lists) i m in
+        subst (λ (b : ℕ). Accepted l (set w b v) (x .sequence)) (sym (e ∙ ident-word l i))
+        (list-accepted l w x (k .0) (k .1) i 0 v (inr (k .2, omega arith)))
+    by (inr o) = subst (λ (b : ℕ). Accepted l (set w b v) (x .sequence)) (sym e) (outside-accepted l w x i v n o)
+
+module _ (w : List ℕ) (s : Sound w) (w′ : List ℕ) (c : Changed w s w′) (one : differing w w′ ≡ 1) where
+  abbrev l : Layout
+  l = layoutOf w
+
+  abbrev sequence : ℕ → List ℕ
+  sequence = s .lists .sequence
+
+  -- the altered word, and its new value
+  some : (a : ℕ) × (a < length w) × (getD w a 0 ≡ getD w′ a 0 → ⊥)
+  some = differ-some w w′ (c .size) (omega arith)
+
+  abbrev a : ℕ
+  a = some .0
+
+  abbrev v : ℕ
+  v = getD w′ a 0
+
+  changed : w′ ≡ set w a v
+  changed =
+      differ-none (set w a v) w′ (c .size ∙ sym (length-set w a v))
+      (omega (arith, one, differing-step w w′ a v (some .1) (c .size) (some .2) refl))
+
+  place : Place l sequence a
+  place = c .places a (some .2)
+
+  -- the plan is its old value
+  one-store : recoverPlan w′ ≡ stores (write a (getD w a 0) ∷ [])
+  one-store =
+      let q = place-asked l sequence a place in
+      let old : getD w a 0 ≡ q .0 = all-in (λ (p : Write). getD w (p .at) 0 ≡ p .value) (required l sequence) (sound-agrees l w (s .lists)) (q .1) in
+      accepted-plan l w′ sequence (changed-opened w s w′ c)
+      (subst (λ (y : List ℕ). Accepted l y sequence) (sym changed) (place-accepted l w (s .lists) a v place))
+      ∙ ap stores
+      (ap (λ (y : List ℕ). wrong y (required l sequence)) changed
+      ∙ wrong-one (required l sequence) w a (q .0) v (required-once l w sequence (sound-accepted l w (s .lists) .fits)) (sound-agrees l w (s .lists))
+      (some .1) (q .1) (λ e. some .2 (old ∙ sym e))
+      ∙ ap (λ (u : ℕ). write a u ∷ []) (sym old))
+
+  -- and storing it gives the same words
+  restored : set w′ a (getD w a 0) ≡ w
+  restored = ap (λ (y : List ℕ). set y a (getD w a 0)) changed ∙ set-set w a v (getD w a 0) ∙ set-getD w a 0
+
+  abbrev ps : List Write
+  ps = write a (getD w a 0) ∷ []
+
+  whole : (m : ℕ) → 1 ≤ m → (answerOf (stores ps) m ≡ A.Done 1) × (wordsAfter (stores ps) m w′ ≡ w)
+  unfolding run
+  whole m h = (rw (le-ltb m 1 h), applied-all ps m w′ h ∙ restored)
+
+  nothing : (answerOf (stores ps) 0 ≡ A.Stopped 0) × (wordsAfter (stores ps) 0 w′ ≡ w′)
+  unfolding run
+  nothing = (refl, refl)
+
+  pub put-back : PutBack w w′
+  put-back =
+      record {
+        at = a;
+        plan = one-store;
+        done = λ m h. subst (λ (p : Plan). (answerOf p m ≡ A.Done 1) × (wordsAfter p m w′ ≡ w)) (sym one-store) (whole m h);
+        cut = subst (λ (p : Plan). (answerOf p 0 ≡ A.Stopped 0) × (wordsAfter p 0 w′ ≡ w′)) (sym one-store) nothing;
+      }

@@ -1,0 +1,1 @@
+// No function: how far check and recovery can be trusted where words were altered.
