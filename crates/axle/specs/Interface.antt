@@ -1,12 +1,12 @@
 -- The calls from C: the word calls' answers and plans, of "the words of these bytes". "There an answer is one 32-bit number."
-use Prim.Native.Nat.{ℕ, _+_, _%_}
-use mathlib.Core.List.{List, []}
+use Prim.Native.Nat.{ℕ, _+_}
+use mathlib.Core.List.{List}
 use lib.Dec.{eqb}
 use lib.ListN.{length}
 use Rattle.stores.specs.declared.Answer.{Answer}
 use Rattle.stores.specs.declared.Answer.the-variants as A
 use Rattle.stores.specs.Stores.{Plan, refuse, stores, run, inRow}
-use Rattle.byte_form.specs.Bytes.{wordsIn, byteWrites}
+use Rattle.byte_form.specs.Bytes.{byteWrites}
 use Rattle.layout.specs.declared.Layout.{Layout}
 use Rattle.layout.specs.Words.{ask, inRange, sizeOf, formatted}
 use Rattle.recovery.specs.Plan.{recoverPlan}
@@ -14,14 +14,7 @@ use Rattle.axle_store.specs.declared.Counted.{Counted}
 use Rattle.axle_store.specs.declared.Counted.the-variants as L
 use Rattle.axle_store.specs.Answers.{checkedNumber}
 use Rattle.axle_store.specs.Calls.{checkAnswer, lengthAnswer, insertPlan, severalPlan, deletePlan}
-
--- "A store of odd byte length is answered 4 before all else": else what the call says of the words
-abbrev pub evenly {ℓ} : {A : Type ℓ} → List ℕ → A → (List ℕ → A) → A
-evenly bytes refusal call = ask (eqb (length bytes % 2) 0) refusal (call (wordsIn bytes))
-
--- "a record of odd byte length is answered 9 in its turn": it counts as a record of no words, and P is at least 1
-unfoldable pub recordWords : List ℕ → List ℕ
-recordWords bytes = evenly bytes [] (λ w. w)
+use Rattle.byte_calls.specs.Records.{evenly, recordWords}
 
 -- "a refusal's number, ..; 65,536 plus the length or the number of stores done; 131,072 plus the number where stopped"
 abbrev pub codeOf : Answer → ℕ

@@ -4,14 +4,12 @@ use layout::Layout;
 use layout::Opened;
 use requests::Looked;
 use requests::Request;
-use requests::Site;
 use stores::Answer;
 ghost use mathlib.Core.Path.{_≡_};
-ghost use Prim.Native.Nat.{_+_, _*_, _/_, _≤_, _<_};
+ghost use Prim.Native.Nat.{_+_, _*_, _≤_, _<_};
 ghost use lib.ListN.{length};
-ghost use Rattle.stores.specs.Stores.{run, stores, inRow, applied, answerOf, wordsAfter, answerNumber, answerStores, planNumber, madeBy};
-ghost use Rattle.layout.specs.Words.{InRange, tailWords, sizeOf, layoutFor, formatted};
-ghost use Rattle.edits.specs.Edits.{insertWrites, chainFrom, deleteWrites, Placed, Room};
+ghost use Rattle.stores.specs.Stores.{run, stores, inRow, answerOf, wordsAfter, answerNumber, answerStores, planNumber, madeBy};
+ghost use Rattle.layout.specs.Words.{InRange, sizeOf, layoutFor, formatted};
 ghost use Rattle.recovery.specs.Plan.{recoverPlan};
 ghost use Rattle.axle_store.specs.Answers.{checkedNumber, formattedNumber, countedNumber, countedLength};
 ghost use Rattle.axle_store.specs.Calls.{formatAnswer, formatNumber, formatWords, checkAnswer, checkNumber, lengthAnswer, lengthNumber, lengthValue, readNumber, readWords, readStart, insertPlan, severalPlan, deletePlan};
@@ -178,32 +176,6 @@ pub fn read(words: &[u16], list: u16, position: u16) -> &[u16]
     }
 }
 
-// Makes the stores of an insert, the record and then the links, up to the allowance.
-fn insert_at(
-    words: &mut [u16],
-    l: Layout,
-    list: u16,
-    t: Site,
-    rec: &[u16],
-    allowance: u16,
-) -> Answer
-    requires { ⌜ Placed l list t × (length (now rec) ≡ tailWords l) × (length (now words) ≡ sizeOf l) ⌝ }
-    ensures answer { λ r. ⌜ r ≡ answerOf (stores (insertWrites l list t (now (rec .entry)))) allowance ⌝ }
-    ensures words { λ _. ⌜ now (words .exit) ≡ applied (insertWrites l list t (now (rec .entry))) allowance (now (words .entry)) ⌝ }
-{
-    let first = l.node(t.cell) + Layout::LINK_WORDS;
-    let Answer::Done(n) = stores::put_row(words, first, rec, allowance) else {
-        return Answer::Stopped(allowance);
-    };
-    let links = edits::insert_links(l, list, t);
-    let at = links.at;
-    let values = links.values;
-    let Answer::Done(m) = stores::run(words, &at, &values, allowance - n) else {
-        return Answer::Stopped(allowance);
-    };
-    Answer::Done(n + m)
-}
-
 // Inserts a record into the list at the position, in the first free cell from the starting cell on.
 pub fn insert(
     words: &mut [u16],
@@ -220,38 +192,7 @@ pub fn insert(
 {
     match word_requests::look(words, Request::Gap(list, position, start, rec.len())) {
         Looked::Refused(n) => Answer::Refused(n),
-        Looked::At(l, t) => insert_at(words, l, list, t, rec, allowance),
-    }
-}
-
-// Makes the stores of several inserts, one record after another from the first site on, up to the allowance.
-fn insert_all(
-    words: &mut [u16],
-    l: Layout,
-    list: u16,
-    first: Site,
-    records: &[u16],
-    allowance: u16,
-) -> Answer
-    requires { ⌜ Room l (now words) list first (length (now records) / l .width) × (0 < length (now records)) × (length (now records) ≡ length (now records) / l .width * l .width) ⌝ }
-    ensures answer { λ r. ⌜ r ≡ answerOf (stores (chainFrom l (now (words .entry)) list first (length (now (records .entry)) / l .width) (now (records .entry)))) allowance ⌝ }
-    ensures words { λ _. ⌜ now (words .exit) ≡ applied (chainFrom l (now (words .entry)) list first (length (now (records .entry)) / l .width) (now (records .entry))) allowance (now (words .entry)) ⌝ }
-{
-    let width = l.width as usize;
-    let mut t = first;
-    let mut at: usize = 0;
-    let mut made: u16 = 0;
-    loop {
-        let e = at + width;
-        let Answer::Done(n) = insert_at(words, l, list, t, &records[at..e], allowance - made) else {
-            return Answer::Stopped(allowance);
-        };
-        made += n;
-        if e == records.len() {
-            return Answer::Done(made);
-        }
-        at = e;
-        t = word_requests::next_site(words, l, t);
+        Looked::At(l, t) => word_edits::insert_at(words, l, list, t, rec, allowance),
     }
 }
 
@@ -271,20 +212,8 @@ pub fn insert_several(
 {
     match word_requests::look(words, Request::Gaps(list, position, start, records.len())) {
         Looked::Refused(n) => Answer::Refused(n),
-        Looked::At(l, t) => insert_all(words, l, list, t, records, allowance),
+        Looked::At(l, t) => word_edits::insert_all(words, l, list, t, records, allowance),
     }
-}
-
-// Makes the stores of a delete, up to the allowance.
-fn delete_at(words: &mut [u16], l: Layout, list: u16, t: Site, allowance: u16) -> Answer
-    requires { ⌜ Placed l list t × (length (now words) ≡ sizeOf l) ⌝ }
-    ensures answer { λ r. ⌜ r ≡ answerOf (stores (deleteWrites l list t)) allowance ⌝ }
-    ensures words { λ _. ⌜ now (words .exit) ≡ applied (deleteWrites l list t) allowance (now (words .entry)) ⌝ }
-{
-    let links = edits::delete_links(l, list, t);
-    let at = links.at;
-    let values = links.values;
-    stores::run(words, &at, &values, allowance)
 }
 
 // Deletes the record of the list at the position.
@@ -296,7 +225,7 @@ pub fn delete(words: &mut [u16], list: u16, position: u16, allowance: u16) -> An
 {
     match word_requests::look(words, Request::Member(list, position)) {
         Looked::Refused(n) => Answer::Refused(n),
-        Looked::At(l, t) => delete_at(words, l, list, t, allowance),
+        Looked::At(l, t) => word_edits::delete_at(words, l, list, t, allowance),
     }
 }
 

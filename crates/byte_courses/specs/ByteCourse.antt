@@ -7,7 +7,8 @@ use Rattle.stores.specs.Stores.{Plan, answerOf}
 use Rattle.byte_form.specs.Bytes.{wordsIn, bytesAfter}
 use Rattle.layout.specs.Words.{layoutOf}
 use Rattle.courses.specs.Course.{Edit, insert, several, delete, named, Alteration, alteredBelow}
-use Rattle.axle.specs.Interface.{recordWords, codeOf, byteInsert, byteSeveral, byteDelete, byteRecover}
+use Rattle.byte_calls.specs.Records.{recordWords}
+use Rattle.axle.specs.Interface.{codeOf, byteInsert, byteSeveral, byteDelete, byteRecover}
 
 -- an insert or delete whose record, or records, are in bytes, and what it is in words
 abbrev pub byteEdit : List ℕ → Edit → Plan

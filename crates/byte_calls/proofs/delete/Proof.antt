@@ -1,0 +1,75 @@
+-- `byte_calls::delete` makes the stores of its plan.
+use Prim.Native.Nat.{_≤_}
+use mathlib.Core.Path.{_≡_, sym, _∙_}
+use lib.ListN.{length}
+use borrow.Author.Needs.{needs}
+use Rattle.byte_form.specs.Bytes.{wordsIn}
+use Rattle.layout.specs.Words.{headWords, layoutOf}
+use Rattle.requests.specs.declared.Looked.the-variants as K
+use Rattle.requests.specs.declared.Request.the-variants.{Member}
+use Rattle.requests.specs.Requests.{lookOf}
+use Rattle.axle_store.proofs.Cases.{delete-refused, delete-at}
+use Rattle.axle_store.proofs.Sites.{member-placed}
+use Rattle.byte_calls.proofs.Laws.{byte-refused, byte-run, look-again}
+use Rattle.byte_calls.proofs.delete.Statement.{statement}
+use Rattle.byte_calls.proofs.delete.Tie as tie
+
+look-requires : tie.Need-look-requires
+look-requires c κs = search needs
+
+enum-known-n : tie.Need-enum-known-n
+enum-known-n c = search needs
+
+enum-known-t : tie.Need-enum-known-t
+enum-known-t c = search needs
+
+-- the start, by the place where a site is found; what was found
+abbrev start : tie.After-t → tie.Start
+start c = c .before .before .before .before .before
+
+found : (c : tie.After-t) → let a = start c .args in let w = wordsIn (a .bytes .now) in
+    (headWords ≤ length w) × (lookOf w (Member (a .list) (a .position)) ≡ K.At (layoutOf w) (c .t .given .0 .1 .0))
+found c = let a = start c .args in look-again (wordsIn (a .bytes .now)) _ (sym (c .before .before .look .ensures) ∙ c .t .given .1)
+
+layout-of-requires : tie.Need-layout-of-requires
+layout-of-requires c κs = found (c .before .before .before) .0
+
+delete-at-requires : tie.Need-delete-at-requires
+delete-at-requires c κs =
+    let t = c .before .before .before .before in
+    let a = start t .args in
+    rw (c .layout-of .ensures) (member-placed (wordsIn (a .bytes .now)) (a .list) (a .position) _ _ (found t .1))
+
+same-length : tie.Need-same-length
+same-length c = search needs
+
+returns : tie.Need-returns
+returns c =
+    let a = c .before .before .before .before .before .before .args in
+    byte-refused (a .allowance) (a .bytes .now)
+    (delete-refused (wordsIn (a .bytes .now)) (a .list) (a .position) (sym (c .before .before .before .look .ensures) ∙ c .before .n .given .1))
+
+same-length-2 : tie.Need-same-length-2
+same-length-2 c = search needs
+
+returns-2 : tie.Need-returns-2
+returns-2 c =
+    let r = c .before .before in
+    let t = r .before .before .before .before .before in
+    let a = start t .args in
+    let e = rw (r .before .layout-of .ensures) at (r .delete-at .ensures) in
+    byte-run (a .allowance) (a .bytes .now) (delete-at (wordsIn (a .bytes .now)) (a .list) (a .position) (found t .1)) (e .0) (e .1)
+
+pub delete-spec : {M : Type 1} → statement M
+delete-spec =
+    tie.close
+    (tie.spec
+    look-requires
+    enum-known-n
+    enum-known-t
+    layout-of-requires
+    delete-at-requires
+    same-length
+    returns
+    same-length-2
+    returns-2)

@@ -1,0 +1,106 @@
+// Insert, delete and recover on lent bytes: what the calls of crate axle_store are on words. The bytes are even: their number is asked above.
+use layout::Layout;
+use layout::Opened;
+use requests::Looked;
+use requests::Request;
+use stores::Answer;
+ghost use mathlib.Core.Path.{_≡_};
+ghost use Prim.Native.Nat.{_%_, _≤_};
+ghost use lib.ListN.{length};
+ghost use Rattle.stores.specs.Stores.{answerOf};
+ghost use Rattle.byte_form.specs.Bytes.{wordsIn, bytesAfter};
+ghost use Rattle.layout.specs.Words.{headWords, layoutOf};
+ghost use Rattle.recovery.specs.Plan.{recoverPlan};
+ghost use Rattle.axle_store.specs.Calls.{insertPlan, severalPlan, deletePlan};
+ghost use Rattle.byte_calls.specs.Records.{recordWords};
+
+// The layout of a store that is open. It is read again by the calls that store: that is quicker than to hand it on with the site.
+fn layout_of(bytes: &[u8]) -> Layout
+    requires { ⌜ headWords ≤ length (wordsIn (now bytes)) ⌝ }
+    ensures { λ r. ⌜ r ≡ layoutOf (wordsIn (now (bytes .entry))) ⌝ }
+{
+    Layout {
+        version: byte_form::word(bytes, Layout::VERSION_AT),
+        lists: byte_form::word(bytes, Layout::LISTS_AT),
+        nodes: byte_form::word(bytes, Layout::NODES_AT),
+        width: byte_form::word(bytes, Layout::WIDTH_AT),
+    }
+}
+
+// The number of a record's words, 0 if its bytes are odd.
+fn record_size(rec: &[u8]) -> usize
+    ensures { λ r. ⌜ r ≡ length (recordWords (now (rec .entry))) ⌝ }
+{
+    if rec.len() % 2 != 0 {
+        return 0;
+    }
+    rec.len() / 2
+}
+
+// Inserts a record.
+pub fn insert(
+    bytes: &mut [u8],
+    list: u16,
+    position: u16,
+    start: u16,
+    rec: &[u8],
+    allowance: u16,
+) -> Answer
+    ensures answer { λ r. ⌜ r ≡ answerOf (insertPlan (wordsIn (now (bytes .entry))) list position start (recordWords (now (rec .entry)))) allowance ⌝ }
+    ensures bytes { λ _. ⌜ now (bytes .exit) ≡ bytesAfter (insertPlan (wordsIn (now (bytes .entry))) list position start (recordWords (now (rec .entry)))) allowance (now (bytes .entry)) ⌝ }
+{
+    let n = record_size(rec);
+    match byte_requests::look(bytes, Request::Gap(list, position, start, n)) {
+        Looked::Refused(r) => Answer::Refused(r),
+        Looked::At(_, t) => byte_edits::insert_at(bytes, layout_of(bytes), list, t, rec, allowance),
+    }
+}
+
+// Inserts several records.
+pub fn insert_several(
+    bytes: &mut [u8],
+    list: u16,
+    position: u16,
+    start: u16,
+    records: &[u8],
+    allowance: u16,
+) -> Answer
+    requires { ⌜ length (now bytes) % 2 ≡ 0 ⌝ }
+    ensures answer { λ r. ⌜ r ≡ answerOf (severalPlan (wordsIn (now (bytes .entry))) list position start (recordWords (now (records .entry)))) allowance ⌝ }
+    ensures bytes { λ _. ⌜ now (bytes .exit) ≡ bytesAfter (severalPlan (wordsIn (now (bytes .entry))) list position start (recordWords (now (records .entry)))) allowance (now (bytes .entry)) ⌝ }
+{
+    let n = record_size(records);
+    match byte_requests::look(bytes, Request::Gaps(list, position, start, n)) {
+        Looked::Refused(r) => Answer::Refused(r),
+        Looked::At(_, t) => byte_edits::insert_all(
+            bytes,
+            layout_of(bytes),
+            list,
+            t,
+            records,
+            allowance,
+        ),
+    }
+}
+
+// Deletes a record.
+pub fn delete(bytes: &mut [u8], list: u16, position: u16, allowance: u16) -> Answer
+    ensures answer { λ r. ⌜ r ≡ answerOf (deletePlan (wordsIn (now (bytes .entry))) list position) allowance ⌝ }
+    ensures bytes { λ _. ⌜ now (bytes .exit) ≡ bytesAfter (deletePlan (wordsIn (now (bytes .entry))) list position) allowance (now (bytes .entry)) ⌝ }
+{
+    match byte_requests::look(bytes, Request::Member(list, position)) {
+        Looked::Refused(n) => Answer::Refused(n),
+        Looked::At(_, t) => byte_edits::delete_at(bytes, layout_of(bytes), list, t, allowance),
+    }
+}
+
+// Recovers any store.
+pub fn recover(bytes: &mut [u8], allowance: u16) -> Answer
+    ensures answer { λ r. ⌜ r ≡ answerOf (recoverPlan (wordsIn (now (bytes .entry)))) allowance ⌝ }
+    ensures bytes { λ _. ⌜ now (bytes .exit) ≡ bytesAfter (recoverPlan (wordsIn (now (bytes .entry)))) allowance (now (bytes .entry)) ⌝ }
+{
+    match byte_requests::open(bytes) {
+        Opened::Refused(n) => Answer::Refused(n),
+        Opened::Open(l) => byte_mending::recover_in(bytes, l, allowance),
+    }
+}

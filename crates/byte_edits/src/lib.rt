@@ -1,0 +1,80 @@
+// The stores of insert and delete, made in the lent bytes as they are in lent words.
+use layout::Layout;
+use requests::Site;
+use stores::Answer;
+ghost use mathlib.Core.Path.{_≡_};
+ghost use Prim.Native.Nat.{_*_, _/_, _%_, _<_};
+ghost use lib.ListN.{length};
+ghost use Rattle.stores.specs.Stores.{stores, answerOf};
+ghost use Rattle.byte_form.specs.Bytes.{wordsIn, appliedBytes};
+ghost use Rattle.layout.specs.Words.{tailWords, sizeOf};
+ghost use Rattle.edits.specs.Edits.{insertWrites, chainFrom, deleteWrites, Placed, Room};
+
+// Makes the stores of an insert, the record and then the links, up to the allowance.
+pub fn insert_at(
+    bytes: &mut [u8],
+    l: Layout,
+    list: u16,
+    t: Site,
+    rec: &[u8],
+    allowance: u16,
+) -> Answer
+    requires { ⌜ Placed l list t × (length (wordsIn (now rec)) ≡ tailWords l) × (length (wordsIn (now bytes)) ≡ sizeOf l) ⌝ }
+    ensures answer { λ r. ⌜ r ≡ answerOf (stores (insertWrites l list t (wordsIn (now (rec .entry))))) allowance ⌝ }
+    ensures bytes { λ _. ⌜ now (bytes .exit) ≡ appliedBytes (insertWrites l list t (wordsIn (now (rec .entry)))) allowance (now (bytes .entry)) ⌝ }
+{
+    let first = l.node(t.cell) + Layout::LINK_WORDS;
+    let Answer::Done(n) = byte_form::put_row(bytes, first, rec, allowance) else {
+        return Answer::Stopped(allowance);
+    };
+    let links = edits::insert_links(l, list, t);
+    let at = links.at;
+    let values = links.values;
+    let Answer::Done(m) = byte_form::run(bytes, &at, &values, allowance - n) else {
+        return Answer::Stopped(allowance);
+    };
+    Answer::Done(n + m)
+}
+
+// Makes the stores of several inserts, one record after another from the first site on, up to the allowance.
+pub fn insert_all(
+    bytes: &mut [u8],
+    l: Layout,
+    list: u16,
+    first: Site,
+    records: &[u8],
+    allowance: u16,
+) -> Answer
+    requires { ⌜ Room l (wordsIn (now bytes)) list first (length (wordsIn (now records)) / l .width) × (0 < length (wordsIn (now records))) × (length (wordsIn (now records)) ≡ length (wordsIn (now records)) / l .width * l .width) × (length (now records) % 2 ≡ 0) × (length (now bytes) % 2 ≡ 0) ⌝ }
+    ensures answer { λ r. ⌜ r ≡ answerOf (stores (chainFrom l (wordsIn (now (bytes .entry))) list first (length (wordsIn (now (records .entry))) / l .width) (wordsIn (now (records .entry))))) allowance ⌝ }
+    ensures bytes { λ _. ⌜ now (bytes .exit) ≡ appliedBytes (chainFrom l (wordsIn (now (bytes .entry))) list first (length (wordsIn (now (records .entry))) / l .width) (wordsIn (now (records .entry)))) allowance (now (bytes .entry)) ⌝ }
+{
+    let size = 2 * l.width as usize;
+    let mut t = first;
+    let mut at: usize = 0;
+    let mut made: u16 = 0;
+    loop {
+        let e = at + size;
+        let Answer::Done(n) = insert_at(bytes, l, list, t, &records[at..e], allowance - made) else {
+            return Answer::Stopped(allowance);
+        };
+        made += n;
+        if e == records.len() {
+            return Answer::Done(made);
+        }
+        at = e;
+        t = byte_requests::next_site(bytes, l, t);
+    }
+}
+
+// Makes the stores of a delete, up to the allowance.
+pub fn delete_at(bytes: &mut [u8], l: Layout, list: u16, t: Site, allowance: u16) -> Answer
+    requires { ⌜ Placed l list t × (length (wordsIn (now bytes)) ≡ sizeOf l) ⌝ }
+    ensures answer { λ r. ⌜ r ≡ answerOf (stores (deleteWrites l list t)) allowance ⌝ }
+    ensures bytes { λ _. ⌜ now (bytes .exit) ≡ appliedBytes (deleteWrites l list t) allowance (now (bytes .entry)) ⌝ }
+{
+    let links = edits::delete_links(l, list, t);
+    let at = links.at;
+    let values = links.values;
+    byte_form::run(bytes, &at, &values, allowance)
+}

@@ -1,0 +1,79 @@
+// The stores of insert and delete, made in the lent words: a record and its links, records one behind the other, and the links of a member.
+use layout::Layout;
+use requests::Site;
+use stores::Answer;
+ghost use mathlib.Core.Path.{_≡_};
+ghost use Prim.Native.Nat.{_*_, _/_, _<_};
+ghost use lib.ListN.{length};
+ghost use Rattle.stores.specs.Stores.{stores, applied, answerOf};
+ghost use Rattle.layout.specs.Words.{tailWords, sizeOf};
+ghost use Rattle.edits.specs.Edits.{insertWrites, chainFrom, deleteWrites, Placed, Room};
+
+// Makes the stores of an insert, the record and then the links, up to the allowance.
+pub fn insert_at(
+    words: &mut [u16],
+    l: Layout,
+    list: u16,
+    t: Site,
+    rec: &[u16],
+    allowance: u16,
+) -> Answer
+    requires { ⌜ Placed l list t × (length (now rec) ≡ tailWords l) × (length (now words) ≡ sizeOf l) ⌝ }
+    ensures answer { λ r. ⌜ r ≡ answerOf (stores (insertWrites l list t (now (rec .entry)))) allowance ⌝ }
+    ensures words { λ _. ⌜ now (words .exit) ≡ applied (insertWrites l list t (now (rec .entry))) allowance (now (words .entry)) ⌝ }
+{
+    let first = l.node(t.cell) + Layout::LINK_WORDS;
+    let Answer::Done(n) = stores::put_row(words, first, rec, allowance) else {
+        return Answer::Stopped(allowance);
+    };
+    let links = edits::insert_links(l, list, t);
+    let at = links.at;
+    let values = links.values;
+    let Answer::Done(m) = stores::run(words, &at, &values, allowance - n) else {
+        return Answer::Stopped(allowance);
+    };
+    Answer::Done(n + m)
+}
+
+// Makes the stores of several inserts, one record after another from the first site on, up to the allowance.
+pub fn insert_all(
+    words: &mut [u16],
+    l: Layout,
+    list: u16,
+    first: Site,
+    records: &[u16],
+    allowance: u16,
+) -> Answer
+    requires { ⌜ Room l (now words) list first (length (now records) / l .width) × (0 < length (now records)) × (length (now records) ≡ length (now records) / l .width * l .width) ⌝ }
+    ensures answer { λ r. ⌜ r ≡ answerOf (stores (chainFrom l (now (words .entry)) list first (length (now (records .entry)) / l .width) (now (records .entry)))) allowance ⌝ }
+    ensures words { λ _. ⌜ now (words .exit) ≡ applied (chainFrom l (now (words .entry)) list first (length (now (records .entry)) / l .width) (now (records .entry))) allowance (now (words .entry)) ⌝ }
+{
+    let width = l.width as usize;
+    let mut t = first;
+    let mut at: usize = 0;
+    let mut made: u16 = 0;
+    loop {
+        let e = at + width;
+        let Answer::Done(n) = insert_at(words, l, list, t, &records[at..e], allowance - made) else {
+            return Answer::Stopped(allowance);
+        };
+        made += n;
+        if e == records.len() {
+            return Answer::Done(made);
+        }
+        at = e;
+        t = word_requests::next_site(words, l, t);
+    }
+}
+
+// Makes the stores of a delete, up to the allowance.
+pub fn delete_at(words: &mut [u16], l: Layout, list: u16, t: Site, allowance: u16) -> Answer
+    requires { ⌜ Placed l list t × (length (now words) ≡ sizeOf l) ⌝ }
+    ensures answer { λ r. ⌜ r ≡ answerOf (stores (deleteWrites l list t)) allowance ⌝ }
+    ensures words { λ _. ⌜ now (words .exit) ≡ applied (deleteWrites l list t) allowance (now (words .entry)) ⌝ }
+{
+    let links = edits::delete_links(l, list, t);
+    let at = links.at;
+    let values = links.values;
+    stores::run(words, &at, &values, allowance)
+}
