@@ -1,242 +1,20 @@
 // Recovery of a store in words, decided in the lent words: each list is walked there, and the mends are kept in short rows. Only if a
 // node in no list may carry an identifier, the identifiers are read into a column and the members erased there.
-use fitting::Faults;
-use fitting::Fits;
-use fitting::Fitted;
 use layout::Layout;
 use mending::Mends;
 use spans::Grid;
 use stores::Answer;
 use stores::Rows;
 ghost use mathlib.Core.Path.{_≡_};
-ghost use Prim.Native.Nat.{ℕ, _+_, _<_};
+ghost use Prim.Native.Nat.{_+_};
 ghost use mathlib.Core.List.{_++_};
-ghost use mathlib.Core.Bool.{true, false};
-ghost use lib.ListN.{length, getD};
-ghost use Rattle.stores.specs.Stores.{write, store, stores, answerOf, applied, wordsAfter, writesIn, Held};
-ghost use Rattle.layout.specs.Words.{mostCells, Laid, Node, sizeOf, identAt};
+ghost use lib.ListN.{length};
+ghost use Rattle.stores.specs.Stores.{stores, answerOf, applied, wordsAfter, writesIn, Held};
+ghost use Rattle.layout.specs.Words.{mostCells, Laid, sizeOf};
 ghost use Rattle.lists.specs.Decide.{viewOf, countIn};
 ghost use Rattle.spans.specs.Spans.{Gridded};
 ghost use Rattle.recovery.specs.Plan.{recoverOf};
-ghost use Rattle.fitting.specs.Fitting.{fitIn, carries, membersBy, FaultFits};
-ghost use Rattle.mending.specs.Mending.{erased, erasedAlong, erasedFrom, clears, MendsOf};
-
-// Is the wrong word no identifier that holds 0?
-fn carried(words: &[u16], l: Layout, g: Grid, f: Faults) -> bool
-    requires { ⌜ Gridded l g × Laid l (now words) × FaultFits l f ⌝ }
-    ensures { λ r. ⌜ r ≡ carries (viewOf l (now (words .entry)) .ident) f ⌝ }
-{
-    match f {
-        Faults::None => true,
-        Faults::One(c, w, _) => {
-            w as usize != Layout::IDENTIFIER || word_walks::cell(words, l, g, c as usize).ident != 0
-        }
-        Faults::Many => true,
-    }
-}
-
-// Which sequence fits list k, and which the list behind it. Two lists are walked in one loop, so every other list is known already.
-fn fit_next(words: &[u16], l: Layout, g: Grid, k: u16, known: bool, next: Fitted) -> Fits
-    requires { ⌜ Gridded l g × Laid l (now words) × (k < l .lists) × (known ≡ true → next ≡ fitIn l (viewOf l (now words)) k (countIn l (now words) k)) ⌝ }
-    ensures first { λ r. ⌜ r .first ≡ fitIn l (viewOf l (now (words .entry))) k (countIn l (now (words .entry)) k) ⌝ }
-    ensures second { λ r. ⌜ (known ≡ false → k + 1 < l .lists → r .second ≡ fitIn l (viewOf l (now (words .entry))) (k + 1) (countIn l (now (words .entry)) (k + 1))) ⌝ }
-{
-    if known {
-        return Fits {
-            first: next,
-            second: next,
-        };
-    }
-    word_fitting::fit_two(words, l, g, k, mending::beside(l, k))
-}
-
-// The mends of all lists, from list 0 on: does a sequence fit, and only one?
-fn all_mends(words: &[u16], l: Layout, g: Grid) -> Mends
-    requires { ⌜ Gridded l g × Laid l (now words) ⌝ }
-    ensures { λ r. ⌜ MendsOf l (viewOf l (now (words .entry))) (countIn l (now (words .entry))) r ⌝ }
-{
-    let mut members: u32 = 0;
-    let mut whole = true;
-    let mut back = [false; Layout::MAX_LISTS];
-    let mut at = [0u16; Rows::MOST];
-    let mut values = [0u16; Rows::MOST];
-    let mut len: usize = 0;
-    let mut next = Fitted::Nothing;
-    let mut known = false;
-    let mut k: u16 = 0;
-    while k < l.lists {
-        let p = fit_next(words, l, g, k, known, next);
-        let f = p.first;
-        let refusal = f.number();
-        if refusal != 0 {
-            return Mends {
-                refusal,
-                members,
-                carried: whole,
-                back,
-                rows: Rows { at, values, len },
-            };
-        }
-        let fault = f.fault();
-        members += fault.members(word_walks::count(words, l, k)) as u32;
-        whole &= carried(words, l, g, fault);
-        back[k as usize] = f.is_backward();
-        let m = mending::mend_of(l, fault);
-        at[len] = m.at;
-        values[len] = m.value;
-        len += m.number;
-        next = p.second;
-        known = !known;
-        k += 1;
-    }
-    Mends {
-        refusal: 0,
-        members,
-        carried: whole,
-        back,
-        rows: Rows { at, values, len },
-    }
-}
-
-// Reads the identifier of each node into the column.
-fn read_nodes(idents: &mut [u16; Layout::MAX_CELLS], words: &[u16], l: Layout, g: Grid)
-    requires { ⌜ Gridded l g × Laid l (now words) × (mostCells ≡ length (now idents)) ⌝ }
-    ensures { λ _. ⌜ ((c : ℕ) → Node l c → getD (now (idents .exit)) c 0 ≡ viewOf l (now (words .entry)) .ident c) ⌝ }
-{
-    let mut c = g.from;
-    while c < g.to {
-        idents[c] = word_walks::node(words, l, g, c).ident;
-        c += 1;
-    }
-}
-
-// A column with 0 at every cell that the links lead through from a cell on, n at most.
-fn erase(
-    idents: &mut [u16; Layout::MAX_CELLS],
-    words: &[u16],
-    l: Layout,
-    g: Grid,
-    back: bool,
-    first: usize,
-    n: u16,
-)
-    requires { ⌜ Gridded l g × Laid l (now words) ⌝ }
-    ensures { λ _. ⌜ now (idents .exit) ≡ erasedAlong l (viewOf l (now (words .entry))) back n first (now (idents .entry)) ⌝ }
-{
-    let mut y = first;
-    let mut more = n;
-    while 0 < more {
-        if !g.is_node(l, y) {
-            return;
-        }
-        idents[y] = 0;
-        y = mending::onward(word_walks::node(words, l, g, y), back);
-        more -= 1;
-    }
-}
-
-// A column with 0 at every member of lists k and j, each by its back links or its forward links: both in one loop, and then each alone.
-fn erase_two(
-    idents: &mut [u16; Layout::MAX_CELLS],
-    words: &[u16],
-    l: Layout,
-    g: Grid,
-    k: u16,
-    back: bool,
-    j: u16,
-    other: bool,
-)
-    requires { ⌜ Gridded l g × Laid l (now words) × (k < l .lists) × (j < l .lists) ⌝ }
-    ensures { λ _. ⌜ now (idents .exit) ≡ erased (membersBy l (viewOf l (now (words .entry))) other j) (erased (membersBy l (viewOf l (now (words .entry))) back k) (now (idents .entry))) ⌝ }
-{
-    let mut y = mending::onward(word_walks::header(words, l, k), back);
-    let mut z = mending::onward(word_walks::header(words, l, j), other);
-    let mut more = l.nodes;
-    while 0 < more {
-        if !g.is_node(l, y) {
-            break;
-        }
-        if !g.is_node(l, z) {
-            break;
-        }
-        idents[y] = 0;
-        idents[z] = 0;
-        y = mending::onward(word_walks::node(words, l, g, y), back);
-        z = mending::onward(word_walks::node(words, l, g, z), other);
-        more -= 1;
-    }
-    erase(idents, words, l, g, back, y, more);
-    erase(idents, words, l, g, other, z, more);
-}
-
-// A column with 0 at every member of every list, each by the links that it goes by.
-fn erase_all(
-    idents: &mut [u16; Layout::MAX_CELLS],
-    words: &[u16],
-    l: Layout,
-    g: Grid,
-    back: [bool; Layout::MAX_LISTS],
-)
-    requires { ⌜ Gridded l g × Laid l (now words) ⌝ }
-    ensures { λ _. ⌜ now (idents .exit) ≡ erasedFrom l (viewOf l (now (words .entry))) (λ k. getD back k false) 0 (l .lists) (now (idents .entry)) ⌝ }
-{
-    let mut k: u16 = 0;
-    while k + 1 < l.lists {
-        erase_two(
-            idents,
-            words,
-            l,
-            g,
-            k,
-            back[k as usize],
-            k + 1,
-            back[k as usize + 1],
-        );
-        k += 2;
-    }
-    if k < l.lists {
-        let way = back[k as usize];
-        erase(
-            idents,
-            words,
-            l,
-            g,
-            way,
-            mending::onward(word_walks::header(words, l, k), way),
-            l.nodes,
-        );
-    }
-}
-
-// Clears node i: stores 0 to its identifier, and nothing else.
-fn step(words: &mut [u16], l: Layout, i: u16)
-    requires { ⌜ Laid l (now words) × Node l i ⌝ }
-    ensures { λ _. ⌜ now (words .exit) ≡ store (now (words .entry)) (write (identAt l i) 0) ⌝ }
-{
-    words[l.node(i)] = 0;
-}
-
-// Clears each node that has an entry, lowest cell first, up to the allowance.
-fn clear(words: &mut [u16], idents: &[u16; Layout::MAX_CELLS], l: Layout, allowance: u16) -> Answer
-    requires { ⌜ Laid l (now words) ⌝ }
-    ensures answer { λ r. ⌜ r ≡ answerOf (stores (clears l (now (idents .entry)))) allowance ⌝ }
-    ensures words { λ _. ⌜ now (words .exit) ≡ applied (clears l (now (idents .entry))) allowance (now (words .entry)) ⌝ }
-{
-    let mut n: u16 = 0;
-    let mut i = l.first_node();
-    let end = l.cell_count();
-    while i < end {
-        if idents[i as usize] != 0 {
-            if n == allowance {
-                return Answer::Stopped(n);
-            }
-            step(words, l, i);
-            n += 1;
-        }
-        i += 1;
-    }
-    Answer::Done(n)
-}
+ghost use Rattle.mending.specs.Mending.{clears, MendsOf};
 
 // Makes the mends and then the clears, up to the allowance.
 fn make(
@@ -253,7 +31,7 @@ fn make(
     let Answer::Done(n) = stores::run_rows(words, mends, allowance) else {
         return Answer::Stopped(allowance);
     };
-    let Answer::Done(m) = clear(words, idents, l, allowance - n) else {
+    let Answer::Done(m) = word_clears::clear(words, idents, l, allowance - n) else {
         return Answer::Stopped(allowance);
     };
     Answer::Done(n + m)
@@ -274,8 +52,8 @@ fn recover_left(
 {
     let back = m.back;
     let mends = m.rows;
-    read_nodes(idents, words, l, g);
-    erase_all(idents, words, l, g, back);
+    word_clears::read_nodes(idents, words, l, g);
+    word_clears::erase_all(idents, words, l, g, back);
     make(words, mends, idents, l, allowance)
 }
 
@@ -287,7 +65,7 @@ pub fn recover_in(words: &mut [u16], l: Layout, allowance: u16) -> Answer
 {
     let g = Grid::of(l);
     let used = word_walks::used_in(words, l, g);
-    let found = all_mends(words, l, g);
+    let found = word_mends::all_mends(words, l, g);
     if found.refusal != 0 {
         return Answer::Refused(found.refusal);
     }

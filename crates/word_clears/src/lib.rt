@@ -1,0 +1,159 @@
+// Nodes in no list, found and cleared in the lent words: the identifiers are read into a column, the members erased there, and the rest cleared.
+use layout::Layout;
+use spans::Grid;
+use stores::Answer;
+ghost use mathlib.Core.Path.{_≡_};
+ghost use Prim.Native.Nat.{ℕ, _+_, _<_};
+ghost use mathlib.Core.Bool.{false};
+ghost use lib.ListN.{length, getD};
+ghost use Rattle.stores.specs.Stores.{write, store, stores, answerOf, applied};
+ghost use Rattle.layout.specs.Words.{mostCells, Laid, Node, identAt};
+ghost use Rattle.lists.specs.Decide.{viewOf};
+ghost use Rattle.spans.specs.Spans.{Gridded};
+ghost use Rattle.fitting.specs.Fitting.{membersBy};
+ghost use Rattle.mending.specs.Mending.{erased, erasedAlong, erasedFrom, clears};
+
+// Reads the identifier of each node into the column.
+pub fn read_nodes(idents: &mut [u16; Layout::MAX_CELLS], words: &[u16], l: Layout, g: Grid)
+    requires { ⌜ Gridded l g × Laid l (now words) × (mostCells ≡ length (now idents)) ⌝ }
+    ensures { λ _. ⌜ ((c : ℕ) → Node l c → getD (now (idents .exit)) c 0 ≡ viewOf l (now (words .entry)) .ident c) ⌝ }
+{
+    let mut c = g.from;
+    while c < g.to {
+        idents[c] = word_walks::node(words, l, g, c).ident;
+        c += 1;
+    }
+}
+
+// A column with 0 at every cell that the links lead through from a cell on, n at most.
+fn erase(
+    idents: &mut [u16; Layout::MAX_CELLS],
+    words: &[u16],
+    l: Layout,
+    g: Grid,
+    back: bool,
+    first: usize,
+    n: u16,
+)
+    requires { ⌜ Gridded l g × Laid l (now words) ⌝ }
+    ensures { λ _. ⌜ now (idents .exit) ≡ erasedAlong l (viewOf l (now (words .entry))) back n first (now (idents .entry)) ⌝ }
+{
+    let mut y = first;
+    let mut more = n;
+    while 0 < more {
+        if !g.is_node(l, y) {
+            return;
+        }
+        idents[y] = 0;
+        y = mending::onward(word_walks::node(words, l, g, y), back);
+        more -= 1;
+    }
+}
+
+// A column with 0 at every member of lists k and j, each by its back links or its forward links: both in one loop, and then each alone.
+fn erase_two(
+    idents: &mut [u16; Layout::MAX_CELLS],
+    words: &[u16],
+    l: Layout,
+    g: Grid,
+    k: u16,
+    back: bool,
+    j: u16,
+    other: bool,
+)
+    requires { ⌜ Gridded l g × Laid l (now words) × (k < l .lists) × (j < l .lists) ⌝ }
+    ensures { λ _. ⌜ now (idents .exit) ≡ erased (membersBy l (viewOf l (now (words .entry))) other j) (erased (membersBy l (viewOf l (now (words .entry))) back k) (now (idents .entry))) ⌝ }
+{
+    let mut y = mending::onward(word_walks::header(words, l, k), back);
+    let mut z = mending::onward(word_walks::header(words, l, j), other);
+    let mut more = l.nodes;
+    while 0 < more {
+        if !g.is_node(l, y) {
+            break;
+        }
+        if !g.is_node(l, z) {
+            break;
+        }
+        idents[y] = 0;
+        idents[z] = 0;
+        y = mending::onward(word_walks::node(words, l, g, y), back);
+        z = mending::onward(word_walks::node(words, l, g, z), other);
+        more -= 1;
+    }
+    erase(idents, words, l, g, back, y, more);
+    erase(idents, words, l, g, other, z, more);
+}
+
+// A column with 0 at every member of every list, each by the links that it goes by.
+pub fn erase_all(
+    idents: &mut [u16; Layout::MAX_CELLS],
+    words: &[u16],
+    l: Layout,
+    g: Grid,
+    back: [bool; Layout::MAX_LISTS],
+)
+    requires { ⌜ Gridded l g × Laid l (now words) ⌝ }
+    ensures { λ _. ⌜ now (idents .exit) ≡ erasedFrom l (viewOf l (now (words .entry))) (λ k. getD back k false) 0 (l .lists) (now (idents .entry)) ⌝ }
+{
+    let mut k: u16 = 0;
+    while k + 1 < l.lists {
+        erase_two(
+            idents,
+            words,
+            l,
+            g,
+            k,
+            back[k as usize],
+            k + 1,
+            back[k as usize + 1],
+        );
+        k += 2;
+    }
+    if k < l.lists {
+        let way = back[k as usize];
+        erase(
+            idents,
+            words,
+            l,
+            g,
+            way,
+            mending::onward(word_walks::header(words, l, k), way),
+            l.nodes,
+        );
+    }
+}
+
+// Clears node i: stores 0 to its identifier, and nothing else.
+fn step(words: &mut [u16], l: Layout, i: u16)
+    requires { ⌜ Laid l (now words) × Node l i ⌝ }
+    ensures { λ _. ⌜ now (words .exit) ≡ store (now (words .entry)) (write (identAt l i) 0) ⌝ }
+{
+    words[l.node(i)] = 0;
+}
+
+// Clears each node that has an entry, lowest cell first, up to the allowance.
+pub fn clear(
+    words: &mut [u16],
+    idents: &[u16; Layout::MAX_CELLS],
+    l: Layout,
+    allowance: u16,
+) -> Answer
+    requires { ⌜ Laid l (now words) ⌝ }
+    ensures answer { λ r. ⌜ r ≡ answerOf (stores (clears l (now (idents .entry)))) allowance ⌝ }
+    ensures words { λ _. ⌜ now (words .exit) ≡ applied (clears l (now (idents .entry))) allowance (now (words .entry)) ⌝ }
+{
+    let mut n: u16 = 0;
+    let mut i = l.first_node();
+    let end = l.cell_count();
+    while i < end {
+        if idents[i as usize] != 0 {
+            if n == allowance {
+                return Answer::Stopped(n);
+            }
+            step(words, l, i);
+            n += 1;
+        }
+        i += 1;
+    }
+    Answer::Done(n)
+}

@@ -1,0 +1,218 @@
+-- `word_mends::all_mends` meets its contract. The loop's invariant: where the search stands at list k, and what fits it, if known.
+use Prim.Native.Nat.{ℕ, _-_, _*_, _≤_, _<_}
+use mathlib.Core.Path.{_≡_, refl, ap, sym, subst, _∙_}
+use mathlib.Core.Bool.{Bool, true, false, not, false≢true}
+use native.Mathlib.Omega.{arith}
+use lib.ListN.{length}
+use Rattle.stores.specs.declared.Rows.{Rows}
+use Rattle.stores.specs.Stores.{mostRows, writesIn}
+use Rattle.stores.proofs.Laws.{held-none, held-maybe}
+use Rattle.layout.specs.Words.{Laid, sizeOf}
+use Rattle.lists.specs.Decide.{View, viewOf, countIn}
+use Rattle.spans.specs.Spans.{Gridded}
+use Rattle.fitting.specs.Fitting.{fitIn, faultIn, lengthBy, FaultFits}
+use Rattle.fitting.proofs.Inside.{fit-fits}
+use Rattle.mending.proofs.AllLists.{Found, found-none, found-more, found-refused, found-all}
+use Rattle.word_mends.proofs.all_mends.Statement.{statement}
+use Rattle.word_mends.proofs.all_mends.Tie as tie
+
+abbrev Inv-loop : tie.InvT-loop
+Inv-loop words l g members₀ whole₀ back₀ at₀ values₀ len₀ next₀ known₀ k₀ members whole back at values len next known k =
+    (Gridded l g × Laid l words)
+    × Found l (viewOf l words) (countIn l words) members whole back (record { at = at; values = values; len = len }) k
+    × (members ≤ 65535 * k)
+    × (known ≡ true → k < l .lists → next ≡ fitIn l (viewOf l words) k (countIn l words k))
+
+abbrev μ-loop : tie.MeasureT-loop
+μ-loop words l g members₀ whole₀ back₀ at₀ values₀ len₀ next₀ known₀ k₀ members whole back at values len next known k = l .lists - k
+
+-- the start, by the loop; the view, the counts and the rows
+abbrev start : tie.At-loop Inv-loop μ-loop → tie.Start Inv-loop μ-loop
+start c = c .before .before
+
+abbrev view : tie.Start Inv-loop μ-loop → View
+view s = viewOf (s .args .l) (s .args .words .now)
+
+abbrev count : tie.Start Inv-loop μ-loop → ℕ → ℕ
+count s = countIn (s .args .l) (s .args .words .now)
+
+abbrev rows : tie.At-loop Inv-loop μ-loop → Rows
+rows c = record { at = c .loop .at; values = c .loop .values; len = c .loop .len }
+
+-- the loop, by the places in it
+abbrev at : tie.After-fit-next Inv-loop μ-loop → tie.At-loop Inv-loop μ-loop
+at c = c .before .before .before
+
+abbrev fitted : tie.After-fault Inv-loop μ-loop → tie.After-fit-next Inv-loop μ-loop
+fitted c = c .before .before .before
+
+abbrev faulty : tie.After-is-backward Inv-loop μ-loop → tie.After-fault Inv-loop μ-loop
+faulty c = c .before .before .before .before
+
+-- the list is below L
+below : (c : tie.After-fault Inv-loop μ-loop) → let t = at (fitted c) in t .loop .k < start t .args .l .lists
+below c = fitted c .before .if1 .taken
+
+-- its fault is of the store
+fault-inside : (c : tie.After-fault Inv-loop μ-loop) → FaultFits (start (at (fitted c)) .args .l) (c .fault .result)
+fault-inside c =
+    let f = fitted c in
+    let t = at f in
+    let s = start t in
+    subst (FaultFits (s .args .l)) (sym (c .fault .ensures ∙ ap faultIn (f .fit-next .ensures .0)))
+    (fit-fits (s .args .l) (s .pre .1 .inRange) (view s) (t .loop .k) (count s (t .loop .k)) (below c))
+
+-- the rows have all their entries, and hold no more stores than lists were looked at
+room : (c : tie.After-fault Inv-loop μ-loop) → let t = at (fitted c) in
+    (t .loop .len < mostRows) × (length (t .loop .at) ≡ mostRows) × (length (t .loop .values) ≡ mostRows)
+room c =
+    let t = at (fitted c) in
+    let h = t .loop .inv .1 in
+    (omega (arith, h .few, below c, start t .pre .1 .inRange .lists), h .held .at, h .held .values)
+
+loop-holds : tie.Need-loop-holds Inv-loop μ-loop
+loop-holds c =
+    let s = c .before in (
+      s .pre,
+      found-none (s .args .l) (s .pre .1 .inRange) (view s) (count s) _ _ refl (held-none (sizeOf (s .args .l))),
+      omega arith,
+      λ e h. absurd (false≢true e),
+    )
+
+fit-next-requires : tie.Need-fit-next-requires Inv-loop μ-loop
+fit-next-requires c κs =
+    let i = c .before .before .loop .inv in
+    (i .0 .0, i .0 .1, c .if1 .taken, λ e. i .3 e (c .if1 .taken))
+
+number-requires : tie.Need-number-requires Inv-loop μ-loop
+number-requires c κs = omega arith
+
+returns : tie.Need-returns Inv-loop μ-loop
+returns c =
+    let n = c .before in
+    let f = n .before in
+    let t = at f in
+    let s = start t in
+    found-refused (s .args .l) (s .pre .1 .inRange) (view s) (count s) (t .loop .inv .1) (f .before .if1 .taken)
+    (f .fit-next .ensures .0) (n .number .ensures) (c .if2 .taken)
+
+fault-requires : tie.Need-fault-requires Inv-loop μ-loop
+fault-requires c κs = omega arith
+
+count-requires : tie.Need-count-requires Inv-loop μ-loop
+count-requires c κs = (at (fitted c) .loop .inv .0 .1, below c)
+
+members-requires : tie.Need-members-requires Inv-loop μ-loop
+members-requires c κs = omega arith
+
+cast-members : tie.Need-cast-members Inv-loop μ-loop
+cast-members c = omega arith
+
+add-members : tie.Need-add-members Inv-loop μ-loop
+add-members c =
+    let x = c .before .before in
+    let t = at (fitted x) in
+    omega (arith, t .loop .inv .2, below x, start t .pre .1 .inRange .lists)
+
+carried-requires : tie.Need-carried-requires Inv-loop μ-loop
+carried-requires c κs =
+    let x = c .before .before in
+    let i = at (fitted x) .loop .inv .0 in
+    (i .0, i .1, fault-inside x)
+
+is-backward-requires : tie.Need-is-backward-requires Inv-loop μ-loop
+is-backward-requires c κs = omega arith
+
+cast-back : tie.Need-cast-back Inv-loop μ-loop
+cast-back c = omega (arith, below (faulty c), start (at (fitted (faulty c))) .pre .1 .inRange .lists)
+
+array-write-back : tie.Need-array-write-back Inv-loop μ-loop
+array-write-back c = omega (arith, below (faulty c), start (at (fitted (faulty c))) .pre .1 .inRange .lists)
+
+mend-of-requires : tie.Need-mend-of-requires Inv-loop μ-loop
+mend-of-requires c κs = let x = faulty c in (start (at (fitted x)) .pre .1 .inRange, fault-inside x)
+
+mul-at : tie.Need-mul-at Inv-loop μ-loop
+mul-at c = omega (arith, room (faulty (c .before)))
+
+array-write-at : tie.Need-array-write-at Inv-loop μ-loop
+array-write-at c = omega (arith, room (faulty (c .before)))
+
+mul-values : tie.Need-mul-values Inv-loop μ-loop
+mul-values c = omega (arith, room (faulty (c .before)))
+
+array-write-values : tie.Need-array-write-values Inv-loop μ-loop
+array-write-values c = omega (arith, room (faulty (c .before)))
+
+add-len : tie.Need-add-len Inv-loop μ-loop
+add-len c = omega (arith, room (faulty (c .before .before)), c .before .mend-of .ensures .few)
+
+add-k : tie.Need-add-k Inv-loop μ-loop
+add-k c = omega (arith, below (faulty (c .before .before)))
+
+loop-less : tie.Need-loop-less Inv-loop μ-loop
+loop-less c = omega (arith, below (faulty (c .before .before)))
+
+-- what is known every other time
+turned : (b : Bool) → not b ≡ true → b ≡ false
+turned true e = sym e
+turned false e = refl
+
+loop-again : tie.Need-loop-again Inv-loop μ-loop
+loop-again c =
+    let e = c .before in
+    let b = e .before in
+    let a = b .before in
+    let m = a .before in
+    let q = m .before in
+    let g = q .before in
+    let n = g .before .before in
+    let f = n .before in
+    let t = at f in
+    let s = start t in
+    let h = t .loop .inv .1 in
+    let x = e .mend-of .ensures in (
+      t .loop .inv .0,
+      found-more (s .args .l) (s .pre .1 .inRange) (view s) (count s) h (below g) (f .fit-next .ensures .0) (n .number .ensures) (g .before .if2 .left)
+          (g .fault .ensures) (m .members .ensures ∙ ap (lengthBy (g .fault .result)) (q .count .ensures)) (a .carried .ensures) (b .is-backward .ensures)
+          (held-maybe (sizeOf (s .args .l)) _ _ (t .loop .len) _ _ (e .mend-of .result .number) (writesIn (rows t)) _ (room g .0) (h .held)
+          (x .few) (x .same) (x .inside)),
+      omega (arith, t .loop .inv .2),
+      λ z below. f .fit-next .ensures .1 (turned (t .loop .known) z) below,
+    )
+
+returns-2 : tie.Need-returns-2 Inv-loop μ-loop
+returns-2 c =
+    let t = c .before .before in
+    let s = start t in
+    found-all (s .args .l) (s .pre .1 .inRange) (view s) (count s) (t .loop .inv .1) (omega (arith, c .if1 .left))
+
+pub all-mends-spec : {M : Type 1} → statement M
+all-mends-spec =
+    tie.close
+    (tie.spec
+    Inv-loop
+    μ-loop
+    loop-holds
+    fit-next-requires
+    number-requires
+    returns
+    fault-requires
+    count-requires
+    members-requires
+    cast-members
+    add-members
+    carried-requires
+    is-backward-requires
+    cast-back
+    array-write-back
+    mend-of-requires
+    mul-at
+    array-write-at
+    mul-values
+    array-write-values
+    add-len
+    add-k
+    loop-less
+    loop-again
+    returns-2)
