@@ -15,7 +15,7 @@ use Rattle.layout.proofs.Laws.{length-formatted}
 use Rattle.axle_store.specs.declared.Formatted.the-variants as F
 use Rattle.axle_store.specs.Answers.{formattedNumber, formattedWords}
 use Rattle.axle_store.specs.Calls.{formatAnswer, formatWords}
-use Rattle.axle_store.proofs.Formatting.{row-all}
+use Rattle.word_format.proofs.Formatting.{row-all}
 use Rattle.axle.specs.Interface.{formatPlan, wholeCode, wholeBytes, byteFormat}
 
 -- the number

@@ -5,12 +5,11 @@ use requests::Looked;
 use requests::Request;
 use stores::Answer;
 ghost use mathlib.Core.Path.{_≡_};
-ghost use Prim.Native.Nat.{_+_, _/_, _%_, _≤_, _<_};
-ghost use lib.ListN.{length};
-ghost use Rattle.stores.specs.Stores.{run, inRow, answerOf};
-ghost use Rattle.byte_form.specs.Bytes.{wordsIn, byteWrites, bytesAfter};
-ghost use Rattle.layout.specs.Words.{layoutFor, Laid};
-ghost use Rattle.axle.specs.Interface.{codeOf, checkCode, lengthCode, formatPlan, wholeCode, wholeBytes, byteFormat, byteInsert, byteSeveral, byteDelete, byteRecover};
+ghost use Prim.Native.Nat.{_+_, _/_, _%_};
+ghost use Rattle.stores.specs.Stores.{answerOf};
+ghost use Rattle.byte_form.specs.Bytes.{bytesAfter};
+ghost use Rattle.layout.specs.Words.{layoutFor};
+ghost use Rattle.axle.specs.Interface.{codeOf, checkCode, lengthCode, wholeCode, wholeBytes, byteFormat, byteInsert, byteSeveral, byteDelete, byteRecover};
 
 // What stands in front of the number of stores done or of a length, and of the number where stopped.
 const DONE: u32 = 65536;
@@ -25,38 +24,6 @@ fn code(answer: Answer) -> u32
         Answer::Done(n) => DONE + n as u32,
         Answer::Stopped(n) => STOPPED + n as u32,
         Answer::Refused(n) => n as u32,
-    }
-}
-
-// Stores the row of words, from word at on.
-fn put_row(bytes: &mut [u8], at: usize, row: &[u16])
-    requires { ⌜ at + length (now row) ≤ length (wordsIn (now bytes)) ⌝ }
-    ensures { λ _. ⌜ now (bytes .exit) ≡ run (byteWrites (inRow at (now (row .entry)))) (now (bytes .entry)) ⌝ }
-{
-    let mut i: usize = 0;
-    while i < row.len() {
-        byte_form::put(bytes, at + i, row[i]);
-        i += 1;
-    }
-}
-
-// Writes the words of a formatted store: the head, the headers, then 0.
-fn fill(bytes: &mut [u8], l: Layout)
-    requires { ⌜ Laid l (wordsIn (now bytes)) ⌝ }
-    ensures { λ _. ⌜ now (bytes .exit) ≡ wholeBytes (formatPlan l (wordsIn (now (bytes .entry)))) (now (bytes .entry)) ⌝ }
-{
-    let head = l.head();
-    put_row(bytes, 0, &head);
-    let mut k: u16 = 0;
-    while k < l.lists {
-        let header = Layout::empty_header(k);
-        put_row(bytes, l.header(k), &header);
-        k += 1;
-    }
-    let mut i = l.nodes_at();
-    while i < l.size() {
-        byte_form::put(bytes, i, 0);
-        i += 1;
     }
 }
 
@@ -81,7 +48,7 @@ pub extern "C" fn axle_format(store: &mut [u8], lists: u16, nodes: u16, record_w
     if store.len() / 2 != l.size() {
         return 4;
     }
-    fill(store, l);
+    byte_format::fill(store, l);
     0
 }
 

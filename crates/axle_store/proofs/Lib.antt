@@ -1,5 +1,4 @@
 pub mod Laws
-pub mod Formatting
 pub mod Cases
 pub mod Numbers
 pub mod Sites

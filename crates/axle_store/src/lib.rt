@@ -6,10 +6,10 @@ use requests::Looked;
 use requests::Request;
 use stores::Answer;
 ghost use mathlib.Core.Path.{_≡_};
-ghost use Prim.Native.Nat.{_+_, _*_, _≤_, _<_};
+ghost use Prim.Native.Nat.{_+_, _*_};
 ghost use lib.ListN.{length};
-ghost use Rattle.stores.specs.Stores.{run, stores, inRow, answerOf, wordsAfter, answerNumber, answerStores, planNumber, madeBy};
-ghost use Rattle.layout.specs.Words.{InRange, sizeOf, layoutFor, formatted};
+ghost use Rattle.stores.specs.Stores.{stores, answerOf, wordsAfter, answerNumber, answerStores, planNumber, madeBy};
+ghost use Rattle.layout.specs.Words.{layoutFor};
 ghost use Rattle.recovery.specs.Plan.{recoverPlan};
 ghost use Rattle.axle_store.specs.Answers.{checkedNumber, formattedNumber, countedNumber, countedLength};
 ghost use Rattle.axle_store.specs.Calls.{formatAnswer, formatNumber, formatWords, checkAnswer, checkNumber, lengthAnswer, lengthNumber, lengthValue, readNumber, readWords, readStart, insertPlan, severalPlan, deletePlan};
@@ -74,38 +74,6 @@ impl Counted {
     }
 }
 
-// Stores the row of words, from word at on.
-fn put_row(words: &mut [u16], at: usize, row: &[u16])
-    requires { ⌜ at + length (now row) ≤ length (now words) ⌝ }
-    ensures { λ _. ⌜ now (words .exit) ≡ run (inRow at (now (row .entry))) (now (words .entry)) ⌝ }
-{
-    let mut i: usize = 0;
-    while i < row.len() {
-        words[at + i] = row[i];
-        i += 1;
-    }
-}
-
-// Writes the words of a formatted store: the head, the headers, then 0.
-fn fill(words: &mut [u16], l: Layout)
-    requires { ⌜ InRange l × (length (now words) ≡ sizeOf l) ⌝ }
-    ensures { λ _. ⌜ now (words .exit) ≡ formatted l ⌝ }
-{
-    let head = l.head();
-    put_row(words, 0, &head);
-    let mut k: u16 = 0;
-    while k < l.lists {
-        let header = Layout::empty_header(k);
-        put_row(words, l.header(k), &header);
-        k += 1;
-    }
-    let mut i = l.nodes_at();
-    while i < l.size() {
-        words[i] = 0;
-        i += 1;
-    }
-}
-
 // Writes a store of empty lists.
 pub fn format(words: &mut [u16], lists: u16, nodes: u16, width: u16) -> Formatted
     ensures answer { λ r. ⌜ r ≡ formatAnswer (layoutFor lists nodes width) (now (words .entry)) ⌝ }
@@ -124,7 +92,7 @@ pub fn format(words: &mut [u16], lists: u16, nodes: u16, width: u16) -> Formatte
     if words.len() != l.size() {
         return Formatted::Refused(4);
     }
-    fill(words, l);
+    word_format::fill(words, l);
     Formatted::Done
 }
 

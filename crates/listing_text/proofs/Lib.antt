@@ -1,3 +1,4 @@
+pub mod Over
 pub mod Lines
 pub mod Listed
 pub mod Meaning

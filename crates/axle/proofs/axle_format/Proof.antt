@@ -53,7 +53,7 @@ returns-4 c =
     let b = c .before .before .before .before .before .before .before .before .before .before .args .store .now in
     let r = answered-yes (c .before .before .before .before .before .before .before .in-range .ensures) (c .before .before .before .before .before .before .if2 .left) in
     let n = eq-eqb (length (wordsIn b)) _ (length-words b ∙ c .before .before .before .before .if3 .left ∙ c .before .before .before .before .before .size .ensures) in
-    rw (eq-eqb (length b % 2) 0 (c .before .before .before .before .before .before .before .before .if1 .left), r, n) (refl, rw (r, n) at (c .before .before .fill .ensures))
+    rw (eq-eqb (length b % 2) 0 (c .before .before .before .before .before .before .before .before .if1 .left), r, n) (refl, c .before .before .fill .ensures)
 
 pub axle-format-spec : {M : Type 1} → statement M
 axle-format-spec =

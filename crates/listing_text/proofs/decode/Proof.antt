@@ -4,7 +4,7 @@ use mathlib.Core.Path.{_≡_, refl, ap₂, _∙_}
 use mathlib.Core.List.{List}
 use native.Mathlib.Omega.{arith}
 use lib.ListN.{length, set, length-set}
-use Rattle.axle_store.proofs.Laws.{over, over-next, over-all}
+use Rattle.listing_text.proofs.Over.{over, over-next, over-all}
 use Rattle.byte_form.specs.Bytes.{wordsIn}
 use Rattle.byte_form.proofs.Laws.{length-words}
 use Rattle.listing_text.proofs.decode.Statement.{statement}

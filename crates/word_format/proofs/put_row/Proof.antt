@@ -6,9 +6,9 @@ use native.Mathlib.Omega.{arith}
 use native.Mathlib.Nat.{add-zero}
 use lib.ListN.{length, getD, set, drop, length-set}
 use Rattle.stores.specs.Stores.{Write, write, run, inRow}
-use Rattle.axle_store.proofs.Formatting.{made, row-next, row-end}
-use Rattle.axle_store.proofs.put_row.Statement.{statement}
-use Rattle.axle_store.proofs.put_row.Tie as tie
+use Rattle.word_format.proofs.Formatting.{made, row-next, row-end}
+use Rattle.word_format.proofs.put_row.Statement.{statement}
+use Rattle.word_format.proofs.put_row.Tie as tie
 
 abbrev Inv-loop : tie.InvT-loop
 Inv-loop words₀ at row i₀ words i =

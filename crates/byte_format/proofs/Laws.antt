@@ -2,12 +2,10 @@
 use Prim.Native.Nat.{ℕ}
 use mathlib.Core.Path.{_≡_, ap, _∙_, sym}
 use mathlib.Core.List.{List, _++_}
-use Rattle.stores.specs.declared.Answer.the-variants as A
 use Rattle.stores.specs.Stores.{Write, run}
 use Rattle.stores.proofs.Laws.{run-append}
 use Rattle.byte_form.specs.Bytes.{byteWrites}
 use Rattle.byte_form.proofs.Laws.{byte-append}
-use Rattle.requests.specs.declared.Looked.the-variants as K
 
 -- the first of the stores are made: those that are left, in the bytes as they are, give what all give
 pub made : (ps rs : List Write) (b : List ℕ) {qs : List Write} {c : List ℕ} → qs ≡ ps ++ rs → c ≡ run (byteWrites ps) b

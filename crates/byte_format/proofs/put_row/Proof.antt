@@ -1,4 +1,4 @@
--- `axle::put_row`: what is left of the row, stored in the bytes as they are, gives what the whole row gives.
+-- `byte_format::put_row`: what is left of the row, stored in the bytes as they are, gives what the whole row gives.
 use Prim.Native.Nat.{ℕ, _+_, _-_, _≤_}
 use mathlib.Core.Path.{_≡_, refl, ap, _∙_, sym}
 use mathlib.Core.List.{List, [], _∷_}
@@ -8,10 +8,10 @@ use lib.ListN.{length, getD, drop}
 use Rattle.stores.specs.Stores.{Write, write, run, inRow}
 use Rattle.byte_form.specs.Bytes.{wordsIn, byteWrites}
 use Rattle.byte_form.proofs.Laws.{length-words, same-words}
-use Rattle.axle_store.proofs.Formatting.{row-next, row-end}
-use Rattle.axle.proofs.Laws.{made}
-use Rattle.axle.proofs.put_row.Statement.{statement}
-use Rattle.axle.proofs.put_row.Tie as tie
+use Rattle.word_format.proofs.Formatting.{row-next, row-end}
+use Rattle.byte_format.proofs.Laws.{made}
+use Rattle.byte_format.proofs.put_row.Statement.{statement}
+use Rattle.byte_format.proofs.put_row.Tie as tie
 
 abbrev Inv-loop : tie.InvT-loop
 Inv-loop bytes₀ at row i₀ bytes i =
