@@ -73,6 +73,20 @@
  * mapping, keeps the order but may leave the low byte of a word alone. If that happens to the central store, axle_recover
  * refuses with 11; at any other store the list is as described. (This is tested, not proved.)
  *
+ * ALTERED WORDS, as beside a welding set. Take a store that was sound, and of it these words: the four of each header, the
+ * identifier of each node, and forward and back of each member of a list.
+ *
+ *   - If one, two or three of them have changed, axle_check answers AXLE_UNSOUND, always. Four can pass: a free node whose
+ *     links happen to fit becomes a member by its identifier, the count, the forward before it and the back behind it.
+ *   - If one of them has changed, wherever it stands, axle_recover puts it back with one store: AXLE_DONE + 1, and the words
+ *     are those of before. Cut by allowance 0 it answers AXLE_STOPPED + 0 and changes nothing.
+ *   - If more have changed, but at most one in each list and none of a node in no list, axle_recover puts all of them back:
+ *     that is a power cut that hit no call, see above. Two in one list may be refused (11, 12), or mended to another list
+ *     that fits; so where this may have happened, a store that axle_recover left sound need not be the old one.
+ *
+ * The other words are not among them. Records and the links of nodes in no list may hold anything: axle_check does not look
+ * at what they hold, so damage there is neither found nor put back. Nothing is said of words 0 to 7.
+ *
  * NOT PROMISED. That damage inside records is found: they are the caller's, and have no check word. That anything is left
  * after a cut during axle_format: format again. That damage beyond the above is mended: it may be refused (11, 12), or
  * mended to another list that fits. That two callers may use one store at a time.
@@ -104,7 +118,7 @@ extern "C" {
 
 /* The version of the library: in numbers, and as text "MAJOR.MINOR.PATCH". */
 #define AXLE_VERSION_MAJOR 1
-#define AXLE_VERSION_MINOR 1
+#define AXLE_VERSION_MINOR 2
 #define AXLE_VERSION_PATCH 0
 #define AXLE_VERSION AXLE_DOTTED(AXLE_VERSION_MAJOR, AXLE_VERSION_MINOR, AXLE_VERSION_PATCH)
 #define AXLE_DOTTED(a, b, c) AXLE_QUOTED(a) "." AXLE_QUOTED(b) "." AXLE_QUOTED(c)
@@ -179,6 +193,7 @@ uint32_t axle_format(uint8_t *store, size_t store_len, uint16_t lists, uint16_t 
 /*
  * Is the store sound? Each list's header and members carry its identifier, forward leads from the header through the
  * members and back to it, back leads the other way round, the count is right, and every other node has identifier 0.
+ * What it can be trusted for where words were altered stands above.
  * Answers: 0, 1 to 4, 6.
  */
 uint32_t axle_check(const uint8_t *store, size_t store_len);

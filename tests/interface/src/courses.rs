@@ -3,8 +3,9 @@
 use crate::checks::Tests;
 use interface::stores::{alteration, deal, edit, sound};
 use interface::{answer_of, bytes_of, words_of, Call, Call::*, ENOUGH};
+use model::alterations::{adversarial, alterable};
 use model::recovery::Course;
-use model::store::{open, store_of, Answer, Shape, IDENTIFIER};
+use model::store::{all_lists, open, store_of, Answer, Shape};
 use std::panic::{catch_unwind, AssertUnwindSafe};
 
 /// The list of the call that a course begins with.
@@ -77,26 +78,21 @@ impl Tests {
 /// to every cell number and identifier, every cut of one recovery.
 pub fn every_course(t: &mut Tests) {
     let shape = Shape::new(2, 2, 1);
-    let [a, b] = [2, 3];
-    let values = [0, 1, 2, 3, 4, IDENTIFIER, IDENTIFIER + 1, 65_535];
-    let few: [&[usize]; 5] = [&[], &[a], &[b], &[a, b], &[b, a]];
-    for lists in few.iter().flat_map(|x| few.iter().map(move |y| [x.to_vec(), y.to_vec()])) {
-        if lists[0].iter().any(|cell| lists[1].contains(cell)) {
-            continue;
-        }
+    let (nodes, values) = (shape.node_cells().collect::<Vec<_>>(), adversarial(shape));
+    for lists in all_lists(shape.lists, &nodes) {
         let sound = store_of(shape, &lists, || 7);
+        let places = alterable(&sound).expect("a sound store");
         for list in 0..2 {
-            let mut places: Vec<usize> = (0..4).map(|i| shape.cell(1 - list) + i).collect();
-            places.extend(lists[1 - list].iter().flat_map(|&cell| (0..3).map(move |i| shape.cell(cell) + i)));
+            let places = &places[1 - list];
             for position in 0..=lists[list].len() as u16 {
-                let (list, start) = (list as u16, b as u16);
+                let (list, start) = (list as u16, nodes[1] as u16);
                 for call in [
                     Insert { list, position, start, record: vec![1, 2] },
                     InsertSeveral { list, position, start, records: vec![1, 2, 3, 4] },
                     Delete { list, position },
                 ] {
                     for allowance in 0..=call.whole(1) {
-                        for (at, value) in places.iter().flat_map(|&at| values.map(|value| (at, value))) {
+                        for (at, value) in places.iter().flat_map(|&at| values.iter().map(move |&value| (at, value))) {
                             for cut in 0..3 {
                                 t.course(&sound, &call, allowance, &[(at, value)], &[cut]);
                             }
