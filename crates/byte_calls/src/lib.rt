@@ -1,4 +1,4 @@
-// Insert, delete and recover on lent bytes: what the calls of crate axle_store are on words. The bytes are even: their number is asked above.
+// Insert, delete and recover on lent bytes: what the calls of crate axle_store are on words. That the bytes are even is asked above, in crate axle.
 use layout::Layout;
 use layout::Opened;
 use requests::Looked;
