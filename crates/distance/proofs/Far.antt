@@ -6,7 +6,7 @@ use mathlib.Core.Logic.{_⊎_, inl, inr, ⊎-elim}
 use native.Mathlib.Omega.{arith}
 use lib.ListN.{length, getD, length-map}
 use Rattle.sequences.specs.Sequence.{_∈_, All, Different}
-use Rattle.sequences.proofs.Members.{all-in, in-all, member?, within?}
+use Rattle.sequences.proofs.Members.{all-in, in-all, member?, every?}
 use Rattle.sequences.proofs.Pigeonhole.{pigeonhole-less}
 use Rattle.sequences.proofs.Reversed.{backward-forward, ring-reverse, all-reverse, reverse-in, in-reverse, different-reverse}
 use Rattle.layout.specs.declared.Layout.{Layout}
@@ -191,7 +191,7 @@ module _ (l : Layout) (w w′ : List ℕ) (exact : length w ≡ sizeOf l) (exact
         )
 
     pub far : 4 ≤ differing w w′
-    far = by (within? s s′) (within? s′ s)
+    far = by (every? (λ c. c ∈ s′) (λ c. member? c s′) s) (every? (λ c. c ∈ s) (λ c. member? c s) s′)
       where
         by : ((c : ℕ) → c ∈ s → c ∈ s′) ⊎ ((c : ℕ) × (c ∈ s) × (c ∈ s′ → ⊥)) → ((c : ℕ) → c ∈ s′ → c ∈ s) ⊎ ((c : ℕ) × (c ∈ s′) × (c ∈ s → ⊥))
             → 4 ≤ differing w w′

@@ -1,7 +1,7 @@
 -- Links that lead round a header through one sequence, and others through another: a link of the first is another in the second, and where
 -- both sequences have the same cells, two are.
 use Prim.Native.Nat.{ℕ, _+_}
-use mathlib.Core.Path.{_≡_, refl, ap, _∙_, sym}
+use mathlib.Core.Path.{_≡_, ap, _∙_, sym}
 use mathlib.Core.List.{List, [], _∷_, _++_, List·Memᴰ·head, List·Memᴰ·tail}
 use mathlib.Core.Bool.{Bool, true, false}
 use mathlib.Core.Logic.{_⊎_, inl, inr, ⊎-elim}
@@ -9,35 +9,24 @@ use native.Mathlib.Decide.{ℕ-discrete}
 use native.Mathlib.Omega.{arith}
 use lib.ListN.{length}
 use Rattle.sequences.specs.Sequence.{_∈_, All, Different, Step, steps, Forward}
-use Rattle.sequences.proofs.Members.{all-in, in-front, in-behind}
+use Rattle.sequences.proofs.Members.{all-in, every?, in-front, in-behind}
 use Rattle.sequences.proofs.Steps.{step-source, step-target, step-from, step-to, one-source}
 use Rattle.sequences.proofs.Splice.{forward-same}
 use Rattle.sequences.proofs.Trail.{leads-trail}
 
--- of some cells all links are the same, or one is not
-moved? : (f g : ℕ → ℕ) (cells : List ℕ) → ((c : ℕ) → c ∈ cells → g c ≡ f c) ⊎ ((c : ℕ) × (c ∈ cells) × (f c ≡ g c → ⊥))
-moved? f g [] = inl (λ c m. absurd (elim m [ ]))
-moved? f g (x ∷ cells) = by (ℕ-discrete (f x) (g x)) (moved? f g cells)
-  where
-    both : f x ≡ g x → ((c : ℕ) → c ∈ cells → g c ≡ f c) → (c : ℕ) → c ∈ (x ∷ cells) → g c ≡ f c
-    both e h c (List·Memᴰ·head q) = ap g q ∙ sym e ∙ sym (ap f q)
-    both e h c (List·Memᴰ·tail m) = h c m
-
-    by : Dec (f x ≡ g x) → ((c : ℕ) → c ∈ cells → g c ≡ f c) ⊎ ((c : ℕ) × (c ∈ cells) × (f c ≡ g c → ⊥))
-        → ((c : ℕ) → c ∈ (x ∷ cells) → g c ≡ f c) ⊎ ((c : ℕ) × (c ∈ (x ∷ cells)) × (f c ≡ g c → ⊥))
-    by (no n) r = inr (x, List·Memᴰ·head refl, n)
-    by (yes e) (inr r) = inr (r .0, List·Memᴰ·tail (r .1), r .2)
-    by (yes e) (inl h) = inl (both e h)
+-- a link is the same, or another
+moved? : (f g : ℕ → ℕ) (c : ℕ) → (f c ≡ g c) ⊎ (f c ≡ g c → ⊥)
+moved? f g c = elim (ℕ-discrete (f c) (g c)) [ yes e ↦ inl e | no n ↦ inr n ]
 
 module _ (inside : ℕ → Bool) (f g : ℕ → ℕ) (k : ℕ) (s t : List ℕ) (ins : All (λ c. inside c ≡ true) s) (int : All (λ c. inside c ≡ true) t)
     (out : inside k ≡ false) (old : Forward f k s k) (new : Forward g k t k) (other : s ≡ t → ⊥) where
   pub some-moved : (c : ℕ) × (c ∈ (k ∷ s)) × (f c ≡ g c → ⊥)
-  some-moved = ⊎-elim (λ h. absurd (other (same h))) (λ r. r) (moved? f g (k ∷ s))
+  some-moved = ⊎-elim (λ h. absurd (other (same h))) (λ r. r) (every? (λ c. f c ≡ g c) (moved? f g) (k ∷ s))
     where
-      same : ((c : ℕ) → c ∈ (k ∷ s) → g c ≡ f c) → s ≡ t
+      same : ((c : ℕ) → c ∈ (k ∷ s) → f c ≡ g c) → s ≡ t
       same h =
           let n = length s + length t in
-          sym (leads-trail g inside n k s k ins out (forward-same f g k s k h old) (omega arith)) ∙ leads-trail g inside n k t k int out new (omega arith)
+          sym (leads-trail g inside n k s k ins out (forward-same f g k s k (λ c m. sym (h c m)) old) (omega arith)) ∙ leads-trail g inside n k t k int out new (omega arith)
 
   -- Some c leads elsewhere. The cell that led there before, d, leads elsewhere too: otherwise both would lead to one cell.
   pub two-moved

@@ -52,20 +52,20 @@ member? x (y ∷ s) = by (ℕ-discrete x y) (member? x s)
     by (no k) (inl m) = inl (List·Memᴰ·tail m)
     by (no k) (inr h) = inr (cases h k)
 
--- and so is whether all members of s are members of t
-pub within? : (s t : List ℕ) → ((x : ℕ) → x ∈ s → x ∈ t) ⊎ ((x : ℕ) × (x ∈ s) × (x ∈ t → ⊥))
-within? [] t = inl (λ x m. absurd (elim m [ ]))
-within? (y ∷ s) t = by (member? y t) (within? s t)
+-- what is decided of each member is decided of all: every one has the property, or one has it not
+pub every? : (P : ℕ → Type 0) → ((x : ℕ) → P x ⊎ (P x → ⊥)) → (s : List ℕ) → ((x : ℕ) → x ∈ s → P x) ⊎ ((x : ℕ) × (x ∈ s) × (P x → ⊥))
+every? P d [] = inl (λ x m. absurd (elim m [ ]))
+every? P d (y ∷ s) = by (d y) (every? P d s)
   where
-    both : y ∈ t → ((x : ℕ) → x ∈ s → x ∈ t) → (x : ℕ) → x ∈ (y ∷ s) → x ∈ t
-    both m h x (List·Memᴰ·head e) = Memᴰ·cast e m
-    both m h x (List·Memᴰ·tail q) = h x q
+    both : P y → ((x : ℕ) → x ∈ s → P x) → (x : ℕ) → x ∈ (y ∷ s) → P x
+    both p h x (List·Memᴰ·head e) = subst P (sym e) p
+    both p h x (List·Memᴰ·tail m) = h x m
 
-    by : (y ∈ t) ⊎ (y ∈ t → ⊥) → ((x : ℕ) → x ∈ s → x ∈ t) ⊎ ((x : ℕ) × (x ∈ s) × (x ∈ t → ⊥))
-        → ((x : ℕ) → x ∈ (y ∷ s) → x ∈ t) ⊎ ((x : ℕ) × (x ∈ (y ∷ s)) × (x ∈ t → ⊥))
+    by : P y ⊎ (P y → ⊥) → ((x : ℕ) → x ∈ s → P x) ⊎ ((x : ℕ) × (x ∈ s) × (P x → ⊥))
+        → ((x : ℕ) → x ∈ (y ∷ s) → P x) ⊎ ((x : ℕ) × (x ∈ (y ∷ s)) × (P x → ⊥))
     by (inr n) r = inr (y, List·Memᴰ·head refl, n)
-    by (inl m) (inr r) = inr (r .0, List·Memᴰ·tail (r .1), r .2)
-    by (inl m) (inl h) = inl (both m h)
+    by (inl p) (inr r) = inr (r .0, List·Memᴰ·tail (r .1), r .2)
+    by (inl p) (inl h) = inl (both p h)
 
 -- the member at a position
 pub at-in : (s : List ℕ) (i : ℕ) → i < length s → getD s i 0 ∈ s
