@@ -15,10 +15,10 @@ ghost use lib.ListN.{length, getD};
 ghost use Rattle.sequences.specs.Sequence.{follow};
 ghost use Rattle.byte_form.specs.Bytes.{wordsIn};
 ghost use Rattle.layout.specs.Words.{headWords, linkWords, Laid, Node, openedBy, opened};
-ghost use Rattle.lists.specs.Decide.{viewOf, sequenceOf};
+ghost use Rattle.lists.specs.Decide.{viewOf, sequenceOf, HeldList};
 ghost use Rattle.spans.specs.Spans.{Gridded};
 ghost use Rattle.requests.specs.Requests.{around, firstFree, memberAt, freeGap, gapAt, gapsAt, siteOf, lookOf};
-ghost use Rattle.requests.specs.Sites.{HeldList, linkIn, gapSite, nextSite};
+ghost use Rattle.requests.specs.Sites.{linkIn, gapSite, nextSite};
 
 // The first eight words.
 fn head(bytes: &[u8]) -> [u16; Layout::HEAD_WORDS]

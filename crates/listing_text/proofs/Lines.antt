@@ -8,9 +8,8 @@ use lib.ListN.{length, getD, drop, List·getD-append}
 use Rattle.layout.specs.declared.Layout.{Layout}
 use Rattle.layout.specs.Words.{Laid, Node, recordAt}
 use Rattle.layout.proofs.Laws.{node-fits}
-use Rattle.lists.specs.Decide.{viewOf, sequenceOf}
-use Rattle.requests.specs.Sites.{HeldList}
-use Rattle.requests.proofs.Sites.{held-count, ring-after}
+use Rattle.lists.specs.Decide.{viewOf, sequenceOf, HeldList}
+use Rattle.lists.proofs.Ring.{held-count, ring-after}
 use Rattle.edits.specs.Edited.{recordIn}
 use Rattle.writing.specs.Text.{codes, decimal, spaced}
 use Rattle.listing_text.specs.Listing.{recordLine, recordLines, listLine, listLines, listsFrom}

@@ -4,3 +4,4 @@ pub mod Decided
 pub mod Empty
 pub mod Same
 pub mod Stepwise
+pub mod Ring

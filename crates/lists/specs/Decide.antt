@@ -1,6 +1,7 @@
 -- Soundness as it is decided: the forward links give the only sequence that can be a list's, a turn round it tests what is
 -- asked, and the nodes with an identifier are as many as the lists' members.
-use Prim.Native.Nat.{ℕ, zero, suc, _+_}
+use Prim.Native.Nat.{ℕ, zero, suc, _+_, _<_}
+use mathlib.Core.Path.{_≡_}
 use mathlib.Core.List.{List, [], _∷_, _++_}
 use mathlib.Core.Bool.{Bool, true, false, _&&_}
 use lib.Dec.{eqb}
@@ -39,6 +40,11 @@ turn v k x (y ∷ s) = eqb (v .forward x) y && (eqb (v .ident y) (identOf k) && 
 -- list k, whose count is n, has s for its sequence
 unfoldable pub holds : View → ℕ → ℕ → List ℕ → Bool
 holds v k n s = eqb (v .ident k) (identOf k) && (turn v k k s && eqb n (length s))
+
+-- list k of the layout holds, with n members
+pub record HeldList (l : Layout) (v : View) (k n : ℕ) : Type 0 where
+  pub list : k < l .lists
+  pub held : holds v k n (sequenceIn l v k) ≡ true
 
 -- the lists below n all hold
 unfoldable pub allHold : Layout → View → (ℕ → ℕ) → ℕ → Bool

@@ -1,5 +1,5 @@
--- Laws of the sites of a list that holds: where its links lead, and what is found there.
-use Prim.Native.Nat.{ℕ, suc, _+_, _*_, _-_, _/_, _%_, _≤_, _<_}
+-- Laws of the sites of a list that holds: what is found at a position.
+use Prim.Native.Nat.{ℕ, _+_, _*_, _/_, _%_, _≤_, _<_}
 use mathlib.Core.Path.{_≡_, refl, ap, _∙_, sym, subst⁻¹}
 use mathlib.Core.List.{List, [], _∷_, _++_}
 use mathlib.Core.Bool.{Bool, true, false, _&&_, and-eq-true-iff}
@@ -7,128 +7,64 @@ use native.Mathlib.Omega.{arith}
 use native.Mathlib.Nat.{div-add-mod'}
 use native.Mathlib.Numerals.{add-one}
 use lib.Dec.{eqb, leb, ltb}
-use lib.ListN.{length, getD, length-append, List·getD-append}
+use lib.ListN.{length, getD}
 use borrow.Author.Tests.{lt-ltb, le-ltb, le-leb, lt-leb, eq-eqb, ne-eqb, leb-true, ltb-true, eqb-true}
-use Rattle.sequences.specs.Sequence.{All, follow}
-use Rattle.sequences.proofs.Members.{all-in, in-all, all-nth, at-in, in-front}
-use Rattle.sequences.proofs.Splice.{forward-at}
-use Rattle.sequences.proofs.Trail.{trail-inside}
-use Rattle.sequences.proofs.Follow.{follow-forward, follow-backward, backward-at}
 use Rattle.layout.specs.declared.Layout.{Layout}
 use Rattle.layout.specs.Words.{Node, isNode, cellCount, ask}
 use Rattle.layout.proofs.Laws.{is-node}
-use Rattle.lists.specs.Decide.{View, sequenceIn, soundIn}
-use Rattle.lists.proofs.Agree.{Holds, holds-true}
-use Rattle.lists.proofs.Stepwise.{sound-hold}
+use Rattle.lists.specs.Decide.{View, sequenceIn, HeldList}
+use Rattle.lists.proofs.Ring.{held-count, ring-node, ring-cell, ring-end, ring-after, ring-before}
 use Rattle.requests.specs.declared.Free.{Free}
 use Rattle.requests.specs.declared.Free.the-variants.{Cell, Full}
 use Rattle.requests.specs.declared.Site.{Site}
 use Rattle.requests.specs.declared.Sited.{Sited}
 use Rattle.requests.specs.declared.Sited.the-variants.{At, Refused}
 use Rattle.requests.specs.Requests.{nextCell, around, firstFree, withFree, freeCells, memberAt, askGap, freeGap, gapAt, askGaps, gapsAt}
-use Rattle.requests.specs.Sites.{HeldList, gapSite, nextSite}
+use Rattle.requests.specs.Sites.{gapSite, nextSite}
 use Rattle.requests.proofs.Laws.{asked-number, gaps-number}
 
 module _ {l : Layout} {v : View} {k n : ℕ} (h : HeldList l v k n) where
   abbrev members : List ℕ
   members = sequenceIn l v k
 
-  held : Holds v k n members
-  held = holds-true v k n members (h .held)
-
-  pub held-count : n ≡ length members
-  held-count = held .count
-
-  -- cell q of the ring, q from 1 on: a node, ..
-  pub ring-node : (q : ℕ) → 0 < q → q ≤ n → Node l (getD (k ∷ members) q 0)
-  ring-node q g p =
-      let m : q ≡ suc (q - 1) = omega arith in
-      rw m
-      (is-node l (getD members (q - 1) 0)
-      (all-nth (λ c. isNode l c ≡ true) members (q - 1) 0 (trail-inside (v .forward) (isNode l) (l .nodes) (v .forward k)) (omega (arith, held-count))))
-
-  -- .. that lies so many links ahead of the first member x, and all on the way are nodes
-  pub ahead-at : (i q : ℕ) {x : ℕ} → x ≡ v .forward k → i + 1 ≡ q → q ≤ n → follow (v .forward) i x ≡ getD (k ∷ members) q 0
-  ahead-at i q e g p =
-      let m : q ≡ suc i = omega arith in
-      rw (e, m) (follow-forward (v .forward) k members k i (held .turn .forwards) (omega (arith, held-count)))
-
-  pub ahead-node : (i : ℕ) {x : ℕ} → x ≡ v .forward k → i < n → Node l (follow (v .forward) i x)
-  ahead-node i e p = subst⁻¹ (Node l) (ahead-at i (i + 1) e refl (omega arith)) (ring-node (i + 1) (omega arith) (omega arith))
-
-  -- or behind the last member x
-  pub behind-at : (i q : ℕ) {x : ℕ} → x ≡ v .back k → i + q ≡ n → 0 < q → follow (v .back) i x ≡ getD (k ∷ members) q 0
-  behind-at i q e g p =
-      let m : q ≡ suc (q - 1) = omega arith in
-      rw (e, m) (follow-backward (v .back) k members k i (q - 1) (held .turn .backs) (omega (arith, held-count)))
-
-  pub behind-node : (i : ℕ) {x : ℕ} → x ≡ v .back k → i < n → Node l (follow (v .back) i x)
-  behind-node i e p = subst⁻¹ (Node l) (behind-at i (n - i) e (omega arith) (omega arith)) (ring-node (n - i) (omega arith) (omega arith))
-
-  -- all cells of the ring are cells of the store, with the header at either end
-  ring-cells : All (λ c. c < cellCount l) (k ∷ members)
-  ring-cells = (
-    omega (arith, h .list),
-    in-all (λ c. c < cellCount l) members
-        (λ c m. is-node l c (all-in (λ c. isNode l c ≡ true) members (trail-inside (v .forward) (isNode l) (l .nodes) (v .forward k)) m) .high),
-  )
-
-  pub ring-cell : (q : ℕ) → q ≤ n → getD (k ∷ members) q 0 < cellCount l
-  ring-cell q p = all-nth (λ c. c < cellCount l) (k ∷ members) q 0 ring-cells (omega (arith, held-count))
-
-  pub ring-end : (q : ℕ) → q ≤ n → getD (members ++ k ∷ []) q 0 < cellCount l
-  ring-end q p =
-      all-in (λ c. c < cellCount l) (k ∷ members) ring-cells
-      (in-front k members (at-in (members ++ k ∷ []) q (omega (arith, held-count, length-append members (k ∷ [])))))
-
-  -- what stands before and after it
-  pub ring-after : (q : ℕ) → q ≤ n → v .forward (getD (k ∷ members) q 0) ≡ getD (members ++ k ∷ []) q 0
-  ring-after q p = forward-at (v .forward) k members k q (held .turn .forwards) (omega (arith, held-count))
-
-  pub ring-before : (q : ℕ) → q < n → v .back (getD (k ∷ members) (q + 1) 0) ≡ getD (k ∷ members) q 0
-  ring-before q p =
-      rw add-one
-      (ap (v .back) (sym (List·getD-append members (k ∷ []) 0 q (omega (arith, held-count))))
-      ∙ backward-at (v .back) k members k q (held .turn .backs) (omega (arith, held-count)))
-
   -- the member at a position: no such, or its site, which its own links give
   pub member-past : (p : ℕ) → n ≤ p → Refused 7 ≡ memberAt k p members
   unfolding memberAt
-  member-past p g = rw (le-ltb p (length members) (omega (arith, held-count)))
+  member-past p g = rw (le-ltb p (length members) (omega (arith, held-count h)))
 
   module _ (p : ℕ) (g : p < n) {c : ℕ} (q : c ≡ getD (k ∷ members) (p + 1) 0) where
     pub member-node : Node l c
-    member-node = subst⁻¹ (Node l) q (ring-node (p + 1) (omega arith) (omega arith))
+    member-node = subst⁻¹ (Node l) q (ring-node h (p + 1) (omega arith) (omega arith))
 
     member-before : v .back c ≡ getD (k ∷ members) p 0
-    member-before = ap (v .back) q ∙ ring-before p g
+    member-before = ap (v .back) q ∙ ring-before h p g
 
     member-after : v .forward c ≡ getD (members ++ k ∷ []) (p + 1) 0
-    member-after = ap (v .forward) q ∙ ring-after (p + 1) (omega arith)
+    member-after = ap (v .forward) q ∙ ring-after h (p + 1) (omega arith)
 
     pub member-links : (v .back c < cellCount l) × (v .forward c < cellCount l)
-    member-links = rw (member-before, member-after) (ring-cell p (omega arith), ring-end (p + 1) (omega arith))
+    member-links = rw (member-before, member-after) (ring-cell h p (omega arith), ring-end h (p + 1) (omega arith))
 
     pub member-found : At (record { before = v .back c; cell = c; after = v .forward c; count = n }) ≡ memberAt k p members
     unfolding memberAt
     member-found =
         let m : c ≡ getD members p 0 = q ∙ rw add-one in
-        rw (lt-ltb p (length members) (omega (arith, held-count)))
-        (λ i. At (record { before = member-before i; cell = m i; after = member-after i; count = held-count i }))
+        rw (lt-ltb p (length members) (omega (arith, held-count h)))
+        (λ i. At (record { before = member-before i; cell = m i; after = member-after i; count = held-count h i }))
 
   -- the gap at a position, behind cell x
   module _ (p : ℕ) (g : p ≤ n) {x : ℕ} (q : x ≡ getD (k ∷ members) p 0) where
     pub gap-cell : x < cellCount l
-    gap-cell = rw q (ring-cell p g)
+    gap-cell = rw q (ring-cell h p g)
 
     gap-after : v .forward x ≡ getD (members ++ k ∷ []) p 0
-    gap-after = ap (v .forward) q ∙ ring-after p g
+    gap-after = ap (v .forward) q ∙ ring-after h p g
 
     pub gap-link : v .forward x < cellCount l
-    gap-link = rw gap-after (ring-end p g)
+    gap-link = rw gap-after (ring-end h p g)
 
     pub gap-found : (c : ℕ) → record { before = x; cell = c; after = v .forward x; count = n } ≡ gapSite k p c members
-    gap-found c = λ i. record { before = q i; cell = c; after = gap-after i; count = held-count i }
+    gap-found c = λ i. record { before = q i; cell = c; after = gap-after i; count = held-count h i }
 
 -- the gap of list k, of members s, at position p, with a free cell searched from cell c
 module _ (l : Layout) (ident : ℕ → ℕ) (k p c : ℕ) (s : List ℕ) where
@@ -217,7 +153,3 @@ gaps-facts l ident k p c m s t e =
         let u : gapSite k p i s ≡ t = cc in
         let v : i ≡ t .cell = ap (λ (x : Site). x .cell) u in
         (q ∙ ap Cell v, sym u ∙ ap (λ (x : ℕ). gapSite k p x s) v)
-
--- a sound store's lists hold
-pub sound-held : (l : Layout) (v : View) (count : ℕ → ℕ) (j : ℕ) → j < l .lists → soundIn l v count ≡ true → {k n : ℕ} → k ≡ j → n ≡ count j → HeldList l v k n
-sound-held l v count j b e p q = rw (p, q) (record { list = b; held = sound-hold l v count e j b })

@@ -1,19 +1,11 @@
 -- Where a call works, found by links.
-use Prim.Native.Nat.{ℕ, _+_, _<_}
-use mathlib.Core.Path.{_≡_}
+use Prim.Native.Nat.{ℕ, _+_}
 use mathlib.Core.List.{List, [], _∷_, _++_}
-use mathlib.Core.Bool.{true}
 use lib.ListN.{length, getD}
 use Rattle.layout.specs.declared.Layout.{Layout}
 use Rattle.layout.specs.Words.{cellAt}
-use Rattle.lists.specs.Decide.{View, sequenceIn, holds}
 use Rattle.requests.specs.declared.Site.{Site}
 use Rattle.requests.specs.Requests.{nextCell, around, firstFree, withFree}
-
--- list k holds, with n members
-pub record HeldList (l : Layout) (v : View) (k n : ℕ) : Type 0 where
-  pub list : k < l .lists
-  pub held : holds v k n (sequenceIn l v k) ≡ true
 
 -- the link that word f of a cell is
 abbrev pub linkIn : Layout → List ℕ → ℕ → ℕ → ℕ

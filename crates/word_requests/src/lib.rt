@@ -14,10 +14,10 @@ ghost use mathlib.Core.List.{_∷_};
 ghost use lib.ListN.{getD};
 ghost use Rattle.sequences.specs.Sequence.{follow};
 ghost use Rattle.layout.specs.Words.{Laid, Node, linkWords};
-ghost use Rattle.lists.specs.Decide.{viewOf, sequenceOf};
+ghost use Rattle.lists.specs.Decide.{viewOf, sequenceOf, HeldList};
 ghost use Rattle.spans.specs.Spans.{Gridded};
 ghost use Rattle.requests.specs.Requests.{around, firstFree, memberAt, freeGap, gapAt, gapsAt, siteOf, lookOf};
-ghost use Rattle.requests.specs.Sites.{HeldList, linkIn, gapSite, nextSite};
+ghost use Rattle.requests.specs.Sites.{linkIn, gapSite, nextSite};
 
 // The cell that so many links lead to from cell c; a link is word f of a node.
 fn follow_links(words: &[u16], l: Layout, g: Grid, f: usize, c: usize, n: u16) -> usize

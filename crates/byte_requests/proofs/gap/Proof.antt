@@ -4,8 +4,9 @@ use mathlib.Core.Path.{_∙_}
 use mathlib.Core.List.{List}
 use Rattle.byte_form.specs.Bytes.{wordsIn}
 use Rattle.lists.specs.Decide.{viewOf, sequenceOf}
+use Rattle.lists.proofs.Ring.{held-count}
 use Rattle.requests.proofs.Laws.{gap-asked}
-use Rattle.requests.proofs.Sites.{held-count, gap-shut, gap-open}
+use Rattle.requests.proofs.Sites.{gap-shut, gap-open}
 use Rattle.byte_requests.proofs.gap.Statement.{statement}
 use Rattle.byte_requests.proofs.gap.Tie as tie
 

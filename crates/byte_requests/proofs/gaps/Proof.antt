@@ -8,9 +8,10 @@ use borrow.Author.Needs.{needs}
 use Rattle.byte_form.specs.Bytes.{wordsIn}
 use Rattle.layout.specs.Words.{Node}
 use Rattle.lists.specs.Decide.{View, viewOf, sequenceOf}
+use Rattle.lists.proofs.Ring.{held-count}
 use Rattle.requests.specs.Requests.{around, freeCells}
 use Rattle.requests.proofs.Laws.{gaps-asked}
-use Rattle.requests.proofs.Sites.{held-count, gaps-shut, gaps-few, gaps-open}
+use Rattle.requests.proofs.Sites.{gaps-shut, gaps-few, gaps-open}
 use Rattle.requests.proofs.Turn.{free-count}
 use Rattle.byte_requests.proofs.gaps.Statement.{statement}
 use Rattle.byte_requests.proofs.gaps.Tie as tie

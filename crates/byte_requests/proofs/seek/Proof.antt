@@ -5,7 +5,7 @@ use borrow.Author.Needs.{needs}
 use Rattle.byte_form.specs.Bytes.{wordsIn}
 use Rattle.lists.specs.Decide.{viewOf}
 use Rattle.spans.specs.declared.Cell.{Cell}
-use Rattle.requests.proofs.Sites.{ahead-at, ahead-node, behind-at, behind-node}
+use Rattle.lists.proofs.Ring.{ahead-at, ahead-node, behind-at, behind-node}
 use Rattle.byte_requests.proofs.seek.Statement.{statement}
 use Rattle.byte_requests.proofs.seek.Tie as tie
 

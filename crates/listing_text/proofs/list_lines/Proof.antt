@@ -1,9 +1,8 @@
 -- `list_lines` writes the first line of the list, which holds, and then its records.
 use borrow.Author.Needs.{needs}
 use mathlib.Core.Path.{refl}
-use Rattle.lists.specs.Decide.{viewOf, countIn}
-use Rattle.requests.specs.Sites.{HeldList}
-use Rattle.requests.proofs.Sites.{sound-held}
+use Rattle.lists.specs.Decide.{viewOf, countIn, HeldList}
+use Rattle.lists.proofs.Ring.{sound-held}
 use Rattle.writing.proofs.Writing.{wrote-append, room-first, room-rest}
 use Rattle.listing_text.proofs.Lines.{list-parts}
 use Rattle.listing_text.proofs.list_lines.Statement.{statement}

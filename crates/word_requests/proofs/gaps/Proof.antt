@@ -7,9 +7,10 @@ use lib.ListN.{length}
 use borrow.Author.Needs.{needs}
 use Rattle.layout.specs.Words.{Node}
 use Rattle.lists.specs.Decide.{viewOf, sequenceOf}
+use Rattle.lists.proofs.Ring.{held-count}
 use Rattle.requests.specs.Requests.{around, freeCells}
 use Rattle.requests.proofs.Laws.{gaps-asked}
-use Rattle.requests.proofs.Sites.{held-count, gaps-shut, gaps-few, gaps-open}
+use Rattle.requests.proofs.Sites.{gaps-shut, gaps-few, gaps-open}
 use Rattle.requests.proofs.Turn.{free-count}
 use Rattle.word_requests.proofs.gaps.Statement.{statement}
 use Rattle.word_requests.proofs.gaps.Tie as tie

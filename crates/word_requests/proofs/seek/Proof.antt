@@ -4,7 +4,7 @@ use native.Mathlib.Omega.{arith}
 use borrow.Author.Needs.{needs}
 use Rattle.lists.specs.Decide.{viewOf}
 use Rattle.spans.specs.declared.Cell.{Cell}
-use Rattle.requests.proofs.Sites.{ahead-at, ahead-node, behind-at, behind-node}
+use Rattle.lists.proofs.Ring.{ahead-at, ahead-node, behind-at, behind-node}
 use Rattle.word_requests.proofs.seek.Statement.{statement}
 use Rattle.word_requests.proofs.seek.Tie as tie
 
