@@ -1,5 +1,6 @@
 # make            proves and builds the archive and the listing program (needs rt of the Rattle kit)
 # make example    builds the example and runs it on a new store
+# make archives   the archive, and beside it read on words, which tests/interface and bench/ link
 # make install    puts header, archive, pkg-config file and listing program below PREFIX; DESTDIR stands before it
 # make uninstall  takes them away
 # make clean      removes what was built here
@@ -29,9 +30,14 @@ endef
 
 all: $(LIB) $(LISTING)
 
+archives: $(LIB) target/staticlib/libword_exports.a
+
 target/staticlib/libaxle.a: $(sources)
 	$(call quietly,rt check $$(sed -n 's/^axle: //p' crates.txt))
 	$(call quietly,began=$$(date +%s); rt staticlib axle && echo "rt: axle proved ($$(($$(date +%s) - began)) s)")
+
+target/staticlib/libword_exports.a: $(sources)
+	$(call quietly,rt check word_exports && rt staticlib word_exports)
 
 target/bin/listing: $(sources)
 	$(call quietly,rt check listing)
@@ -60,4 +66,4 @@ uninstall:
 clean:
 	rm -rf target/example target/c target/staticlib target/bin/listing
 
-.PHONY: all example install uninstall clean
+.PHONY: all archives example install uninstall clean

@@ -91,6 +91,11 @@
  * after a cut during axle_format: format again. That damage beyond the above is mended: it may be refused (11, 12), or
  * mended to another list that fits. That two callers may use one store at a time.
  *
+ * COST. A call that asks question 6 looks at every node's identifier and goes once through every list. To a position it goes
+ * link by link from the nearer end of the list: in min(p + 1, n - p) steps to delete at position p of n records, in
+ * min(p, n + 1 - p) to insert there, never more than half of n, rounded up. The last records cost no more than the first, and
+ * a record is appended in one step.
+ *
  * THREADS. The calls have no state of their own and may run at the same time on different stores. On one store the caller
  * must let one call at a time through, the reading ones too, from interrupts as from threads. While a call runs nobody else
  * writes the store or the records.
@@ -118,7 +123,7 @@ extern "C" {
 
 /* The version of the library: in numbers, and as text "MAJOR.MINOR.PATCH". */
 #define AXLE_VERSION_MAJOR 1
-#define AXLE_VERSION_MINOR 2
+#define AXLE_VERSION_MINOR 3
 #define AXLE_VERSION_PATCH 0
 #define AXLE_VERSION AXLE_DOTTED(AXLE_VERSION_MAJOR, AXLE_VERSION_MINOR, AXLE_VERSION_PATCH)
 #define AXLE_DOTTED(a, b, c) AXLE_QUOTED(a) "." AXLE_QUOTED(b) "." AXLE_QUOTED(c)

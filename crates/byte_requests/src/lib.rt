@@ -9,16 +9,14 @@ use requests::Site;
 use requests::Sited;
 use spans::Grid;
 ghost use mathlib.Core.Path.{_≡_};
-ghost use Prim.Native.Nat.{ℕ, _+_, _<_, _≤_};
-ghost use mathlib.Core.List.{_∷_};
-ghost use lib.ListN.{length, getD};
-ghost use Rattle.sequences.specs.Sequence.{follow};
+ghost use Prim.Native.Nat.{ℕ, _≤_};
+ghost use lib.ListN.{length};
 ghost use Rattle.byte_form.specs.Bytes.{wordsIn};
-ghost use Rattle.layout.specs.Words.{headWords, linkWords, Laid, Node, openedBy, opened};
+ghost use Rattle.layout.specs.Words.{headWords, Laid, Node, openedBy, opened};
 ghost use Rattle.lists.specs.Decide.{viewOf, sequenceOf, HeldList};
 ghost use Rattle.spans.specs.Spans.{Gridded};
 ghost use Rattle.requests.specs.Requests.{around, firstFree, memberAt, freeGap, gapAt, gapsAt, siteOf, lookOf};
-ghost use Rattle.requests.specs.Sites.{linkIn, gapSite, nextSite};
+ghost use Rattle.requests.specs.Sites.{gapSite, nextSite};
 
 // The first eight words.
 fn head(bytes: &[u8]) -> [u16; Layout::HEAD_WORDS]
@@ -49,35 +47,6 @@ pub fn open(bytes: &[u8]) -> Opened
     layout::open_with(n, &h)
 }
 
-// The cell that so many links lead to from cell c; a link is word f of a node.
-fn follow_links(bytes: &[u8], l: Layout, g: Grid, f: usize, c: usize, n: u16) -> usize
-    requires { ⌜ Gridded l g × Laid l (wordsIn (now bytes)) × (f < linkWords) × ((i : ℕ) → i < n → Node l (follow (linkIn l (wordsIn (now bytes)) f) i c)) ⌝ }
-    ensures { λ r. ⌜ r ≡ follow (linkIn l (wordsIn (now (bytes .entry))) f) n c ⌝ }
-{
-    let mut at = c;
-    let mut left = n;
-    while 0 < left {
-        at = byte_walks::link(bytes, g.place(l, at) + f);
-        left -= 1;
-    }
-    at
-}
-
-// Cell q of the ring of list k, which has n members: the header is cell 0, and from the nearer end it is not far.
-fn seek(bytes: &[u8], l: Layout, g: Grid, k: u16, n: u16, q: u16) -> usize
-    requires { ⌜ Gridded l g × Laid l (wordsIn (now bytes)) × HeldList l (viewOf l (wordsIn (now bytes))) k n × (q ≤ n) ⌝ }
-    ensures { λ r. ⌜ r ≡ getD (k ∷ sequenceOf l (wordsIn (now (bytes .entry))) k) q 0 ⌝ }
-{
-    if q == 0 {
-        return k as usize;
-    }
-    let h = byte_walks::header(bytes, l, k);
-    if q <= n - q {
-        return follow_links(bytes, l, g, Layout::FORWARD, h.forward, q - 1);
-    }
-    follow_links(bytes, l, g, Layout::BACK, h.back, n - q)
-}
-
 // The member of list k, which has n members, at position p.
 fn member(bytes: &[u8], l: Layout, g: Grid, k: u16, n: u16, p: u16) -> Sited
     requires { ⌜ Gridded l g × Laid l (wordsIn (now bytes)) × HeldList l (viewOf l (wordsIn (now bytes))) k n ⌝ }
@@ -86,7 +55,7 @@ fn member(bytes: &[u8], l: Layout, g: Grid, k: u16, n: u16, p: u16) -> Sited
     if n <= p {
         return Sited::Refused(7);
     }
-    let c = seek(bytes, l, g, k, n, p + 1);
+    let c = byte_seeks::seek(bytes, l, g, k, n, p + 1);
     let m = byte_walks::node(bytes, l, g, c);
     Sited::At(Site {
         before: m.back as u16,
@@ -118,7 +87,7 @@ fn gap_site(bytes: &[u8], l: Layout, g: Grid, k: u16, n: u16, p: u16, cell: u16)
     requires { ⌜ Gridded l g × Laid l (wordsIn (now bytes)) × HeldList l (viewOf l (wordsIn (now bytes))) k n × (p ≤ n) ⌝ }
     ensures { λ r. ⌜ r ≡ gapSite k p cell (sequenceOf l (wordsIn (now (bytes .entry))) k) ⌝ }
 {
-    let before = seek(bytes, l, g, k, n, p);
+    let before = byte_seeks::seek(bytes, l, g, k, n, p);
     let b = byte_walks::cell(bytes, l, g, before);
     Site {
         before: before as u16,

@@ -16,7 +16,7 @@ ghost use Rattle.lists.specs.Decide.{viewOf, countIn, used, soundOf};
 ghost use Rattle.spans.specs.Spans.{Gridded, Decides, Held, countSum, cellOf, cellIn, wholeSpan, Spanned, Led, rounded};
 
 // The cell that the word at a names.
-pub fn link(bytes: &[u8], a: usize) -> usize
+fn link(bytes: &[u8], a: usize) -> usize
     requires { ⌜ a < length (wordsIn (now bytes)) ⌝ }
     ensures { λ r. ⌜ r ≡ getD (wordsIn (now (bytes .entry))) a 0 ⌝ }
 {

@@ -1,6 +1,6 @@
 -- A list that holds is a ring of its header and its members: where its links lead.
-use Prim.Native.Nat.{ℕ, suc, _+_, _-_, _≤_, _<_}
-use mathlib.Core.Path.{_≡_, refl, ap, _∙_, sym, subst⁻¹}
+use Prim.Native.Nat.{ℕ, zero, suc, _+_, _-_, _≤_, _<_}
+use mathlib.Core.Path.{_≡_, refl, ap, _∙_, sym}
 use mathlib.Core.List.{List, [], _∷_, _++_}
 use mathlib.Core.Bool.{true}
 use native.Mathlib.Omega.{arith}
@@ -10,7 +10,7 @@ use Rattle.sequences.specs.Sequence.{All, follow}
 use Rattle.sequences.proofs.Members.{all-in, in-all, all-nth, at-in, in-front}
 use Rattle.sequences.proofs.Splice.{forward-at}
 use Rattle.sequences.proofs.Trail.{trail-inside}
-use Rattle.sequences.proofs.Follow.{follow-forward, follow-backward, backward-at}
+use Rattle.sequences.proofs.Follow.{follow-none, follow-next, follow-forward, follow-backward, backward-at}
 use Rattle.layout.specs.declared.Layout.{Layout}
 use Rattle.layout.specs.Words.{Node, isNode, cellCount}
 use Rattle.layout.proofs.Laws.{is-node}
@@ -40,23 +40,18 @@ module _ {l : Layout} {v : View} {k n : ℕ} (h : HeldList l v k n) where
       (is-node l (getD members (q - 1) 0)
       (all-nth (λ c. isNode l c ≡ true) members (q - 1) 0 (trail-inside (v .forward) (isNode l) (l .nodes) (v .forward k)) (omega (arith, held-count))))
 
-  -- .. that lies so many links ahead of the first member x, and all on the way are nodes
-  pub ahead-at : (i q : ℕ) {x : ℕ} → x ≡ v .forward k → i + 1 ≡ q → q ≤ n → follow (v .forward) i x ≡ getD (k ∷ members) q 0
-  ahead-at i q e g p =
-      let m : q ≡ suc i = omega arith in
-      rw (e, m) (follow-forward (v .forward) k members k i (held .turn .forwards) (omega (arith, held-count)))
+  -- .. that lies q links ahead of the header, the header too,
+  pub ring-ahead : (q : ℕ) → q ≤ n → follow (v .forward) q k ≡ getD (k ∷ members) q 0
+  ring-ahead zero p = follow-none (v .forward) 0 k refl
+  ring-ahead (suc i) p =
+      follow-next (v .forward) i k ∙ follow-forward (v .forward) k members k i (held .turn .forwards) (omega (arith, held-count))
 
-  pub ahead-node : (i : ℕ) {x : ℕ} → x ≡ v .forward k → i < n → Node l (follow (v .forward) i x)
-  ahead-node i e p = subst⁻¹ (Node l) (ahead-at i (i + 1) e refl (omega arith)) (ring-node (i + 1) (omega arith) (omega arith))
-
-  -- or behind the last member x
-  pub behind-at : (i q : ℕ) {x : ℕ} → x ≡ v .back k → i + q ≡ n → 0 < q → follow (v .back) i x ≡ getD (k ∷ members) q 0
-  behind-at i q e g p =
-      let m : q ≡ suc (q - 1) = omega arith in
-      rw (e, m) (follow-backward (v .back) k members k i (q - 1) (held .turn .backs) (omega (arith, held-count)))
-
-  pub behind-node : (i : ℕ) {x : ℕ} → x ≡ v .back k → i < n → Node l (follow (v .back) i x)
-  behind-node i e p = subst⁻¹ (Node l) (behind-at i (n - i) e (omega arith) (omega arith)) (ring-node (n - i) (omega arith) (omega arith))
+  -- and i links behind it, if these are all of the ring
+  pub ring-behind : (i q : ℕ) → i + q ≡ n + 1 → 0 < i → 0 < q → follow (v .back) i k ≡ getD (k ∷ members) q 0
+  ring-behind zero q e g p = absurd (omega arith)
+  ring-behind (suc i) zero e g p = absurd (omega arith)
+  ring-behind (suc i) (suc q) e g p =
+      follow-next (v .back) i k ∙ follow-backward (v .back) k members k i q (held .turn .backs) (omega (arith, held-count))
 
   -- all cells of the ring are cells of the store, with the header at either end
   ring-cells : All (λ c. c < cellCount l) (k ∷ members)

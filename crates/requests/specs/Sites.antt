@@ -3,13 +3,8 @@ use Prim.Native.Nat.{ℕ, _+_}
 use mathlib.Core.List.{List, [], _∷_, _++_}
 use lib.ListN.{length, getD}
 use Rattle.layout.specs.declared.Layout.{Layout}
-use Rattle.layout.specs.Words.{cellAt}
 use Rattle.requests.specs.declared.Site.{Site}
 use Rattle.requests.specs.Requests.{nextCell, around, firstFree, withFree}
-
--- the link that word f of a cell is
-abbrev pub linkIn : Layout → List ℕ → ℕ → ℕ → ℕ
-linkIn l w f c = getD w (cellAt l c + f) 0
 
 -- the gap of list k at position p, for cell c
 abbrev pub gapSite : ℕ → ℕ → ℕ → List ℕ → Site

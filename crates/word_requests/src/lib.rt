@@ -9,44 +9,12 @@ use requests::Site;
 use requests::Sited;
 use spans::Grid;
 ghost use mathlib.Core.Path.{_≡_};
-ghost use Prim.Native.Nat.{ℕ, _+_, _<_, _≤_};
-ghost use mathlib.Core.List.{_∷_};
-ghost use lib.ListN.{getD};
-ghost use Rattle.sequences.specs.Sequence.{follow};
-ghost use Rattle.layout.specs.Words.{Laid, Node, linkWords};
+ghost use Prim.Native.Nat.{_≤_};
+ghost use Rattle.layout.specs.Words.{Laid, Node};
 ghost use Rattle.lists.specs.Decide.{viewOf, sequenceOf, HeldList};
 ghost use Rattle.spans.specs.Spans.{Gridded};
 ghost use Rattle.requests.specs.Requests.{around, firstFree, memberAt, freeGap, gapAt, gapsAt, siteOf, lookOf};
-ghost use Rattle.requests.specs.Sites.{linkIn, gapSite, nextSite};
-
-// The cell that so many links lead to from cell c; a link is word f of a node.
-fn follow_links(words: &[u16], l: Layout, g: Grid, f: usize, c: usize, n: u16) -> usize
-    requires { ⌜ Gridded l g × Laid l (now words) × (f < linkWords) × ((i : ℕ) → i < n → Node l (follow (linkIn l (now words) f) i c)) ⌝ }
-    ensures { λ r. ⌜ r ≡ follow (linkIn l (now (words .entry)) f) n c ⌝ }
-{
-    let mut at = c;
-    let mut left = n;
-    while 0 < left {
-        at = word_walks::link(words, g.place(l, at) + f);
-        left -= 1;
-    }
-    at
-}
-
-// Cell q of the ring of list k, which has n members: the header is cell 0, and from the nearer end it is not far.
-fn seek(words: &[u16], l: Layout, g: Grid, k: u16, n: u16, q: u16) -> usize
-    requires { ⌜ Gridded l g × Laid l (now words) × HeldList l (viewOf l (now words)) k n × (q ≤ n) ⌝ }
-    ensures { λ r. ⌜ r ≡ getD (k ∷ sequenceOf l (now (words .entry)) k) q 0 ⌝ }
-{
-    if q == 0 {
-        return k as usize;
-    }
-    let h = word_walks::header(words, l, k);
-    if q <= n - q {
-        return follow_links(words, l, g, Layout::FORWARD, h.forward, q - 1);
-    }
-    follow_links(words, l, g, Layout::BACK, h.back, n - q)
-}
+ghost use Rattle.requests.specs.Sites.{gapSite, nextSite};
 
 // The member of list k, which has n members, at position p.
 fn member(words: &[u16], l: Layout, g: Grid, k: u16, n: u16, p: u16) -> Sited
@@ -56,7 +24,7 @@ fn member(words: &[u16], l: Layout, g: Grid, k: u16, n: u16, p: u16) -> Sited
     if n <= p {
         return Sited::Refused(7);
     }
-    let c = seek(words, l, g, k, n, p + 1);
+    let c = word_seeks::seek(words, l, g, k, n, p + 1);
     let m = word_walks::node(words, l, g, c);
     Sited::At(Site {
         before: m.back as u16,
@@ -88,7 +56,7 @@ fn gap_site(words: &[u16], l: Layout, g: Grid, k: u16, n: u16, p: u16, cell: u16
     requires { ⌜ Gridded l g × Laid l (now words) × HeldList l (viewOf l (now words)) k n × (p ≤ n) ⌝ }
     ensures { λ r. ⌜ r ≡ gapSite k p cell (sequenceOf l (now (words .entry)) k) ⌝ }
 {
-    let before = seek(words, l, g, k, n, p);
+    let before = word_seeks::seek(words, l, g, k, n, p);
     let b = word_walks::cell(words, l, g, before);
     Site {
         before: before as u16,

@@ -24,7 +24,7 @@ fn word(words: &[u16], a: usize) -> u16
 }
 
 // The cell that the word at a names.
-pub fn link(words: &[u16], a: usize) -> usize
+fn link(words: &[u16], a: usize) -> usize
     requires { ⌜ a < length (now words) ⌝ }
     ensures { λ r. ⌜ r ≡ getD (now (words .entry)) a 0 ⌝ }
 {
