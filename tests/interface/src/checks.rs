@@ -2,7 +2,7 @@
 
 use interface::memory::Block;
 use interface::stores::{deal, record, sound};
-use interface::{Call, Call::*, DONE, ENOUGH};
+use interface::{read, Call, Call::*, DONE, ENOUGH};
 use model::random::Random;
 use model::store::Shape;
 use std::collections::{BTreeMap, BTreeSet};
@@ -52,6 +52,11 @@ impl Tests {
 
     /// Makes the call on these bytes and holds it against the model. Gives its answer and the bytes that it left.
     pub fn call(&mut self, bytes: &[u8], call: &Call, allowance: u16) -> (u32, Vec<u8>) {
+        self.call_leaves(bytes, call, allowance, &call.expected(bytes, allowance))
+    }
+
+    /// Makes the call on these bytes and holds it against what it must answer and leave. Gives what it did.
+    pub fn call_leaves(&mut self, bytes: &[u8], call: &Call, allowance: u16, expected: &(u32, Vec<u8>)) -> (u32, Vec<u8>) {
         let record = call.records();
         self.turn += 1;
         self.store.put(bytes, self.turn);
@@ -59,13 +64,23 @@ impl Tests {
         let answer = call.make(self.store.lent(), self.record.lent(), allowance);
         let left = self.store.lent().to_vec();
         let intact = self.store.intact() && self.record.intact() && self.record.lent() == record;
-        let expected = call.expected(bytes, allowance);
         self.seen.entry(call.name()).or_default().insert(answer);
         self.holds((answer, &left) == (expected.0, &expected.1) && intact, || {
             let what = if intact { "the bytes left" } else { "canaries or record" };
             format!("{call:?} with {allowance}: answer {answer}, expected {}, or {what}; {bytes:?}", expected.0)
         });
         (answer, left)
+    }
+
+    /// Reads on these words: the answer is this one, and the words and the bytes round them are as they were.
+    pub fn reads(&mut self, words: &[u16], list: u16, position: u16, expected: u32) {
+        self.turn += 1;
+        self.store.put_words(words, self.turn);
+        let answer = read(self.store.lent_words(), list, position);
+        let intact = self.store.lent_words() == words && self.store.intact();
+        self.holds(answer == expected && intact, || {
+            format!("read {list} {position}: answer {answer}, expected {expected}, or words or canaries; {words:?}")
+        });
     }
 
     /// At every allowance up to one above the number of stores, and with enough. Gives the bytes left then.

@@ -1,4 +1,5 @@
-//! The calls of include/axle.h: how C makes them, and what the model says that they answer and leave.
+//! The calls of include/axle.h: how C makes them, and what the model says that they answer and leave. Beside them read, on words, of
+//! crate word_exports.
 //!
 //! `memory` lends bytes to them. `stores` has stores to try them on.
 
@@ -35,6 +36,7 @@ mod c {
         ) -> u32;
         pub fn axle_delete(store: *mut u8, store_len: usize, list: u16, position: u16, allowance: u16) -> u32;
         pub fn axle_recover(store: *mut u8, store_len: usize, allowance: u16) -> u32;
+        pub fn words_read(words: *const u16, len: usize, list: u16, position: u16) -> u32;
     }
 }
 
@@ -145,6 +147,17 @@ impl Call {
         };
         (answer, bytes_of(&words))
     }
+}
+
+/// Read on words: 65,536 and the first word of the record, or 0 if it is refused.
+pub fn read(words: &[u16], list: u16, position: u16) -> u32 {
+    // The pointer and the length are those of a slice; the call reads nothing else.
+    unsafe { c::words_read(words.as_ptr(), words.len(), list, position) }
+}
+
+/// What the model answers.
+pub fn expected_read(words: &[u16], list: u16, position: u16) -> u32 {
+    store::read(words, list, position).map_or(0, |record| DONE + u32::from(record[0]))
 }
 
 pub fn number_of(answer: Answer) -> u32 {

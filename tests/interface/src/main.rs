@@ -1,11 +1,12 @@
 //! The archive held against the model: each call through C on many stores, at every allowance. A check is one call: its answer,
 //! every byte of the store, the bytes round it, the record and the bytes round that. In `alterations` it is mostly check's answer
-//! alone. The last line is 'N passed, M failed'.
+//! alone. In `positions` it may be an answer alone, or read's on words. The last line is 'N passed, M failed'.
 
 mod alterations;
 mod calls;
 mod checks;
 mod courses;
+mod positions;
 
 use checks::Tests;
 use interface::{DONE, STOPPED};
@@ -48,7 +49,7 @@ type Part = (&'static str, fn(&mut Tests));
 
 fn main() {
     let mut t = Tests::new(1201);
-    let parts: [Part; 21] = [
+    let parts: [Part; 25] = [
         ("lengths", calls::lengths),
         ("heads", calls::heads),
         ("formats", calls::formats),
@@ -69,6 +70,10 @@ fn main() {
         ("altered words of larger stores", alterations::larger_stores),
         ("four altered words", alterations::four_words),
         ("free words", alterations::free_words),
+        ("positions", positions::small_stores),
+        ("positions of the longest lists", positions::longest),
+        ("positions read", positions::small_reads),
+        ("positions read of the longest lists", positions::longest_reads),
         ("answers", answers),
     ];
     for (name, part) in parts {

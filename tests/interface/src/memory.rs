@@ -84,6 +84,19 @@ impl Block {
         block
     }
 
+    /// Puts these words in a block, at an even address.
+    pub fn put_words(&mut self, words: &[u16], turn: usize) {
+        let bytes: Vec<u8> = words.iter().flat_map(|word| word.to_ne_bytes()).collect();
+        self.put(&bytes, turn / 2 * 4 + turn % 2);
+    }
+
+    pub fn lent_words(&mut self) -> &mut [u16] {
+        // Any two bytes are a word.
+        let (before, words, after) = unsafe { self.lent().align_to_mut() };
+        assert!(before.is_empty() && after.is_empty(), "no words were put");
+        words
+    }
+
     /// Are the canaries as they were?
     pub fn intact(&mut self) -> bool {
         let [before, _, after] = self.around();

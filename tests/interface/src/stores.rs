@@ -15,6 +15,13 @@ pub fn deal(random: &mut Random, shape: Shape, used: usize) -> Vec<Vec<usize>> {
     lists
 }
 
+/// Deals so many nodes to each list.
+pub fn deal_lengths(random: &mut Random, shape: Shape, lengths: &[usize]) -> Vec<Vec<usize>> {
+    let mut cells: Vec<usize> = shape.node_cells().collect();
+    random.shuffle(&mut cells);
+    lengths.iter().map(|&length| cells.drain(..length).collect()).collect()
+}
+
 /// A sound store of these lists; free words and records are random, some of them such as links and identifiers.
 pub fn sound(random: &mut Random, shape: Shape, lists: &[Vec<usize>]) -> Vec<u16> {
     store_of(shape, lists, || match random.below(6) {
