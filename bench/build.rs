@@ -1,4 +1,4 @@
-//! Where the archive of the proved library is: in the folder AXLE_LIB_DIR, or where the repository has it.
+//! Where the archives of the library and of its read are: in the folder AXLE_LIB_DIR, or where the repository has them.
 
 use std::path::PathBuf;
 use std::process::Command;
@@ -11,6 +11,7 @@ fn main() {
     let rustc = Command::new(env::var_os("RUSTC").expect("the compiler")).arg("--version").output().expect("its version");
     println!("cargo:rerun-if-env-changed=AXLE_LIB_DIR");
     println!("cargo:rerun-if-changed={}", archive.display());
+    println!("cargo:rerun-if-changed={}", folder.join("libword_exports.a").display());
     println!("cargo:rustc-link-search=native={}", folder.display());
     println!("cargo:rustc-env=AXLE_ARCHIVE={}", archive.display());
     println!("cargo:rustc-env=RUSTC_VERSION={}", str::from_utf8(&rustc.stdout).expect("a line of text").trim());

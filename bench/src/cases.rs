@@ -5,8 +5,8 @@ use crate::stores::{Fill, Sample};
 use bench::plain;
 use model::store::Shape;
 
-const ENOUGH: u16 = 65_535;
-const DONE: u32 = 65_536;
+pub const ENOUGH: u16 = 65_535;
+pub const DONE: u32 = 65_536;
 
 pub const FORMAT: &str = "format";
 pub const CHECK: &str = "check";
@@ -24,7 +24,7 @@ pub const FAULTS: &str = "recover, one fault in every list";
 pub const NAMES: [&str; 11] = [FORMAT, CHECK, LENGTH, EDIT, TWELVE, SINGLY, THOUSAND, NOTHING, BEFORE, AFTER, FAULTS];
 
 /// The calls of a turn: the sum of their answers.
-type Turn = dyn Fn(&Engine, &mut [u8]) -> u32;
+pub type Turn = dyn Fn(&Engine, &mut [u8]) -> u32;
 
 pub struct Case {
     pub name: &'static str,
@@ -75,14 +75,17 @@ impl Case {
         let changed = changed(&sample.bytes, &after);
         let stores = (number * (sample.shape.width + 6)) as u32;
         Case::new(name, sample, sample.bytes.clone(), calls * DONE + stores, move |engine, bytes| {
-            changed.iter().for_each(|(at, before)| bytes[*at..][..before.len()].copy_from_slice(before));
+            put_back(bytes, &changed);
             insert(engine, bytes, &records)
         })
     }
 }
 
-/// The bytes that differ, as they were before: each place with some bytes. Near ones are together.
-fn changed(before: &[u8], after: &[u8]) -> Vec<(usize, Vec<u8>)> {
+/// A place, and the bytes that stood there.
+pub type Place = (usize, Vec<u8>);
+
+/// The bytes that differ, as they were before. Near ones are together.
+pub fn changed(before: &[u8], after: &[u8]) -> Vec<Place> {
     let mut ranges: Vec<std::ops::Range<usize>> = vec![];
     for i in (0..before.len()).filter(|&i| before[i] != after[i]) {
         match ranges.last_mut() {
@@ -91,6 +94,10 @@ fn changed(before: &[u8], after: &[u8]) -> Vec<(usize, Vec<u8>)> {
         }
     }
     ranges.into_iter().map(|range| (range.start, before[range].to_vec())).collect()
+}
+
+pub fn put_back(bytes: &mut [u8], places: &[Place]) {
+    places.iter().for_each(|(at, before)| bytes[*at..][..before.len()].copy_from_slice(before));
 }
 
 /// The calls on the stores that come from a sample.

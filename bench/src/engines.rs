@@ -9,6 +9,8 @@ pub struct Engine {
     pub format: fn(&mut [u8], u16, u16, u16) -> u32,
     pub check: fn(&[u8]) -> u32,
     pub length: fn(&[u8], u16) -> u32,
+    /// 65,536 and the first word of the record, or 0 for a refusal.
+    pub read: fn(&[u8], u16, u16) -> u32,
     pub insert: Insert,
     pub insert_several: Insert,
     pub delete: fn(&mut [u8], u16, u16, u16) -> u32,
@@ -19,6 +21,9 @@ pub static PLAIN: Engine = Engine {
     format: |store, lists, nodes, width| plain::format(store, lists, nodes, width),
     check: |store| plain::check(store),
     length: |store, list| plain::length(store, list),
+    read: |store, list, position| {
+        plain::read(store, list, position).map_or(0, |record| 65_536 + u32::from(u16::from_le_bytes([record[0], record[1]])))
+    },
     insert: |store, list, position, start, record, allowance| plain::insert(store, list, position, start, record, allowance),
     insert_several: |store, list, position, start, records, allowance| {
         plain::insert_several(store, list, position, start, records, allowance)
@@ -56,11 +61,22 @@ extern "C" {
     fn axle_recover(store: *mut u8, store_len: usize, allowance: u16) -> u32;
 }
 
+// Read is not part of the C interface: crate word_exports exports it, on words.
+#[link(name = "word_exports", kind = "static")]
+extern "C" {
+    fn words_read(words: *const u16, words_len: usize, list: u16, position: u16) -> u32;
+}
+
 // Safe: each call gets the pointer and the length of one slice, and touches nothing else.
 pub static PROVED: Engine = Engine {
     format: |store, lists, nodes, width| unsafe { axle_format(store.as_mut_ptr(), store.len(), lists, nodes, width) },
     check: |store| unsafe { axle_check(store.as_ptr(), store.len()) },
     length: |store, list| unsafe { axle_length(store.as_ptr(), store.len(), list) },
+    read: |store, list, position| unsafe {
+        let (before, words, after) = store.align_to::<u16>();
+        assert!(before.is_empty() && after.is_empty(), "the bytes do not lie as words");
+        words_read(words.as_ptr(), words.len(), list, position)
+    },
     insert: |store, list, position, start, record, allowance| unsafe {
         let (length, at, record_length) = (store.len(), record.as_ptr(), record.len());
         axle_insert(store.as_mut_ptr(), length, list, position, start, at, record_length, allowance)

@@ -1,4 +1,6 @@
 //! Measures the proved library against the plain implementation. Writes docs/BENCHMARKS.md and docs/benchmarks.svg.
+//!
+//! `bench walk CALL POSITION` makes one call and writes nothing: so the program runs itself under valgrind.
 
 mod cases;
 mod engines;
@@ -8,15 +10,27 @@ mod plot;
 mod report;
 mod stack;
 mod stores;
+mod walks;
 
 use cases::{Case, NAMES};
 use engines::{PLAIN, PROVED};
 use report::Results;
 use std::path::Path;
-use std::{fs, io};
+use std::{env, fs, io};
 use stores::{shapes, Fill, Sample};
 
 fn main() -> io::Result<()> {
+    match env::args().skip(1).collect::<Vec<_>>().as_slice() {
+        [] => report(),
+        [walk, call, position] if walk == "walk" => {
+            walks::once(call, position);
+            Ok(())
+        }
+        _ => Err(io::Error::other("usage: bench")),
+    }
+}
+
+fn report() -> io::Result<()> {
     let samples = shapes().map(|shape| [Fill::Full, Fill::Half].map(|fill| Sample::new(shape, fill)));
     let [.., [largest, _]] = &samples;
     let mut cases: Vec<Case> = samples.iter().flatten().flat_map(cases::cases).collect();
@@ -27,8 +41,9 @@ fn main() -> io::Result<()> {
         stack: stack.map(|((name, proved), (_, plain))| (name, proved, plain)).collect(),
         size: machine::size_of_library(),
         rows: measure::measure(&cases),
+        walks: walks::walks(),
     };
-    print!("{}\n{}\n", results.table(), results.verdict());
+    print!("{}\n{}\n\n{}\n{}\n", results.table(), results.verdict(), results.walks(), results.ends());
     let docs = Path::new(env!("CARGO_MANIFEST_DIR")).join("../docs");
     fs::write(docs.join("BENCHMARKS.md"), results.document())?;
     fs::write(docs.join("benchmarks.svg"), plot::plot(&results.rows))

@@ -1,8 +1,8 @@
-//! The seven calls in plain Rust, as a careful engineer writes them who wants them quick: the baseline of the benchmark.
+//! The seven calls and read in plain Rust, as a careful engineer writes them who wants them quick: the benchmark's baseline.
 //!
-//! Arguments and answers are those of the C interface, with slices. A word is two bytes, low byte first. The cells are read
-//! once, in order, and all is decided on that copy before the first store: it stays in the nearest cache while the links lead
-//! up and down. No call walks a list further than N nodes.
+//! Arguments and answers are those of the C interface, with slices; read, which it lacks, answers the record's bytes. A word
+//! is two bytes, low byte first. The cells are read once, in order, and all is decided on that copy before the first store:
+//! it stays in the nearest cache while the links lead up and down. No call walks a list further than N nodes.
 
 /// Added to the number of stores made, or to a length.
 const DONE: u32 = 65_536;
@@ -271,7 +271,7 @@ impl Survey<'_> {
         Ok(Site { before, cell: start, after: self.after(before), count })
     }
 
-    /// Questions 5 to 7 of delete.
+    /// Questions 5 to 7 of read and delete.
     fn member(&self, list: usize, position: u16) -> Result<Site, u32> {
         let count = self.count(list)?;
         if position >= count {
@@ -338,6 +338,14 @@ fn counted(store: &[u8], list: usize) -> Result<u32, u32> {
     let shape = open(store)?;
     let count = with_room(shape, |room| load(store, shape, room).count(list))?;
     Ok(DONE + u32::from(count))
+}
+
+/// The record, or the number of the refusal.
+#[inline(never)]
+pub fn read(store: &[u8], list: u16, position: u16) -> Result<&[u8], u32> {
+    let shape = open(store)?;
+    let site = with_room(shape, |room| load(store, shape, room).member(list.into(), position))?;
+    Ok(&store[shape.at(site.cell, RECORD)..][..shape.record_size()])
 }
 
 #[inline(never)]

@@ -4,6 +4,7 @@ use crate::cases::NAMES;
 use crate::machine::Size;
 use crate::measure::Row;
 use crate::stores::Fill;
+use crate::walks::{Call, Walk, CALLS};
 use std::fmt::Write;
 
 /// The largest ratio that is hoped for.
@@ -14,6 +15,7 @@ const STACK_GOAL: usize = 16_384;
 pub struct Results {
     pub machine: Vec<(&'static str, String)>,
     pub rows: Vec<Row>,
+    pub walks: Vec<Walk>,
     /// The call, and the bytes that the proved and the plain one use.
     pub stack: Vec<(&'static str, usize, usize)>,
     pub size: Size,
@@ -62,6 +64,29 @@ impl Results {
         let beyond = self.rows.iter().filter(|row| row.ratio() > GOAL).count();
         let largest = self.rows.iter().map(Row::ratio).fold(0.0, f64::max);
         format!("{beyond} of {} ratios are above {GOAL}; the largest is {largest:.2}.", self.rows.len())
+    }
+
+    /// One line for each call and position.
+    pub fn walks(&self) -> String {
+        let mut text = String::from("| Calls | Position | Steps | Proved, ns | of it the walk, ns | Plain, ns | Ratio |\n");
+        text += "|---|---|--:|--:|--:|--:|--:|\n";
+        for Walk { call, position, steps, row, walk } in &self.walks {
+            let steps = steps.map_or("no valgrind".into(), |n| n.to_string());
+            let ratio = marked(format!("{:.2}", row.ratio()), row.ratio() > GOAL);
+            let [proved, walk, plain] = [row.proved, *walk, row.plain].map(nanoseconds);
+            let _ = writeln!(text, "| {} | {position} | {steps} | {proved} | {walk} | {plain} | {ratio} |", call.name());
+        }
+        text
+    }
+
+    /// What the last position takes against the first.
+    pub fn ends(&self) -> String {
+        let of = |call: Call| {
+            let times: Vec<f64> = self.walks.iter().filter(|walk| walk.call == call).map(|walk| walk.row.proved).collect();
+            let (first, last) = (times[0], times[times.len() - 1]);
+            format!("{:.2} in {} ({} ns / {} ns)", last / first, call.name(), nanoseconds(last), nanoseconds(first))
+        };
+        format!("The last position's time against the first one's: {}.", CALLS.map(of).join(", "))
     }
 
     fn machine(&self) -> String {
@@ -121,6 +146,25 @@ Some Intel processors are slow at jumps that cross or end at a 32-byte boundary.
 
 ![Ratios, and nanoseconds per cell](benchmarks.svg)
 
+## Walks to a position
+
+Read and delete in one list of 2,000 records (1, 2000, 13), whose members lie in shuffled order. A walk starts at the header and goes the
+shorter way round: to position p of n records it should take min(p + 1, n - p) steps, each of which follows one link. Of all positions
+999 and 1,000 take the most; 999 is measured.
+
+The steps are counted in the machine code of the archives: valgrind's tool lackey lists what a call reads, and a step is the read of a link.
+The links that the check reads are those of the same call at position 2,000, which is refused once the store is checked; they are
+subtracted, and with delete the two links of the node that it frees. The walk's time is the time above the refused call's; with delete it
+includes the four stores. At both ends that is a few nanoseconds, about what two measurements of one call differ by, and can come out
+below 0.
+
+The C interface has no read: it is called on words, in an archive of its own (`make archives` builds it), and the plain one reads the
+same bytes. Before each delete the bytes that it changes are put back, which is counted for both. The plain one walks forward to every
+position.
+
+{walks}
+{ends}
+
 ## Cost per cell as stores grow
 
 The proved calls on full stores, in nanoseconds per cell (L + N cells). The largest store has 64,080 bytes, more than a first-level cache
@@ -145,6 +189,8 @@ The archive `libaxle.a` has {code} bytes of code and {constants} bytes of consta
             machine = self.machine(),
             table = self.table(),
             verdict = self.verdict(),
+            walks = self.walks(),
+            ends = self.ends(),
             growth = self.growth(),
             limits = LIMITS.trim(),
             stack = self.stack(),

@@ -4,9 +4,33 @@ use bench::plain;
 use model::random::Random;
 use model::store::{store_of, Shape};
 
+/// So many nodes are members, in shuffled order, as many in each list.
+fn dealt(random: &mut Random, shape: Shape, members: usize) -> Vec<Vec<usize>> {
+    let mut cells: Vec<usize> = shape.node_cells().collect();
+    random.shuffle(&mut cells);
+    let mut lists = vec![vec![]; shape.lists];
+    for (i, &cell) in cells[..members].iter().enumerate() {
+        lists[i % shape.lists].push(cell);
+    }
+    lists
+}
+
+/// The bytes of a sound store with these lists.
+fn bytes_of(random: &mut Random, shape: Shape, lists: &[Vec<usize>]) -> Vec<u8> {
+    store_of(shape, lists, || random.word()).iter().flat_map(|w| w.to_le_bytes()).collect()
+}
+
 /// (L, N, P) = (1, 20, 4), (8, 200, 8), (8, 2000, 13).
 pub fn shapes() -> [Shape; 3] {
     [Shape::new(1, 20, 4), Shape::new(8, 200, 8), Shape::new(8, 2000, 13)]
+}
+
+/// A sound store whose nodes are all members of its one list, in shuffled order.
+pub fn one_list(nodes: usize) -> (Shape, Vec<u8>) {
+    let mut random = Random::new(1);
+    let shape = Shape::new(1, nodes, 13);
+    let lists = dealt(&mut random, shape, nodes);
+    (shape, bytes_of(&mut random, shape, &lists))
 }
 
 #[derive(Clone, Copy, PartialEq, Eq)]
@@ -41,17 +65,12 @@ pub struct Sample {
 impl Sample {
     pub fn new(shape: Shape, fill: Fill) -> Sample {
         let mut random = Random::new(1);
-        let mut cells: Vec<usize> = shape.node_cells().collect();
-        random.shuffle(&mut cells);
         let used = match fill {
             Fill::Full => shape.nodes - 1,
             Fill::Half => shape.nodes / 2,
         };
-        let mut lists = vec![vec![]; shape.lists];
-        for (i, &cell) in cells[..used].iter().enumerate() {
-            lists[i % shape.lists].push(cell);
-        }
-        let bytes = store_of(shape, &lists, || random.word()).iter().flat_map(|w| w.to_le_bytes()).collect();
+        let lists = dealt(&mut random, shape, used);
+        let bytes = bytes_of(&mut random, shape, &lists);
         let list = shape.lists / 2;
         let record = (0..2 * shape.width).map(|i| i as u8).collect();
         let (position, start) = (lists[list].len() / 2, shape.lists);

@@ -116,6 +116,16 @@ impl Seen {
         self.compare(&mut bytes.to_vec(), &call(ENOUGH));
     }
 
+    /// Reads both ways and compares: the record, or the number of the refusal.
+    fn read(&mut self, bytes: &[u8], list: u16, position: u16) {
+        let words = words_of(bytes);
+        let record = store::read(&words, list, position).map(bytes_of).map_err(u32::from);
+        let expected = if bytes.len() % 2 == 1 { Err(4) } else { record };
+        let found = plain::read(bytes, list, position);
+        assert_eq!(found.map(<[u8]>::to_vec), expected, "read {list} {position} on {bytes:?}");
+        self.0.entry("read").or_default().insert(found.map_or_else(|refusal| refusal, |_| 65_536));
+    }
+
     fn all(&self, expected: &[(&str, &[u32])]) {
         for (name, answers) in expected {
             let answers: BTreeSet<u32> = answers.iter().copied().collect();
@@ -184,6 +194,7 @@ fn calls(seen: &mut Seen, random: &mut Random, shape: Shape, bytes: &[u8]) {
     let record = record(random, shape);
     seen.compare(&mut bytes.to_vec(), &Call::Check);
     seen.compare(&mut bytes.to_vec(), &Call::Length(list));
+    seen.read(bytes, list, position);
     seen.allowances(bytes, |a| Call::Insert(list, position, start, record.clone(), a));
     let records = record.repeat(random.between(1, 4));
     seen.allowances(bytes, |a| Call::InsertSeveral(list, position, start, records.clone(), a));
@@ -220,6 +231,7 @@ fn many_stores() {
     seen.all(&[
         ("check", &[0, 1, 2, 3, 4, 6]),
         ("length", &[1, 2, 3, 4, 5, 6, 65_536]),
+        ("read", &[1, 2, 3, 4, 5, 6, 7, 65_536]),
         ("insert", &[1, 2, 3, 4, 5, 6, 7, 8, 9, 10, 65_536, 131_072]),
         ("insert_several", &[1, 2, 3, 4, 5, 6, 7, 8, 9, 10, 65_536, 131_072]),
         ("delete", &[1, 2, 3, 4, 5, 6, 7, 65_536, 131_072]),
@@ -315,6 +327,25 @@ fn several_records() {
         let records = (0..52_000).map(|_| random.word() as u8).collect();
         seen.compare(&mut largest.clone(), &Call::InsertSeveral(7, 0, 1000, records, allowance));
     }
+}
+
+/// Read and delete in one list of all nodes: at its ends, in its middle, and behind its last member.
+#[test]
+fn positions_of_a_long_list() {
+    let mut random = Random::new(9);
+    let mut seen = Seen::default();
+    for nodes in [1, 2, 3, 1999, 2000] {
+        let shape = Shape::new(1, nodes, 13);
+        let mut cells: Vec<usize> = shape.node_cells().collect();
+        random.shuffle(&mut cells);
+        let bytes = bytes_of(&store_of(shape, &[cells], || random.word()));
+        let middle = nodes / 2;
+        for position in [0, 1, middle.saturating_sub(1), middle, middle + 1, nodes - 1, nodes].map(|p| p as u16) {
+            seen.read(&bytes, 0, position);
+            seen.allowances(&bytes, |a| Call::Delete(0, position, a));
+        }
+    }
+    seen.all(&[("read", &[7, 65_536]), ("delete", &[7, 65_536, 131_072])]);
 }
 
 #[test]
