@@ -1,21 +1,22 @@
 -- "Show that a budget of half the list's length, rounded up, always arrives." The shorter way round the ring has at most so many links.
 use Prim.Native.Nat.{ℕ, zero, suc, _+_, _-_, _<_, _≤_}
-use mathlib.Core.Path.{_≡_, refl, ap, _∙_, subst, subst⁻¹}
+use mathlib.Core.Path.{_≡_, refl, ap, _∙_, sym, subst, subst⁻¹}
 use mathlib.Core.List.{List, _∷_}
 use mathlib.Core.Bool.{Bool, true, false}
 use native.Mathlib.Omega.{arith}
 use lib.Dec.{leb}
 use lib.ListN.{length, getD}
 use borrow.Author.Tests.{leb-true, leb-false}
-use Rattle.sequences.specs.Sequence.{follow}
-use Rattle.sequences.proofs.Follow.{follow-none}
+use Rattle.sequences.proofs.Follow.{follow-next}
 use Rattle.layout.specs.declared.Layout.{Layout}
-use Rattle.layout.specs.Words.{cellCount}
+use Rattle.layout.specs.Words.{Node}
 use Rattle.lists.specs.Decide.{View, sequenceIn, HeldList}
-use Rattle.lists.proofs.Ring.{held-count, ring-cell, ring-ahead, ring-behind}
+use Rattle.lists.proofs.Ring.{held-count, ring-node, ring-ahead, ring-behind}
+use Rattle.spans.specs.declared.Cell.{Cell}
+use Rattle.spans.specs.Spans.{cellIn}
 use Rattle.seeks.specs.declared.Seek.{Seek}
 use Rattle.seeks.specs.declared.Sought.the-variants.{At, Spent}
-use Rattle.seeks.specs.Seeks.{nearer, runWith, half, Reached, Inside}
+use Rattle.seeks.specs.Seeks.{nearer, stepped, runWith, half, Reached, Inside}
 use Rattle.seeks.proofs.Walk.{nearer-ahead, nearer-behind, walk-arrives, walk-spent}
 
 -- the walk to cell q, with what is to be said of it, ahead or behind
@@ -41,18 +42,21 @@ module _ {l : Layout} {v : View} {k n : ℕ} (h : HeldList l v k n) (q : ℕ) (p
   pub half-arrives : {b : ℕ} → half n ≤ b → runWith v b (nearer k n q) ≡ At (getD (k ∷ members) q 0)
   half-arrives {b} g = enough b (λ e. omega arith) (λ e. omega arith)
 
-  -- it meets cells of the store only
-  behind-cell : (i : ℕ) → i < n + 1 - q → n - q < q → follow (v .back) i k < cellCount l
-  behind-cell zero g e = subst⁻¹ (λ (c : ℕ). c < cellCount l) (follow-none (v .back) 0 k refl) (ring-cell h 0 (omega arith))
-  behind-cell (suc i) g e =
-      subst⁻¹ (λ (c : ℕ). c < cellCount l) (ring-behind h (suc i) (n - i) (omega arith) (omega arith) (omega arith))
-      (ring-cell h (n - i) (omega arith))
-
-  pub nearer-inside : Inside l v (nearer k n q)
+  -- it begins at the header, and behind it it meets nodes
+  nearer-inside : Inside l v (stepped (cellIn v k) (nearer k n q))
   nearer-inside =
-      by-way k n q (Inside l v)
-      (λ e i g. subst⁻¹ (λ (c : ℕ). c < cellCount l) (ring-ahead h i (omega arith)) (ring-cell h i (omega arith)))
-      (λ e i g. behind-cell i g e)
+      by-way k n q (λ t. Inside l v (stepped (cellIn v k) t))
+      (λ e i g.
+      subst (Node l) (sym (ring-ahead h (suc i) (omega (arith, g))) ∙ follow-next (v .forward) i k)
+      (ring-node h (suc i) (omega arith) (omega (arith, g))))
+      (λ e i g.
+      subst (Node l) (sym (ring-behind h (suc i) (n - i) (omega (arith, g)) (omega arith) (omega (arith, g))) ∙ follow-next (v .back) i k)
+      (ring-node h (n - i) (omega (arith, g)) (omega arith)))
+
+  pub nearer-begins : {x : Cell} {t : Seek} → x ≡ cellIn v k → t ≡ nearer k n q → (x ≡ cellIn v (t .at)) × Inside l v (stepped x t)
+  nearer-begins e f =
+      let at : nearer k n q .at ≡ k = by-way k n q (λ t. t .at ≡ k) (λ g. refl) (λ g. refl) in
+      rw (e, f) (ap (cellIn v) (sym at), nearer-inside)
 
   -- a budget too small for either way
   too-small : (b : ℕ) → b < q → b < n + 1 - q → runWith v b (nearer k n q) ≡ Spent

@@ -7,7 +7,7 @@ use borrow.Author.Tests.{eq-eqb, ne-eqb, le-leb, lt-leb}
 use Rattle.sequences.specs.Sequence.{follow}
 use Rattle.sequences.proofs.Follow.{follow-none, follow-next}
 use Rattle.layout.specs.declared.Layout.{Layout}
-use Rattle.layout.specs.Words.{cellCount}
+use Rattle.layout.specs.Words.{Node}
 use Rattle.lists.specs.Decide.{View}
 use Rattle.spans.specs.declared.Cell.{Cell}
 use Rattle.spans.specs.Spans.{cellIn}
@@ -56,13 +56,13 @@ module _ (v : View) (t : Seek) where
       let m : b ≡ suc (b - 1) = omega arith in
       ap (λ (x : ℕ). runWith v x t) m ∙ rw (ne-eqb (t .left) 0 (λ q. omega arith))
 
-  -- the cells that are met from the next on
-  pub inside-here : (l : Layout) → Inside l v t → 0 < t .left → t .at < cellCount l
-  inside-here l h g = subst (λ (x : ℕ). x < cellCount l) (follow-none (linkOf v (t .ahead)) 0 (t .at) refl) (h 0 g)
+  -- where it stands, and from the next cell on
+  pub inside-here : (l : Layout) → Inside l v t → 0 < t .left → Node l (t .at)
+  inside-here l h g = subst (Node l) (follow-none (linkOf v (t .ahead)) 0 (t .at) refl) (h 0 g)
 
   pub inside-step : (l : Layout) → Inside l v t → Inside l v (stepped (cellIn v (t .at)) t)
   inside-step l h i g =
-      subst (λ (x : ℕ). x < cellCount l) (follow-next (linkOf v (t .ahead)) i (t .at)) (h (suc i) (omega (arith, g)))
+      subst (Node l) (follow-next (linkOf v (t .ahead)) i (t .at)) (h (suc i) (omega (arith, g)))
 
 -- a walk of n links from cell c: a budget of n or more arrives where they lead, a smaller one is spent
 module _ (v : View) (ahead : Bool) where

@@ -7,7 +7,7 @@ use lib.Dec.{eqb, leb}
 use lib.ListN.{length, getD}
 use Rattle.sequences.specs.Sequence.{follow}
 use Rattle.layout.specs.declared.Layout.{Layout}
-use Rattle.layout.specs.Words.{cellCount}
+use Rattle.layout.specs.Words.{Node}
 use Rattle.lists.specs.Decide.{View}
 use Rattle.spans.specs.declared.Cell.{Cell}
 use Rattle.spans.specs.Spans.{cellIn}
@@ -45,9 +45,9 @@ pub record Reached (v : View) (k : ℕ) (s : List ℕ) (q : ℕ) : Type 0 where
   -- and one too small for either is spent
   pub spent : (b : ℕ) → b < q → b < length s + 1 - q → runWith v b (nearer k (length s) q) ≡ Spent
 
--- the link that a walk follows, and that it meets cells of the store only
+-- the link that a walk follows, and that the cells whose links it has yet to follow are nodes
 abbrev pub linkOf : View → Bool → ℕ → ℕ
 linkOf v ahead c = cond ahead (v .forward c) (v .back c)
 
 abbrev pub Inside : Layout → View → Seek → Type 0
-Inside l v t = (i : ℕ) → i < t .left → follow (linkOf v (t .ahead)) i (t .at) < cellCount l
+Inside l v t = (i : ℕ) → i < t .left → Node l (follow (linkOf v (t .ahead)) i (t .at))

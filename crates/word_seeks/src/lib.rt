@@ -2,6 +2,7 @@
 use layout::Layout;
 use seeks::Seek;
 use seeks::Sought;
+use spans::Cell;
 use spans::Grid;
 ghost use mathlib.Core.Path.{_≡_};
 ghost use Prim.Native.Nat.{_≤_};
@@ -9,21 +10,27 @@ ghost use mathlib.Core.List.{_∷_};
 ghost use lib.ListN.{getD};
 ghost use Rattle.layout.specs.Words.{Laid};
 ghost use Rattle.lists.specs.Decide.{viewOf, sequenceOf, HeldList};
-ghost use Rattle.spans.specs.Spans.{Gridded};
-ghost use Rattle.seeks.specs.Seeks.{runWith, Inside};
+ghost use Rattle.spans.specs.Spans.{Gridded, cellIn};
+ghost use Rattle.seeks.specs.Seeks.{stepped, runWith, Inside};
 
-// What a walk comes to with a budget of so many steps.
-fn run(words: &[u16], l: Layout, g: Grid, t: Seek, budget: u16) -> Sought
-    requires { ⌜ Gridded l g × Laid l (now words) × Inside l (viewOf l (now words)) t ⌝ }
+// What a walk from header h comes to with a budget of so many steps. All other cells whose links it follows are nodes.
+fn run(words: &[u16], l: Layout, g: Grid, h: Cell, t: Seek, budget: u16) -> Sought
+    requires { ⌜ Gridded l g × Laid l (now words) × (h ≡ cellIn (viewOf l (now words)) (t .at)) × Inside l (viewOf l (now words)) (stepped h t) ⌝ }
     ensures { λ r. ⌜ r ≡ runWith (viewOf l (now (words .entry))) budget t ⌝ }
 {
-    let mut t = t;
-    let mut rest = budget;
+    if t.left == 0 {
+        return Sought::At(t.at);
+    }
+    if budget == 0 {
+        return Sought::Spent;
+    }
+    let mut t = t.step(h);
+    let mut rest = budget - 1;
     while 0 < t.left {
         if rest == 0 {
             return Sought::Spent;
         }
-        t = t.step(word_walks::cell(words, l, g, t.at));
+        t = t.step(word_walks::node(words, l, g, t.at));
         rest -= 1;
     }
     Sought::At(t.at)
@@ -34,7 +41,8 @@ pub fn seek(words: &[u16], l: Layout, g: Grid, k: u16, n: u16, q: u16) -> usize
     requires { ⌜ Gridded l g × Laid l (now words) × HeldList l (viewOf l (now words)) k n × (q ≤ n) ⌝ }
     ensures { λ r. ⌜ r ≡ getD (k ∷ sequenceOf l (now (words .entry)) k) q 0 ⌝ }
 {
-    match run(words, l, g, Seek::toward(k, n, q), seeks::budget(n)) {
+    let h = word_walks::header(words, l, k);
+    match run(words, l, g, h, Seek::toward(k, n, q), seeks::budget(n)) {
         Sought::At(c) => c,
         Sought::Spent => k as usize,
     }

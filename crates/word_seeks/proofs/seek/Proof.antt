@@ -1,16 +1,19 @@
 -- `word_seeks::seek` meets its contract: half of the list's length, rounded up, arrives, so the budget is never spent.
-use mathlib.Core.Path.{_≡_, ap, _∙_, sym, subst⁻¹}
+use mathlib.Core.Path.{_≡_, ap, _∙_, sym}
 use mathlib.Core.List.{_∷_}
 use native.Mathlib.Omega.{arith}
 use lib.ListN.{getD}
 use borrow.Author.Needs.{needs}
 use Rattle.lists.specs.Decide.{View, viewOf, sequenceOf}
 use Rattle.seeks.specs.declared.Sought.the-variants.{At}
-use Rattle.seeks.specs.Seeks.{runWith, Inside}
+use Rattle.seeks.specs.Seeks.{runWith}
 use Rattle.seeks.proofs.Walk.{at-same, at-spent}
-use Rattle.seeks.proofs.Reached.{half-arrives, nearer-inside}
+use Rattle.seeks.proofs.Reached.{half-arrives, nearer-begins}
 use Rattle.word_seeks.proofs.seek.Statement.{statement}
 use Rattle.word_seeks.proofs.seek.Tie as tie
+
+header-requires : tie.Need-header-requires
+header-requires c κs = search needs
 
 toward-requires : tie.Need-toward-requires
 toward-requires c κs = search needs
@@ -25,14 +28,15 @@ view s = viewOf (s .args .l) (s .args .words .now)
 run-requires : tie.Need-run-requires
 run-requires c κs =
     let t = c .before in
-    let s = t .before .before in
-    (s .pre .0, s .pre .1, subst⁻¹ (Inside (s .args .l) (view s)) (t .toward .ensures) (nearer-inside (s .pre .2) (s .args .q) (s .pre .3)))
+    let s = t .before .before .before in
+    let b = nearer-begins (s .pre .2) (s .args .q) (s .pre .3) (t .before .header .ensures) (t .toward .ensures) in
+    (s .pre .0, s .pre .1, b .0, b .1)
 
-arrived : (c : tie.After-run) → let a = c .before .before .before .before .args in
+arrived : (c : tie.After-run) → let a = c .before .before .before .before .before .args in
     c .run .result ≡ At (getD (a .k ∷ sequenceOf (a .l) (a .words .now) (a .k)) (a .q) 0)
 arrived c =
     let t = c .before .before in
-    let s = t .before .before in
+    let s = t .before .before .before in
     c .run .ensures
     ∙ ap (runWith (view s) (c .before .budget .result)) (t .toward .ensures)
     ∙ half-arrives (s .pre .2) (s .args .q) (s .pre .3) (omega (arith, c .before .budget .ensures))
@@ -53,6 +57,7 @@ pub seek-spec : {M : Type 1} → statement M
 seek-spec =
     tie.close
     (tie.spec
+    header-requires
     toward-requires
     budget-requires
     run-requires
