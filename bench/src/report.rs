@@ -126,7 +126,7 @@ impl Results {
 Each exported call of the proved library against a plain, careful Rust implementation of the same call (bench/src/plain.rs), on the same
 bytes, in the same run, in alternating batches. Written by
 
-    cd bench && cargo run --release --offline
+    make archives && cd bench && cargo run --release --offline
 
 {machine}
 ## Times
@@ -152,11 +152,11 @@ Read and delete in one list of 2,000 records (1, 2000, 13), whose members lie in
 shorter way round: to position p of n records it should take min(p + 1, n - p) steps, each of which follows one link. Of all positions
 999 and 1,000 take the most; 999 is measured.
 
-The steps are counted in the machine code of the archives: valgrind's tool lackey lists what a call reads, and a step is the read of a link.
-The links that the check reads are those of the same call at position 2,000, which is refused once the store is checked; they are
-subtracted, and with delete the two links of the node that it frees. The walk's time is the time above the refused call's; with delete it
-includes the four stores. At both ends that is a few nanoseconds, about what two measurements of one call differ by, and can come out
-below 0.
+The steps are counted in the machine code of the archives: valgrind's tool lackey lists what a call reads, and a step is a cell whose link is
+read. The cells that the check reads are those of the same call at position 2,000, which is refused once the store is checked; they are
+subtracted, and with delete the cell that it takes out, whose own links name its neighbours. The walk's time is the time above the refused
+call's; with delete it includes the four stores. At both ends that is a few nanoseconds, about what two measurements of one call differ by,
+and can come out below 0.
 
 The C interface has no read: it is called on words, in an archive of its own (`make archives` builds it), and the plain one reads the
 same bytes. Before each delete the bytes that it changes are put back, which is counted for both. The plain one walks forward to every

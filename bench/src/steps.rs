@@ -1,4 +1,4 @@
-//! The steps of a walk: the links that a call reads, in a trace by valgrind's tool lackey.
+//! The steps of a walk: the cells whose links a call reads, in a trace by valgrind's tool lackey.
 
 use model::store::Shape;
 
@@ -22,17 +22,19 @@ impl Line<'_> {
     }
 }
 
-/// How often links of a store are read between the first two reads of the mark. A link is a header's or a node's forward or
-/// back. Mark and store are given by their addresses.
-pub fn links_read(trace: &str, mark: usize, store: usize, shape: Shape) -> usize {
-    let mut links = vec![false; 2 * shape.size()];
+/// How many cells of a store have a link read, forward or back, between the first two reads of the mark. Links of one cell that are
+/// read in a row are those of one visit. Mark and store are given by their addresses.
+pub fn cells_read(trace: &str, mark: usize, store: usize, shape: Shape) -> usize {
+    let mut cells = vec![None; 2 * shape.size()];
     for cell in 0..shape.lists + shape.nodes {
-        links[2 * (shape.cell(cell) + 1)..][..4].fill(true);
+        cells[2 * (shape.cell(cell) + 1)..][..4].fill(Some(cell));
     }
-    let is_link = |address: usize| address.checked_sub(store).and_then(|i| links.get(i)) == Some(&true);
+    let cell_at = |address: usize| address.checked_sub(store).and_then(|i| cells.get(i).copied().flatten());
     let reads = trace.lines().filter_map(Line::of).filter(Line::reads);
     let call = reads.skip_while(|line| line.at != mark).skip(1).take_while(|line| line.at != mark);
-    call.filter(|line| (line.at..line.at + line.size).any(is_link)).count()
+    let mut visited: Vec<usize> = call.filter_map(|line| (line.at..line.at + line.size).find_map(cell_at)).collect();
+    visited.dedup();
+    visited.len()
 }
 
 #[cfg(test)]
@@ -68,31 +70,36 @@ mod tests {
 
     /// A walk the shorter way round takes one step to both ends; one that always goes forward takes all.
     #[test]
-    fn steps_are_the_links_read() {
+    fn steps_are_the_cells_read() {
         let shape = Shape::new(1, 2000, 13);
         let mut random = Random::new(10);
         let mut cells: Vec<usize> = shape.node_cells().collect();
         random.shuffle(&mut cells);
         let words = store_of(shape, &[cells], || random.word());
-        let read = |link, steps| links_read(&trace(shape, &words, link, steps), MARK, STORE, shape);
+        let read = |link, steps| cells_read(&trace(shape, &words, link, steps), MARK, STORE, shape);
         let before = read(1, 0);
-        assert_eq!(before, 2 * 2001);
+        assert_eq!(before, 2001);
         for (link, steps) in [(1, 1), (1, 1000), (2, 1000), (2, 1), (1, 2000)] {
             assert_eq!(read(link, steps) - before, steps);
         }
     }
 
-    /// A read of several words is one, wherever the link is among them; bytes beside the store are none.
+    /// A link may be read with other words, or by bytes; bytes beside the links are none of them. Links of a cell that are read in a row
+    /// are one visit.
     #[test]
     fn reads_of_several_words() {
         let shape = Shape::new(1, 2, 1);
-        let header = STORE + 16;
-        let lines = [(header, 8), (header + 2, 4), (header + 4, 1), (header + 5, 1), (header, 2), (header + 6, 2)];
-        let beside = [(STORE - 4, 4), (STORE + 2 * shape.size(), 8), (STORE, 16)];
+        let (header, node) = (STORE + 16, STORE + 24);
         let read = |lines: &[(usize, usize)]| {
             let reads: String = lines.iter().map(|(at, size)| format!(" M {at:x},{size}\n")).collect();
-            links_read(&(line(" L", MARK) + &reads + &line(" L", MARK)), MARK, STORE, shape)
+            cells_read(&(line(" L", MARK) + &reads + &line(" L", MARK)), MARK, STORE, shape)
         };
-        assert_eq!((read(&lines), read(&beside)), (4, 0));
+        for link in [(header, 8), (header + 2, 4), (header + 4, 1), (header + 5, 1), (node + 2, 2)] {
+            assert_eq!(read(&[link]), 1);
+        }
+        for other in [(header, 2), (header + 6, 2), (STORE - 4, 4), (STORE + 2 * shape.size(), 8), (STORE, 16)] {
+            assert_eq!(read(&[other]), 0);
+        }
+        assert_eq!(read(&[(header + 2, 2), (header + 4, 2), (node + 2, 2), (node, 2), (node + 4, 2), (header + 2, 2)]), 3);
     }
 }

@@ -42,11 +42,11 @@ impl Call {
         }
     }
 
-    /// The links that the call reads of the cell that the walk leads to.
-    fn links_of_cell(self) -> usize {
+    /// The cells whose links the call reads behind the walk: delete those of the cell that it comes to.
+    fn cells_behind(self) -> usize {
         match self {
             Call::Read => 0,
-            Call::Delete => 2,
+            Call::Delete => 1,
         }
     }
 
@@ -73,13 +73,12 @@ impl Call {
         }
     }
 
-    /// The steps to each position: the links that are read beyond those of the refused call.
+    /// The steps to each position: the cells whose links are read beyond those of the refused call.
     fn steps(self) -> Option<[usize; 3]> {
-        let refused = links_read(self, LENGTH)?;
-        let others = refused + self.links_of_cell();
+        let others = cells_read(self, LENGTH)? + self.cells_behind();
         Some(POSITIONS.map(|(_, position)| {
-            let links = links_read(self, position).and_then(|links| links.checked_sub(others));
-            links.expect("a call that is not refused reads more links")
+            let cells = cells_read(self, position).and_then(|cells| cells.checked_sub(others));
+            cells.expect("a call that is not refused reads more")
         }))
     }
 
@@ -119,8 +118,8 @@ pub fn once(call: &str, position: &str) {
     assert_eq!(answer, case.answer, "the answer of {}", case.name);
 }
 
-/// The links that the proved call reads at a position: the program runs itself under valgrind. Nothing if there is none.
-fn links_read(call: Call, position: u16) -> Option<usize> {
+/// The cells whose links the proved call reads at a position: the program runs itself under valgrind. Nothing if there is none.
+fn cells_read(call: Call, position: u16) -> Option<usize> {
     let program = env::current_exe().expect("the program's own path");
     let mut valgrind = Command::new("valgrind");
     valgrind.args(["--tool=lackey", "--trace-mem=yes", "--basic-counts=no"]).arg(program);
@@ -132,5 +131,5 @@ fn links_read(call: Call, position: u16) -> Option<usize> {
     let printed = String::from_utf8_lossy(&output.stdout);
     let addresses: Vec<usize> = printed.split_whitespace().filter_map(|number| number.parse().ok()).collect();
     let (shape, _) = one_list(LENGTH.into());
-    Some(steps::links_read(&String::from_utf8_lossy(&output.stderr), addresses[0], addresses[1], shape))
+    Some(steps::cells_read(&String::from_utf8_lossy(&output.stderr), addresses[0], addresses[1], shape))
 }
