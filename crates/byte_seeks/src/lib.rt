@@ -12,7 +12,8 @@ ghost use Rattle.byte_form.specs.Bytes.{wordsIn};
 ghost use Rattle.layout.specs.Words.{Laid};
 ghost use Rattle.lists.specs.Decide.{viewOf, sequenceOf, HeldList};
 ghost use Rattle.spans.specs.Spans.{Gridded, cellIn};
-ghost use Rattle.seeks.specs.Seeks.{stepped, runWith, Inside};
+ghost use Rattle.seeks.specs.declared.Sought.the-variants.{At};
+ghost use Rattle.seeks.specs.Seeks.{nearer, stepped, runWith, half, Inside};
 
 // What a walk from header h comes to with a budget of so many steps. All other cells whose links it follows are nodes.
 fn run(bytes: &[u8], l: Layout, g: Grid, h: Cell, t: Seek, budget: u16) -> Sought
@@ -37,10 +38,11 @@ fn run(bytes: &[u8], l: Layout, g: Grid, h: Cell, t: Seek, budget: u16) -> Sough
     Sought::At(t.at)
 }
 
-// Cell q of the ring of list k, which has n members: the header is cell 0. The budget is never spent.
+// Where the walk to cell q of the ring of list k, which has n members, arrives: at that cell. The budget is never spent.
 pub fn seek(bytes: &[u8], l: Layout, g: Grid, k: u16, n: u16, q: u16) -> usize
     requires { ⌜ Gridded l g × Laid l (wordsIn (now bytes)) × HeldList l (viewOf l (wordsIn (now bytes))) k n × (q ≤ n) ⌝ }
-    ensures { λ r. ⌜ r ≡ getD (k ∷ sequenceOf l (wordsIn (now (bytes .entry))) k) q 0 ⌝ }
+    ensures walk { λ r. ⌜ At r ≡ runWith (viewOf l (wordsIn (now (bytes .entry)))) (half n) (nearer k n q) ⌝ }
+    ensures cell { λ r. ⌜ r ≡ getD (k ∷ sequenceOf l (wordsIn (now (bytes .entry))) k) q 0 ⌝ }
 {
     let h = byte_walks::header(bytes, l, k);
     match run(bytes, l, g, h, Seek::toward(k, n, q), seeks::budget(n)) {

@@ -11,7 +11,8 @@ ghost use lib.ListN.{getD};
 ghost use Rattle.layout.specs.Words.{Laid};
 ghost use Rattle.lists.specs.Decide.{viewOf, sequenceOf, HeldList};
 ghost use Rattle.spans.specs.Spans.{Gridded, cellIn};
-ghost use Rattle.seeks.specs.Seeks.{stepped, runWith, Inside};
+ghost use Rattle.seeks.specs.declared.Sought.the-variants.{At};
+ghost use Rattle.seeks.specs.Seeks.{nearer, stepped, runWith, half, Inside};
 
 // What a walk from header h comes to with a budget of so many steps. All other cells whose links it follows are nodes.
 fn run(words: &[u16], l: Layout, g: Grid, h: Cell, t: Seek, budget: u16) -> Sought
@@ -36,10 +37,11 @@ fn run(words: &[u16], l: Layout, g: Grid, h: Cell, t: Seek, budget: u16) -> Soug
     Sought::At(t.at)
 }
 
-// Cell q of the ring of list k, which has n members: the header is cell 0. The budget is never spent.
+// Where the walk to cell q of the ring of list k, which has n members, arrives: at that cell. The budget is never spent.
 pub fn seek(words: &[u16], l: Layout, g: Grid, k: u16, n: u16, q: u16) -> usize
     requires { ⌜ Gridded l g × Laid l (now words) × HeldList l (viewOf l (now words)) k n × (q ≤ n) ⌝ }
-    ensures { λ r. ⌜ r ≡ getD (k ∷ sequenceOf l (now (words .entry)) k) q 0 ⌝ }
+    ensures walk { λ r. ⌜ At r ≡ runWith (viewOf l (now (words .entry))) (half n) (nearer k n q) ⌝ }
+    ensures cell { λ r. ⌜ r ≡ getD (k ∷ sequenceOf l (now (words .entry)) k) q 0 ⌝ }
 {
     let h = word_walks::header(words, l, k);
     match run(words, l, g, h, Seek::toward(k, n, q), seeks::budget(n)) {

@@ -24,7 +24,7 @@ seek-requires c κs = search needs
 node-requires : tie.Need-node-requires
 node-requires c κs =
     let s = c .before .before .before in
-    (s .pre .0, s .pre .1, member-node (s .pre .2) (s .args .p) (omega arith) (c .seek .ensures))
+    (s .pre .0, s .pre .1, member-node (s .pre .2) (s .args .p) (omega arith) (c .seek .ensures .1))
 
 -- the links that are read are those of cells
 links : (c : tie.After-node) → let l = c .before .before .before .before .args .l in
@@ -32,7 +32,7 @@ links : (c : tie.After-node) → let l = c .before .before .before .before .args
 links c =
     let k = c .before in
     let s = k .before .before .before in
-    rw (c .node .ensures) (member-links (s .pre .2) (s .args .p) (omega arith) (k .seek .ensures))
+    rw (c .node .ensures) (member-links (s .pre .2) (s .args .p) (omega arith) (k .seek .ensures .1))
 
 cast-t10 : tie.Need-cast-t10
 cast-t10 c = let b = links (c .before) in omega (arith, b .0, b .1)
@@ -41,7 +41,7 @@ cast-t11 : tie.Need-cast-t11
 cast-t11 c =
     let k = c .before .before in
     let s = k .before .before .before in
-    omega (arith, member-node (s .pre .2) (s .args .p) (omega arith) (k .seek .ensures) .high)
+    omega (arith, member-node (s .pre .2) (s .args .p) (omega arith) (k .seek .ensures .1) .high)
 
 cast-t12 : tie.Need-cast-t12
 cast-t12 c = let b = links (c .before .before) in omega (arith, b .0, b .1)
@@ -52,7 +52,7 @@ returns-2 c =
     let k = n .before in
     let s = k .before .before .before in
     ap (λ (m : Cell). At (record { before = m .back; cell = k .seek .result; after = m .forward; count = s .args .n })) (n .node .ensures)
-    ∙ member-found (s .pre .2) (s .args .p) (omega arith) (k .seek .ensures)
+    ∙ member-found (s .pre .2) (s .args .p) (omega arith) (k .seek .ensures .1)
 
 pub member-spec : {M : Type 1} → statement M
 member-spec =

@@ -48,7 +48,12 @@ enum-told : tie.Need-enum-told
 enum-told c = search needs
 
 returns : tie.Need-returns
-returns c = let x = c .before in at-same (sym (x .c .given .1) ∙ arrived (x .before .before))
+returns c =
+    let x = c .before in
+    let r = x .before .before in
+    let s = r .before .before .before .before .before in
+    let e = at-same (sym (x .c .given .1) ∙ arrived r) in
+    (ap At e ∙ sym (half-arrives (s .pre .2) (s .args .q) (s .pre .3) (omega arith)), e)
 
 returns-2 : tie.Need-returns-2
 returns-2 c = absurd (at-spent (sym (arrived (c .before .before)) ∙ c .enum-told .given .1))
