@@ -61,8 +61,8 @@ module _ {l : Layout} {v : View} {k n : ℕ} (h : HeldList l v k n) where
         (λ c m. is-node l c (all-in (λ c. isNode l c ≡ true) members (trail-inside (v .forward) (isNode l) (l .nodes) (v .forward k)) m) .high),
   )
 
-  pub ring-cell : (q : ℕ) → q ≤ n → getD (k ∷ members) q 0 < cellCount l
-  ring-cell q p = all-nth (λ c. c < cellCount l) (k ∷ members) q 0 ring-cells (omega (arith, held-count))
+  pub ring-inside : (q : ℕ) → q ≤ n → getD (k ∷ members) q 0 < cellCount l
+  ring-inside q p = all-nth (λ c. c < cellCount l) (k ∷ members) q 0 ring-cells (omega (arith, held-count))
 
   pub ring-end : (q : ℕ) → q ≤ n → getD (members ++ k ∷ []) q 0 < cellCount l
   ring-end q p =

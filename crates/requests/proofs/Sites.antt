@@ -13,7 +13,7 @@ use Rattle.layout.specs.declared.Layout.{Layout}
 use Rattle.layout.specs.Words.{Node, isNode, cellCount, ask}
 use Rattle.layout.proofs.Laws.{is-node}
 use Rattle.lists.specs.Decide.{View, sequenceIn, HeldList}
-use Rattle.lists.proofs.Ring.{held-count, ring-node, ring-cell, ring-end, ring-after, ring-before}
+use Rattle.lists.proofs.Ring.{held-count, ring-node, ring-inside, ring-end, ring-after, ring-before}
 use Rattle.requests.specs.declared.Free.{Free}
 use Rattle.requests.specs.declared.Free.the-variants.{Cell, Full}
 use Rattle.requests.specs.declared.Site.{Site}
@@ -43,7 +43,7 @@ module _ {l : Layout} {v : View} {k n : ℕ} (h : HeldList l v k n) where
     member-after = ap (v .forward) q ∙ ring-after h (p + 1) (omega arith)
 
     pub member-links : (v .back c < cellCount l) × (v .forward c < cellCount l)
-    member-links = rw (member-before, member-after) (ring-cell h p (omega arith), ring-end h (p + 1) (omega arith))
+    member-links = rw (member-before, member-after) (ring-inside h p (omega arith), ring-end h (p + 1) (omega arith))
 
     pub member-found : At (record { before = v .back c; cell = c; after = v .forward c; count = n }) ≡ memberAt k p members
     unfolding memberAt
@@ -55,7 +55,7 @@ module _ {l : Layout} {v : View} {k n : ℕ} (h : HeldList l v k n) where
   -- the gap at a position, behind cell x
   module _ (p : ℕ) (g : p ≤ n) {x : ℕ} (q : x ≡ getD (k ∷ members) p 0) where
     pub gap-cell : x < cellCount l
-    gap-cell = rw q (ring-cell h p g)
+    gap-cell = rw q (ring-inside h p g)
 
     gap-after : v .forward x ≡ getD (members ++ k ∷ []) p 0
     gap-after = ap (v .forward) q ∙ ring-after h p g
