@@ -133,7 +133,7 @@ fn step(bytes: &mut [u8], l: Layout, i: u16)
     byte_form::put(bytes, l.node(i), 0);
 }
 
-// Clears each node that has an entry, lowest cell first, up to the allowance.
+// Clears each node whose entry says in use, lowest cell first, up to the allowance.
 pub fn clear(
     bytes: &mut [u8],
     idents: &[u16; Layout::MAX_CELLS],
@@ -148,7 +148,7 @@ pub fn clear(
     let mut i = l.first_node();
     let end = l.cell_count();
     while i < end {
-        if idents[i as usize] != 0 {
+        if Layout::in_use(idents[i as usize]) {
             if n == allowance {
                 return Answer::Stopped(n);
             }

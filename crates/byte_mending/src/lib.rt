@@ -65,7 +65,7 @@ pub fn recover_in(bytes: &mut [u8], l: Layout, allowance: u16) -> Answer
     ensures bytes { λ _. ⌜ now (bytes .exit) ≡ bytesAfter (recoverOf l (wordsIn (now (bytes .entry)))) allowance (now (bytes .entry)) ⌝ }
 {
     let g = Grid::of(l);
-    let used = byte_walks::used_in(bytes, l, g);
+    let used = byte_walks::tally(bytes, l, g).used;
     let found = byte_mends::all_mends(bytes, l, g);
     if found.refusal != 0 {
         return Answer::Refused(found.refusal);

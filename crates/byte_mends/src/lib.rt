@@ -16,7 +16,7 @@ ghost use Rattle.spans.specs.Spans.{Gridded};
 ghost use Rattle.fitting.specs.Fitting.{fitIn, carries, FaultFits};
 ghost use Rattle.mending.specs.Mending.{MendsOf};
 
-// Is the wrong word no identifier that holds 0?
+// Is the wrong word no identifier, or one that says in use?
 fn carried(bytes: &[u8], l: Layout, g: Grid, f: Faults) -> bool
     requires { ⌜ Gridded l g × Laid l (wordsIn (now bytes)) × FaultFits l f ⌝ }
     ensures { λ r. ⌜ r ≡ carries (viewOf l (wordsIn (now (bytes .entry))) .ident) f ⌝ }
@@ -24,7 +24,8 @@ fn carried(bytes: &[u8], l: Layout, g: Grid, f: Faults) -> bool
     match f {
         Faults::None => true,
         Faults::One(c, w, _) => {
-            w as usize != Layout::IDENTIFIER || byte_walks::cell(bytes, l, g, c as usize).ident != 0
+            w as usize != Layout::IDENTIFIER
+                || Layout::in_use(byte_walks::cell(bytes, l, g, c as usize).ident)
         }
         Faults::Many => true,
     }

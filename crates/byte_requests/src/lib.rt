@@ -73,7 +73,7 @@ fn free_cell(bytes: &[u8], l: Layout, g: Grid, start: u16, n: u16) -> Free
     let mut c = start;
     let mut rest = n;
     while 0 < rest {
-        if byte_walks::node(bytes, l, g, c as usize).ident == 0 {
+        if Layout::is_free(byte_walks::node(bytes, l, g, c as usize).ident) {
             return Free::Cell(c);
         }
         c = requests::next_cell(l, c);
@@ -129,7 +129,7 @@ fn gaps(bytes: &[u8], l: Layout, g: Grid, k: u16, n: u16, p: u16, start: u16, si
     if refusal != 0 {
         return Sited::Refused(refusal);
     }
-    let free = l.nodes as usize - byte_walks::used_in(bytes, l, g) as usize;
+    let free = byte_walks::tally(bytes, l, g).free as usize;
     if free < size / l.width as usize {
         return Sited::Refused(10);
     }

@@ -5,15 +5,14 @@ use spans::Cell;
 use spans::Grid;
 use spans::Round;
 use spans::Span;
+use spans::Tally;
 ghost use mathlib.Core.Path.{_≡_};
 ghost use Prim.Native.Nat.{_+_, _≤_, _<_};
-ghost use mathlib.Core.Bool.{cond};
-ghost use lib.Dec.{eqb};
 ghost use lib.ListN.{length, getD};
 ghost use Rattle.byte_form.specs.Bytes.{wordsIn};
 ghost use Rattle.layout.specs.Words.{Laid, Node, firstNode, cellCount, linkWords, identOf};
-ghost use Rattle.lists.specs.Decide.{viewOf, countIn, used, soundOf};
-ghost use Rattle.spans.specs.Spans.{Gridded, Decides, Held, countSum, cellOf, cellIn, wholeSpan, Spanned, Led, rounded};
+ghost use Rattle.lists.specs.Decide.{viewOf, countIn, soundOf};
+ghost use Rattle.spans.specs.Spans.{Gridded, tallyOf, Decides, Held, countSum, cellOf, cellIn, wholeSpan, Spanned, Led, rounded};
 
 // The cell that the word at a names.
 fn link(bytes: &[u8], a: usize) -> usize
@@ -181,28 +180,20 @@ pub fn two_hold(bytes: &[u8], l: Layout, g: Grid, k: u16, j: u16) -> bool
     both_spanned(bytes, l, g, k, s, j, t)
 }
 
-// 1 where the word at a is not 0.
-fn one(bytes: &[u8], a: usize) -> u32
-    requires { ⌜ a < length (wordsIn (now bytes)) ⌝ }
-    ensures { λ r. ⌜ r ≡ cond (eqb (getD (wordsIn (now (bytes .entry))) a 0) 0) 0 1 ⌝ }
-{
-    if byte_form::word(bytes, a) != 0 { 1 } else { 0 }
-}
-
-// The number of nodes whose identifier is not 0.
-pub fn used_in(bytes: &[u8], l: Layout, g: Grid) -> u32
+// How many nodes are free, and how many are in use.
+pub fn tally(bytes: &[u8], l: Layout, g: Grid) -> Tally
     requires { ⌜ Gridded l g × Laid l (wordsIn (now bytes)) ⌝ }
-    ensures { λ r. ⌜ r ≡ length (used (viewOf l (wordsIn (now (bytes .entry)))) (firstNode l) (l .nodes)) ⌝ }
+    ensures { λ r. ⌜ r ≡ tallyOf (viewOf l (wordsIn (now (bytes .entry)))) (firstNode l) (l .nodes) ⌝ }
 {
     let mut a = g.first;
-    let mut n: u32 = 0;
+    let mut t = Tally { free: 0, used: 0 };
     let mut i: u16 = 0;
     while i < l.nodes {
-        n += one(bytes, a);
+        t = t.with(byte_form::word(bytes, a));
         a += g.step;
         i += 1;
     }
-    n
+    t
 }
 
 // The sum of the counts, whatever they are.
@@ -225,7 +216,7 @@ pub fn sound_in(bytes: &[u8], l: Layout) -> bool
     ensures { λ r. ⌜ r ≡ soundOf l (wordsIn (now (bytes .entry))) ⌝ }
 {
     let g = Grid::of(l);
-    if used_in(bytes, l, g) != counted(bytes, l) {
+    if tally(bytes, l, g).used != counted(bytes, l) {
         return false;
     }
     let mut k: u16 = 0;

@@ -7,12 +7,12 @@ use native.Mathlib.Omega.{arith}
 use lib.ListN.{length, getD, set}
 use lib.Seq.{getD-set-other}
 use borrow.Author.Tests.{eq-eqb}
-use Rattle.sequences.specs.Sequence.{trail}
+use Rattle.sequences.specs.Sequence.{trail, range, filter}
 use Rattle.stores.specs.Stores.{run, Plan, refuse, stores, answerOf}
 use Rattle.byte_form.specs.Bytes.{wordsIn, byteWrites, bytesAfter}
 use Rattle.layout.specs.Words.{isNode, checkWords, nodeAt, cellAt, sizeOf, marked, layoutOf, layoutFor, inRange, openedBy, emptyHeaders, formatted}
 use Rattle.lists.specs.Lists.{Sound}
-use Rattle.lists.specs.Decide.{turn, holds, allHold, members, used, soundIn}
+use Rattle.lists.specs.Decide.{turn, holds, allHold, members, soundIn}
 use Rattle.requests.specs.Requests.{siteIn, lookOf}
 use Rattle.recovery.specs.Plan.{recoverPlan, differing}
 use Rattle.axle_store.specs.declared.Checked.the-variants as C
@@ -33,11 +33,11 @@ single : List ℕ
 single = set (set (set (set empty 9 1) 10 1) 11 1) 12 42400
 
 empty-check : checkAnswer empty ≡ C.Sound
-unfolding empty trail isNode checkWords nodeAt cellAt sizeOf marked inRange openedBy emptyHeaders formatted turn holds allHold members used soundIn siteIn lookOf checkAnswer
+unfolding range filter empty trail isNode checkWords nodeAt cellAt sizeOf marked inRange openedBy emptyHeaders formatted turn holds allHold members soundIn siteIn lookOf checkAnswer
 empty-check = refl
 
 single-check : checkAnswer single ≡ C.Sound
-unfolding empty single trail isNode checkWords nodeAt cellAt sizeOf marked inRange openedBy emptyHeaders formatted turn holds allHold members used soundIn siteIn lookOf checkAnswer
+unfolding range filter empty single trail isNode checkWords nodeAt cellAt sizeOf marked inRange openedBy emptyHeaders formatted turn holds allHold members soundIn siteIn lookOf checkAnswer
 single-check = refl
 
 four-differ : differing empty single ≡ 4

@@ -8,13 +8,14 @@ use lib.Dec.{eqb}
 use lib.ListN.{length, take, drop, length-append}
 use lib.Seq.{take-at}
 use borrow.Author.Tests.{eq-eqb, eqb-true, eqb-false}
-use Rattle.sequences.specs.Sequence.{_∈_, All, Different}
+use Rattle.sequences.specs.Sequence.{_∈_, All, Different, filter}
 use Rattle.sequences.proofs.Members.{all-in, in-all, all-append, out-without}
+use Rattle.sequences.proofs.Filter.{filter-append}
 use Rattle.layout.specs.declared.Layout.{Layout}
-use Rattle.layout.specs.Words.{Node}
+use Rattle.layout.specs.Words.{Node, isFree}
 use Rattle.requests.specs.declared.Free.the-variants.{Cell, Full}
 use Rattle.requests.specs.Requests.{nextCell, around, firstFree, freeCells}
-use Rattle.requests.proofs.Turn.{around-different, around-behind, free-append, free-taken, free-first, free-same}
+use Rattle.requests.proofs.Turn.{around-different, around-behind, free-taken, free-first, free-same}
 use Rattle.edits.specs.Edited.{FirstFree}
 
 -- what is found is free, and those before it are not
@@ -51,12 +52,12 @@ none-free ident (c ∷ cs) e = by (eqb (ident c) 0) refl (λ q. none-free ident 
 
 -- cells of which the first free one is x: those behind it have the other free ones
 free-others : (ident : ℕ → ℕ) (cs : List ℕ) (x : ℕ) (xs : List ℕ) → freeCells ident cs ≡ x ∷ xs → (f : FirstFree ident cs x) → freeCells ident (f .rest) ≡ xs
-unfolding freeCells
+unfolding filter
 free-others ident cs x xs e f =
     ap (λ (s : List ℕ). drop 1 s)
     (sym here
     ∙ ap (λ (s : List ℕ). s ++ freeCells ident (x ∷ f .rest)) (sym (free-taken ident (f .passed) (f .taken)))
-    ∙ sym (free-append ident (f .passed) (x ∷ f .rest))
+    ∙ sym (filter-append (λ c. isFree (ident c)) (f .passed) (x ∷ f .rest))
     ∙ ap (freeCells ident) (sym (f .order))
     ∙ e)
   where
@@ -69,7 +70,7 @@ pub free-behind
     → (ident′ x ≡ 0 → ⊥) → ((y : ℕ) → (y ≡ x → ⊥) → ident′ y ≡ ident y) → freeCells ident′ (around l (nextCell l x) (l .nodes)) ≡ xs
 free-behind l ident ident′ c x xs h e taken same =
     ap (freeCells ident′) (around-behind l c (f .passed) x (f .rest) h (f .order))
-    ∙ free-append ident′ (f .rest) (f .passed ++ x ∷ [])
+    ∙ filter-append (λ c. isFree (ident′ c)) (f .rest) (f .passed ++ x ∷ [])
     ∙ ap₂ (λ (s t : List ℕ). s ++ t)
     (free-same ident ident′ (f .rest) (in-all (λ y. ident′ y ≡ ident y) (f .rest) (λ y m. same y (apart y (Memᴰ·append-right (f .passed) m))))
     ∙ free-others ident (around l c (l .nodes)) x xs e f)
@@ -102,13 +103,13 @@ around-length l c (suc n) = ap suc (around-length l (nextCell l c) n)
 pub free-from
     : (l : Layout) (ident : ℕ → ℕ) (c x : ℕ) (xs : List ℕ) → Node l c → 0 < l .nodes → freeCells ident (around l c (l .nodes)) ≡ x ∷ xs
     → freeCells ident (around l x (l .nodes)) ≡ x ∷ xs
-unfolding around freeCells
+unfolding around filter
 free-from l ident c x xs h some e =
     ap (λ (n : ℕ). freeCells ident (around l x n)) whole
     ∙ here
     ∙ ap (λ (s : List ℕ). x ∷ freeCells ident s) turned
     ∙ ap (λ (s : List ℕ). x ∷ s)
-    (free-append ident (f .rest) (f .passed)
+    (filter-append (λ c. isFree (ident c)) (f .rest) (f .passed)
     ∙ ap₂ (λ (s t : List ℕ). s ++ t) (free-others ident (around l c (l .nodes)) x xs e f) (free-taken ident (f .passed) (f .taken))
     ∙ append-nil xs)
   where

@@ -8,11 +8,12 @@ use lib.ListN.{length, getD, take, drop, length-append, take-append-drop}
 use borrow.Author.Tests.{lt-ltb, le-leb, eq-eqb}
 use Rattle.sequences.specs.Sequence.{_∈_, Different}
 use Rattle.sequences.proofs.Members.{all-in, in-all, append-all, at-in, in-front}
+use Rattle.sequences.proofs.Filter.{filter-different}
 use Rattle.stores.specs.Stores.{run}
 use Rattle.stores.proofs.Laws.{run-out, length-run}
 use Rattle.layout.specs.declared.Layout.{Layout}
 use Rattle.layout.specs.declared.Opened.the-variants as O
-use Rattle.layout.specs.Words.{tailWords, Node, cellCount, sizeOf, opened, identAt, identOf}
+use Rattle.layout.specs.Words.{tailWords, Node, cellCount, sizeOf, opened, identAt, identOf, isFree}
 use Rattle.layout.proofs.Laws.{tail-width, node-is}
 use Rattle.layout.proofs.Apart.{links-words}
 use Rattle.lists.specs.Lists.{SoundLists}
@@ -28,7 +29,7 @@ use Rattle.requests.specs.declared.Request.the-variants.{Gap}
 use Rattle.requests.specs.Requests.{nextCell, around, freeCells, gapAt, siteIn, siteOf, lookOf}
 use Rattle.requests.specs.Sites.{gapSite}
 use Rattle.requests.proofs.Laws.{look-at}
-use Rattle.requests.proofs.Turn.{around-nodes, around-different, free-in, free-different, free-first}
+use Rattle.requests.proofs.Turn.{around-nodes, around-different, free-in, free-first}
 use Rattle.edits.specs.Edits.{insertWrites, chain}
 use Rattle.edits.specs.Edited.{FreeNodes}
 use Rattle.edits.proofs.Writes.{insert-spares, insert-ident}
@@ -42,7 +43,7 @@ turn-nodes l w c h =
     let met = free-in (viewOf l w .ident) cells in
     record {
       nodes = in-all (Node l) _ (λ x m. all-in (Node l) cells (around-nodes l c (l .nodes) h) (met x m .0));
-      different = free-different (viewOf l w .ident) cells (around-different l c h);
+      different = filter-different (λ x. isFree (viewOf l w .ident x)) cells (around-different l c h);
       free = in-all (λ x. getD w (identAt l x) 0 ≡ 0) _ (λ x m. met x m .1);
     }
 

@@ -2,7 +2,7 @@
 use Prim.Native.Nat.{ℕ, _<_}
 use mathlib.Core.Path.{_≡_, refl, ap, _∙_, sym, subst}
 use mathlib.Core.List.{List, _∷_, List·Memᴰ·head, List·Memᴰ·tail}
-use mathlib.Core.Bool.{Bool, true, false, cond, false≢true}
+use mathlib.Core.Bool.{Bool, true, false, cond}
 use native.Mathlib.Omega.{arith}
 use lib.Dec.{eqb}
 use lib.ListN.{length}
@@ -11,6 +11,7 @@ use Rattle.sequences.specs.Sequence.{_∈_, All}
 use Rattle.layout.specs.declared.Layout.{Layout}
 use Rattle.layout.specs.Words.{linkWords, identWord, forwardWord, backWord, countWord, Node, identOf}
 use Rattle.lists.specs.Decide.{View}
+use Rattle.lists.proofs.Decided.{in-use}
 use Rattle.fitting.specs.declared.Faults.{Faults}
 use Rattle.fitting.specs.declared.Faults.the-variants as F
 use Rattle.fitting.specs.Fitting.{plus, fault, turnFaults, faultsOf, lengthBy, carries, Each}
@@ -69,7 +70,7 @@ members-number l v k n s h nodes few =
     (counted round n k (length s) (round-every l (λ c g. g < linkWords) (λ c g _ q. q) v forwardWord backWord k (omega arith) (omega arith) h s nodes .each)
     (subst Few (sym e) few))
 
--- .. and that all carry an identifier, unless it is one that holds 0
+-- .. and that all carry an identifier that says in use, unless one is wrong that does not
 pub members-carry : (v : View) (k n : ℕ) (s : List ℕ) → Few (faultsOf v forwardWord backWord k n s) → carries (v .ident) (faultsOf v forwardWord backWord k n s) ≡ true
     → (x : ℕ) → x ∈ s → v .ident x ≡ 0 → ⊥
 unfolding faultsOf
@@ -83,5 +84,5 @@ members-carry v k n s few c x m z = by (faultsOf v forwardWord backWord k n s) h
     by : (f : Faults) → Has x identWord f → Few f → carries (v .ident) f ≡ true → ⊥
     by F.None p few c = p
     by (F.One d g u) p few c =
-        false≢true (rw (eq-eqb g 0 (sym (p .1)), eq-eqb (v .ident d) 0 (ap (v .ident) (sym (p .0)) ∙ z)) at c)
+        in-use (v .ident d) (rw (eq-eqb g 0 (sym (p .1))) at c) (ap (v .ident) (sym (p .0)) ∙ z)
     by F.Many p few c = few

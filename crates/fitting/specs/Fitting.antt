@@ -8,7 +8,7 @@ use lib.ListN.{length}
 use Rattle.sequences.specs.Sequence.{trail}
 use Rattle.stores.specs.Stores.{Write, write}
 use Rattle.layout.specs.declared.Layout.{Layout}
-use Rattle.layout.specs.Words.{identWord, forwardWord, backWord, countWord, isNode, cellAt, identOf, cellCount, sizeOf}
+use Rattle.layout.specs.Words.{identWord, forwardWord, backWord, countWord, isNode, cellAt, identOf, inUse, cellCount, sizeOf}
 use Rattle.lists.specs.Decide.{View}
 use Rattle.spans.specs.declared.Cell.{Cell}
 use Rattle.fitting.specs.declared.Faults.{Faults}
@@ -185,10 +185,10 @@ lengthBy F.None n = n
 lengthBy (F.One c f v) n = cond (eqb f countWord) v n
 lengthBy F.Many n = n
 
--- whether every member carries an identifier: the wrong word is none that holds 0
+-- whether every member carries an identifier that says in use: the wrong word is none that does not
 abbrev pub carries : (ℕ → ℕ) → Faults → Bool
 carries ident F.None = true
-carries ident (F.One c f v) = cond (eqb f identWord) (not (eqb (ident c) 0)) true
+carries ident (F.One c f v) = cond (eqb f identWord) (inUse (ident c)) true
 carries ident F.Many = true
 
 -- the members of a list, by the walk that was chosen

@@ -2,7 +2,7 @@
 use Prim.Native.Nat.{ℕ, zero, suc, _+_, _*_, _-_, _≤_, _<_}
 use mathlib.Core.Path.{_≡_}
 use mathlib.Core.List.{List, [], _∷_, _++_}
-use mathlib.Core.Bool.{Bool, cond, _&&_}
+use mathlib.Core.Bool.{Bool, cond, not, _&&_}
 use lib.Dec.{eqb, leb, ltb}
 use lib.ListN.{length, getD, replicate}
 use Rattle.layout.specs.declared.Layout.{Layout}
@@ -110,6 +110,13 @@ sizeOf l = nodesAt l + nodeWords l * l .nodes
 -- "The identifier of list k is 42,400 + k."
 abbrev pub identOf : ℕ → ℕ
 identOf k = 42400 + k
+
+-- "Every node in no list has identifier 0": a node with this identifier is free, or it is in use.
+abbrev pub isFree : ℕ → Bool
+isFree x = eqb x 0
+
+abbrev pub inUse : ℕ → Bool
+inUse x = not (isFree x)
 
 -- "Words 0 to 2: the mark RBS as letter codes 82, 66, 83. Word 3: version, 1. .. Word 7: 0."
 abbrev pub newest : ℕ

@@ -8,7 +8,7 @@
 ghost use mathlib.Core.Path.{_≡_};
 ghost use Prim.Native.Nat.{_≤_};
 ghost use lib.ListN.{length};
-ghost use Rattle.layout.specs.Words.{newest, mostLists, headWords, firstNode, cellCount, isNode, headerAt, checkWords, nodeWords, nodesAt, nodeAt, cellAt, sizeOf, identOf, between, inRange, InRange, marked, openedBy, opened, head, emptyHeader};
+ghost use Rattle.layout.specs.Words.{newest, mostLists, headWords, firstNode, cellCount, isNode, headerAt, checkWords, nodeWords, nodesAt, nodeAt, cellAt, sizeOf, identOf, isFree, inUse, between, inRange, InRange, marked, openedBy, opened, head, emptyHeader};
 
 // Version, L, N and P of a store.
 pub struct Layout {
@@ -77,8 +77,10 @@ impl Layout {
 
     pub const COUNT: usize = 3;
 
-    // The identifier of list 0.
+    // The identifier of list 0, and of a node that is free.
     pub const IDENT: u16 = 42400;
+
+    pub const FREE: u16 = 0;
 
     // Are the version, L, N and P in range?
     pub fn in_range(self) -> bool
@@ -128,6 +130,20 @@ impl Layout {
         ensures { λ r. ⌜ r ≡ identOf k ⌝ }
     {
         Layout::IDENT + k
+    }
+
+    // Is a node with this identifier free?
+    pub fn is_free(ident: u16) -> bool
+        ensures { λ r. ⌜ r ≡ isFree ident ⌝ }
+    {
+        ident == Layout::FREE
+    }
+
+    // Is it in use?
+    pub fn in_use(ident: u16) -> bool
+        ensures { λ r. ⌜ r ≡ inUse ident ⌝ }
+    {
+        !Layout::is_free(ident)
     }
 
     // The first word of the header of list k.

@@ -13,10 +13,11 @@ use Rattle.sequences.proofs.Members.{all-nth}
 use Rattle.sequences.proofs.Trail.{trail-length, trail-inside}
 use Rattle.layout.specs.declared.Layout.{Layout}
 use Rattle.layout.specs.declared.Opened.the-variants as O
-use Rattle.layout.specs.Words.{mostWidth, InRange, firstNode, isNode, recordAt, opened}
+use Rattle.layout.specs.Words.{mostWidth, InRange, firstNode, isNode, recordAt, opened, inUse}
 use Rattle.layout.proofs.Laws.{is-node}
 use Rattle.lists.specs.Decide.{viewOf, countIn, soundIn, allHold, members, used, sequenceOf, soundOf}
-use Rattle.lists.proofs.Stepwise.{members-more, used-length}
+use Rattle.lists.proofs.Decided.{cells-few}
+use Rattle.lists.proofs.Stepwise.{members-more}
 use Rattle.requests.specs.Requests.{siteIn, lookOf}
 use Rattle.edits.specs.Edited.{recordIn}
 use Rattle.byte_form.specs.Bytes.{wordsIn}
@@ -166,7 +167,7 @@ module _ (l : Layout) (w : List ℕ) (r : InRange l) (small : (i : ℕ) → getD
       let v = viewOf l w in
       let u = used v (firstNode l) (l .nodes) in
       let b = and-eq-true-iff (allHold l v (countIn l w) (l .lists)) (eqb (length (members l v (l .lists))) (length u)) .0 e in
-      omega (arith, eqb-true (length (members l v (l .lists))) (length u) (b .1), used-length v (firstNode l) (l .nodes))
+      omega (arith, eqb-true (length (members l v (l .lists))) (length u) (b .1), cells-few inUse v (firstNode l) (l .nodes))
 
   pub listed-short : length (listedOf l w) ≤ longest
   listed-short = by (soundOf l w) refl

@@ -10,9 +10,9 @@ use Rattle.byte_form.proofs.Laws.{length-words}
 use Rattle.layout.specs.declared.Layout.{Layout}
 use Rattle.layout.specs.Words.{layoutOf, checkWords, nodeAt, cellAt, sizeOf, marked, isNode, inRange, openedBy}
 use Rattle.layout.proofs.Laws.{size-most}
-use Rattle.sequences.specs.Sequence.{trail}
+use Rattle.sequences.specs.Sequence.{trail, range, filter}
 use Rattle.lists.specs.Lists.{Sound}
-use Rattle.lists.specs.Decide.{sequenceOf, turn, holds, allHold, members, used, soundIn}
+use Rattle.lists.specs.Decide.{sequenceOf, turn, holds, allHold, members, soundIn}
 use Rattle.lists.proofs.Unique.{list-sequence}
 use Rattle.requests.specs.declared.Request.the-variants.{Check}
 use Rattle.requests.specs.declared.Looked.{Looked}
@@ -84,5 +84,5 @@ byte-listing-granted b e s n r =
 pub listing-C3
     : listingOf (82 ∷ 66 ∷ 83 ∷ 1 ∷ 1 ∷ 3 ∷ 1 ∷ 0 ∷ 42400 ∷ 2 ∷ 3 ∷ 2 ∷ 0 ∷ 0 ∷ 0 ∷ 0 ∷ 42400 ∷ 3 ∷ 0 ∷ 700 ∷ 42400 ∷ 0 ∷ 2 ∷ 512 ∷ [])
     ≡ codes "list 0 count 2\n0 2 700\n1 3 512\nsound\n"
-unfolding trail isNode checkWords nodeAt cellAt sizeOf marked inRange openedBy turn holds allHold members used soundIn siteIn lookOf digits decimal spaced recordLine recordLines listLine listLines listsFrom refusedLine soundLines listingOf
+unfolding range filter trail isNode checkWords nodeAt cellAt sizeOf marked inRange openedBy turn holds allHold members soundIn siteIn lookOf digits decimal spaced recordLine recordLines listLine listLines listsFrom refusedLine soundLines listingOf
 listing-C3 = refl

@@ -1,21 +1,23 @@
 -- What is decided is what the definition says: `soundOf` is true exactly if the lists are sound.
 use Prim.Native.Nat.{ℕ, zero, suc, _+_, _<_, _≤_}
 use mathlib.Core.Path.{_≡_, refl, ap, _∙_, sym, subst}
-use mathlib.Core.List.{List, _∷_, List·Memᴰ·head, List·Memᴰ·tail, List·Memᴰ·append-cases, Memᴰ·append-left, Memᴰ·append-right}
-use mathlib.Core.Bool.{Bool, true, false, and-eq-true-iff}
+use mathlib.Core.List.{List, List·Memᴰ·append-cases, Memᴰ·append-left, Memᴰ·append-right}
+use mathlib.Core.Bool.{Bool, true, false, not, and-eq-true-iff, true≢false}
 use mathlib.Core.Logic.{_⊎_, inl, inr, ⊎-elim}
 use native.Mathlib.Omega.{arith}
 use native.Mathlib.Nat.{eq-or-lt-of-le, le-of-suc-le-suc}
 use lib.ListN.{length, getD}
 use lib.Dec.{eqb}
-use borrow.Author.Tests.{eq-eqb, eqb-true, eqb-false}
-use Rattle.sequences.specs.Sequence.{_∈_, Different}
+use borrow.Author.Tests.{eq-eqb, ne-eqb, eqb-true}
+use Rattle.sequences.specs.Sequence.{_∈_, Different, range}
 use Rattle.sequences.proofs.Members.{all-in, member?, different-append}
 use Rattle.sequences.proofs.Pigeonhole.{pigeonhole, pigeonhole-less}
+use Rattle.sequences.proofs.Range.{length-range, in-range, range-between, range-different}
+use Rattle.sequences.proofs.Filter.{filter-in, in-filter, filter-different, filter-length}
 use Rattle.layout.specs.declared.Layout.{Layout}
-use Rattle.layout.specs.Words.{firstNode, Node, identAt}
+use Rattle.layout.specs.Words.{firstNode, Node, identAt, inUse}
 use Rattle.lists.specs.Lists.{IsList, SoundLists}
-use Rattle.lists.specs.Decide.{View, viewOf, countIn, sequenceIn, sequenceOf, holds, allHold, members, used, soundIn, soundOf}
+use Rattle.lists.specs.Decide.{View, viewOf, countIn, sequenceIn, sequenceOf, holds, allHold, members, cellsWith, used, soundIn, soundOf}
 use Rattle.lists.proofs.Unique.{list-sequence, holds-list, list-holds, member-ident, lists-disjoint}
 
 -- below n + 1: n, or below n
@@ -57,42 +59,33 @@ one-members l v (suc n) k x h m =
     ⊎-elim (λ q. Memᴰ·append-right (members l v n) (subst (λ (j : ℕ). x ∈ sequenceIn l v j) q m))
     (λ q. Memᴰ·append-left (sequenceIn l v n) (one-members l v n k x q m)) (below-suc k n h)
 
--- the nodes in use: those between the ends whose identifier is not 0, each once
-pub used-is : (v : View) (a n x : ℕ) → x ∈ used v a n → (a ≤ x) × (x < a + n) × (v .ident x ≡ 0 → ⊥)
-unfolding used
-used-is v a zero x m = absurd (elim m [ ])
-used-is v a (suc n) x m = by (eqb (v .ident a) 0) refl (λ q. used-is v (suc a) n x q) m
+-- what the identifier of a node says
+pub in-use : (x : ℕ) → inUse x ≡ true → x ≡ 0 → ⊥
+in-use x e z = true≢false (sym e ∙ rw (eq-eqb x 0 z))
+
+pub use-in : (x : ℕ) → (x ≡ 0 → ⊥) → inUse x ≡ true
+use-in x n = rw (ne-eqb x 0 n)
+
+pub unused : (x : ℕ) → inUse x ≡ false → x ≡ 0
+unused x e = by (eqb x 0) refl e
   where
-    by : (b : Bool) → eqb (v .ident a) 0 ≡ b
-        → (x ∈ used v (suc a) n → (suc a ≤ x) × (x < suc a + n) × (v .ident x ≡ 0 → ⊥))
-        → x ∈ (elim b as (λ _. List ℕ) [ true ↦ used v (suc a) n | false ↦ a ∷ used v (suc a) n ])
-        → (a ≤ x) × (x < a + suc n) × (v .ident x ≡ 0 → ⊥)
-    by true e below m = let r = below m in (omega (arith, r .0), omega (arith, r .1), r .2)
-    by false e below (List·Memᴰ·head q) =
-        (omega arith, omega arith, λ z. eqb-false (v .ident a) 0 e (sym (ap (v .ident) q) ∙ z))
-    by false e below (List·Memᴰ·tail m) = let r = below m in (omega (arith, r .0), omega (arith, r .1), r .2)
+    by : (b : Bool) → eqb x 0 ≡ b → not b ≡ false → x ≡ 0
+    by true q z = eqb-true x 0 q
+    by false q z = absurd (true≢false z)
+
+-- they are as many at most as there are cells
+pub cells-few : (test : ℕ → Bool) (v : View) (a n : ℕ) → length (cellsWith test v a n) ≤ n
+cells-few test v a n = omega (arith, filter-length (λ c. test (v .ident c)) (range a n), length-range a n)
+
+-- the nodes in use: those between the ends whose identifier says so, each once
+pub used-is : (v : View) (a n x : ℕ) → x ∈ used v a n → (a ≤ x) × (x < a + n) × (v .ident x ≡ 0 → ⊥)
+used-is v a n x m =
+    let r = filter-in (λ c. inUse (v .ident c)) (range a n) x m in
+    let b = range-between a n x (r .0) in
+    (b .0, b .1, in-use (v .ident x) (r .1))
 
 pub is-used : (v : View) (a n x : ℕ) → a ≤ x → x < a + n → (v .ident x ≡ 0 → ⊥) → x ∈ used v a n
-unfolding used
-is-used v a zero x h k z = absurd (omega arith)
-is-used v a (suc n) x h k z = by (eqb (v .ident a) 0) refl (λ p q. is-used v (suc a) n x p q z) (eq-or-lt-of-le h)
-  where
-    by : (b : Bool) → eqb (v .ident a) 0 ≡ b → (suc a ≤ x → x < suc a + n → x ∈ used v (suc a) n) → (a ≡ x) ⊎ (a < x)
-        → x ∈ (elim b as (λ _. List ℕ) [ true ↦ used v (suc a) n | false ↦ a ∷ used v (suc a) n ])
-    by true e below (inl q) = absurd (z (sym (ap (v .ident) q) ∙ eqb-true (v .ident a) 0 e))
-    by true e below (inr q) = below q (omega arith)
-    by false e below (inl q) = List·Memᴰ·head (sym q)
-    by false e below (inr q) = List·Memᴰ·tail (below q (omega arith))
-
-used-different : (v : View) (a n : ℕ) → Different (used v a n)
-unfolding used
-used-different v a zero = tt
-used-different v a (suc n) = by (eqb (v .ident a) 0) (used-different v (suc a) n)
-  where
-    by : (b : Bool) → Different (used v (suc a) n)
-        → Different (elim b as (λ _. List ℕ) [ true ↦ used v (suc a) n | false ↦ a ∷ used v (suc a) n ])
-    by true d = d
-    by false d = (λ m. omega (arith, used-is v (suc a) n a m .0), d)
+is-used v a n x h k z = in-filter (λ c. inUse (v .ident c)) (range a n) x (in-range a n x h k) (use-in (v .ident x) z)
 
 module _ (l : Layout) (w : List ℕ) where
   abbrev Listed : ℕ → Type 0
@@ -143,19 +136,19 @@ module _ (l : Layout) (w : List ℕ) where
       listed k h = holds-list l w k h (all-hold-at l (viewOf l w) (countIn l w) (l .lists) k (parts .0) h)
 
       unlisted : (i : ℕ) → Node l i → ((k : ℕ) → k < l .lists → i ∈ sequenceOf l w k → ⊥) → getD w (identAt l i) 0 ≡ 0
-      unlisted i n h = by (eqb (getD w (identAt l i) 0) 0) refl
+      unlisted i n h = by (inUse (getD w (identAt l i) 0)) refl
         where
           apart : i ∈ All-members → ⊥
           apart m = let r = members-one l (viewOf l w) (l .lists) i m in h (r .0) (r .1) (r .2)
 
-          by : (b : Bool) → eqb (getD w (identAt l i) 0) 0 ≡ b → getD w (identAt l i) 0 ≡ 0
-          by true q = eqb-true _ _ q
-          by false q =
+          by : (b : Bool) → inUse (getD w (identAt l i) 0) ≡ b → getD w (identAt l i) 0 ≡ 0
+          by false q = unused _ q
+          by true q =
               absurd (omega (
                 arith,
                 eqb-true (length All-members) (length Used) (parts .1),
                 pigeonhole-less All-members Used i (members-different (l .lists) listed) (member-used listed)
-                    (is-used (viewOf l w) (firstNode l) (l .nodes) i (n .low) (n .high) (eqb-false _ _ q)) apart,
+                    (is-used (viewOf l w) (firstNode l) (l .nodes) i (n .low) (n .high) (in-use _ q)) apart,
               ))
 
   -- the lists are sound: decided true
@@ -167,7 +160,7 @@ module _ (l : Layout) (w : List ℕ) where
         eq-eqb (length All-members) (length Used) (omega (
           arith,
           pigeonhole All-members Used (members-different (l .lists) listed) (member-used listed),
-          pigeonhole Used All-members (used-different (viewOf l w) (firstNode l) (l .nodes)) used-member,
+          pigeonhole Used All-members (filter-different _ _ (range-different (firstNode l) (l .nodes))) used-member,
         )),
       )
     where

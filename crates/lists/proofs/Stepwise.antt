@@ -1,42 +1,16 @@
--- Soundness decided step by step: by one node more of those in use, and by one list more of those that hold.
+-- Soundness decided step by step: by one list more of those that hold.
 use Prim.Native.Nat.{ℕ, zero, suc, _+_, _-_, _≤_, _<_}
 use mathlib.Core.Path.{_≡_, refl}
-use mathlib.Core.List.{[], _∷_}
 use mathlib.Core.Bool.{true, and-eq-true-iff}
 use native.Mathlib.Omega.{arith}
 use native.Mathlib.Numerals.{add-one}
-use native.Mathlib.Decide.{ℕ-discrete}
 use lib.Dec.{eqb}
 use lib.ListN.{length, length-append}
-use borrow.Author.Tests.{eq-eqb, ne-eqb}
 use Rattle.layout.specs.declared.Layout.{Layout}
 use Rattle.layout.specs.Words.{firstNode}
 use Rattle.lists.specs.Decide.{View, sequenceIn, holds, allHold, members, used, soundIn}
 use Rattle.lists.proofs.Agree.{holds-true}
 use Rattle.lists.proofs.Decided.{all-hold-at}
-
--- of the cells from a on the first is used, or not
-used-in : (v : View) (a n : ℕ) → (v .ident a ≡ 0 → ⊥) → used v a (suc n) ≡ a ∷ used v (suc a) n
-unfolding used
-used-in v a n h = rw (used, ne-eqb _ _ h)
-
-used-out : (v : View) (a n : ℕ) → v .ident a ≡ 0 → used v a (suc n) ≡ used v (suc a) n
-unfolding used
-used-out v a n h = rw (used, eq-eqb _ _ h)
-
--- of no cells none
-pub used-none : (v : View) (a : ℕ) → used v a 0 ≡ []
-unfolding used
-used-none v a = refl
-
--- they are as many at most as there are cells
-pub used-length : (v : View) (a n : ℕ) → length (used v a n) ≤ n
-used-length v a zero = rw (used-none v a) (omega arith)
-used-length v a (suc n) = by (ℕ-discrete (v .ident a) 0) (used-length v (suc a) n)
-  where
-    by : Dec (v .ident a ≡ 0) → length (used v (suc a) n) ≤ n → length (used v a (suc n)) ≤ suc n
-    by (yes e) h = rw (used-out v a n e) (omega arith)
-    by (no e) h = rw (used-in v a n e) (omega arith)
 
 -- counts that agree in the lists give one answer
 all-hold-same : (l : Layout) (v : View) (c d : ℕ → ℕ) (n : ℕ) → ((k : ℕ) → k < n → c k ≡ d k)

@@ -8,7 +8,8 @@ use lib.ListN.{length, getD}
 use borrow.Author.Tests.{lt-leb}
 use Rattle.sequences.specs.Sequence.{_∈_, All, Different, range}
 use Rattle.sequences.proofs.Members.{all-in, in-all}
-use Rattle.sequences.proofs.Pigeonhole.{pigeonhole, length-range, in-range}
+use Rattle.sequences.proofs.Pigeonhole.{pigeonhole}
+use Rattle.sequences.proofs.Range.{length-range, in-range}
 use Rattle.sequences.proofs.Trail.{trail-inside, leads-trail, leads-different}
 use Rattle.layout.specs.declared.Layout.{Layout}
 use Rattle.layout.specs.Words.{firstNode, Node, isNode, identOf, identAt}

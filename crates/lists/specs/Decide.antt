@@ -1,14 +1,14 @@
 -- Soundness as it is decided: the forward links give the only sequence that can be a list's, a turn round it tests what is
--- asked, and the nodes with an identifier are as many as the lists' members.
+-- asked, and the nodes in use are as many as the lists' members.
 use Prim.Native.Nat.{ℕ, zero, suc, _+_, _<_}
 use mathlib.Core.Path.{_≡_}
 use mathlib.Core.List.{List, [], _∷_, _++_}
-use mathlib.Core.Bool.{Bool, true, false, _&&_}
+use mathlib.Core.Bool.{Bool, true, _&&_}
 use lib.Dec.{eqb}
 use lib.ListN.{length, getD}
-use Rattle.sequences.specs.Sequence.{trail}
+use Rattle.sequences.specs.Sequence.{trail, range, filter}
 use Rattle.layout.specs.declared.Layout.{Layout}
-use Rattle.layout.specs.Words.{firstNode, isNode, identAt, forwardAt, backAt, countAt, identOf}
+use Rattle.layout.specs.Words.{firstNode, isNode, identAt, forwardAt, backAt, countAt, identOf, inUse}
 
 -- identifier, forward and back of each cell
 pub record View : Type 0 where
@@ -56,12 +56,14 @@ unfoldable pub members : Layout → View → ℕ → List ℕ
 members l v zero = []
 members l v (suc n) = members l v n ++ sequenceIn l v n
 
--- of the n cells from a on, those with an identifier other than 0
-unfoldable pub used : View → ℕ → ℕ → List ℕ
-used v a zero = []
-used v a (suc n) = elim (eqb (v .ident a) 0) [ true ↦ used v (suc a) n | false ↦ a ∷ used v (suc a) n ]
+-- of the n cells from a on, those whose identifier passes the test; and those in use
+abbrev pub cellsWith : (ℕ → Bool) → View → ℕ → ℕ → List ℕ
+cellsWith test v a n = filter (λ c. test (v .ident c)) (range a n)
 
--- every list holds, and as many nodes have an identifier as the lists have members
+abbrev pub used : View → ℕ → ℕ → List ℕ
+used v a n = cellsWith inUse v a n
+
+-- every list holds, and as many nodes are in use as the lists have members
 unfoldable pub soundIn : Layout → View → (ℕ → ℕ) → Bool
 soundIn l v count =
     allHold l v count (l .lists) && eqb (length (members l v (l .lists))) (length (used v (firstNode l) (l .nodes)))

@@ -2,7 +2,7 @@
 use Prim.Native.Nat.{ℕ, zero, suc, _+_, _<_, _≤_}
 use mathlib.Core.Path.{_≡_, refl, ap, ap₂, _∙_, sym, subst}
 use mathlib.Core.List.{List, [], _∷_, map, List·Memᴰ·head, List·Memᴰ·tail}
-use mathlib.Core.Bool.{Bool, true, false, cond}
+use mathlib.Core.Bool.{Bool, true, false, not, cond}
 use mathlib.Core.Logic.{⊎-elim}
 use native.Mathlib.Decide.{ℕ-discrete}
 use native.Mathlib.Omega.{arith}
@@ -10,11 +10,11 @@ use native.Mathlib.Nat.{eq-or-lt-of-le}
 use lib.Dec.{eqb}
 use lib.ListN.{getD, set}
 use lib.Seq.{getD-set-other}
-use Rattle.sequences.specs.Sequence.{_∈_}
+use Rattle.sequences.specs.Sequence.{_∈_, range, filter}
 use Rattle.sequences.proofs.Members.{member?}
 use Rattle.stores.specs.Stores.{Write, write}
 use Rattle.layout.specs.declared.Layout.{Layout}
-use Rattle.layout.specs.Words.{Node, firstNode, identAt}
+use Rattle.layout.specs.Words.{Node, firstNode, identAt, inUse}
 use Rattle.lists.specs.Decide.{View}
 use Rattle.recovery.specs.Fits.{wrong}
 use Rattle.recovery.specs.Plan.{joined, outOf, clearsAsked}
@@ -91,11 +91,11 @@ module _ (l : Layout) (v : View) (back : ℕ → Bool) where
 clears-told : (l : Layout) (w idents ms : List ℕ) (a n : ℕ)
     → ((c : ℕ) → a ≤ c → c < a + n → (c ∈ ms → getD idents c 0 ≡ 0) × ((c ∈ ms → ⊥) → getD idents c 0 ≡ getD w (identAt l c) 0))
     → clearsIn l idents a n ≡ wrong w (map (λ c. write (identAt l c) 0) (outOf ms a n))
-unfolding clearsIn outOf wrong
+unfolding clearsIn range filter wrong
 clears-told l w idents ms a zero h = refl
 clears-told l w idents ms a (suc n) h =
     let p = write (identAt l a) 0 in
-    let step : ℕ → List Write → List Write = λ v t. cond (eqb v 0) t (p ∷ t) in
+    let step : ℕ → List Write → List Write = λ v t. cond (inUse v) (p ∷ t) t in
     let required : List ℕ → List Write = λ cs. map (λ c. write (identAt l c) 0) cs in
     let here = h a (omega arith) (omega arith) in
     let below = clears-told l w idents ms (suc a) n (λ c p q. h c (omega arith) (omega arith)) in
@@ -106,7 +106,7 @@ clears-told l w idents ms a (suc n) h =
     ∙ ap (λ (cs : List ℕ). wrong w (required cs)) (sym (out-other ms a n o)))
     (member? a ms)
   where
-    tested : (b : Bool) (t : List Write) → cond b t (write (identAt l a) 0 ∷ t) ≡ (elim b as (λ _. List Write) [ true ↦ t | false ↦ write (identAt l a) 0 ∷ t ])
+    tested : (b : Bool) (t : List Write) → cond (not b) (write (identAt l a) 0 ∷ t) t ≡ (elim b as (λ _. List Write) [ true ↦ t | false ↦ write (identAt l a) 0 ∷ t ])
     tested true t = refl
     tested false t = refl
 

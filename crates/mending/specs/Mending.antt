@@ -8,7 +8,7 @@ use lib.ListN.{getD, set, take}
 use Rattle.sequences.specs.Sequence.{All, trail}
 use Rattle.stores.specs.Stores.{Write, write, writesIn, Held}
 use Rattle.layout.specs.declared.Layout.{Layout}
-use Rattle.layout.specs.Words.{firstNode, isNode, identAt, sizeOf}
+use Rattle.layout.specs.Words.{firstNode, isNode, identAt, inUse, sizeOf}
 use Rattle.lists.specs.Decide.{View}
 use Rattle.fitting.specs.declared.Faults.{Faults}
 use Rattle.fitting.specs.Fitting.{fitIn, mendOf, numberOf, faultIn, isBackward, lengthBy, carries, membersBy}
@@ -48,13 +48,13 @@ unfoldable pub erasedFrom : Layout → View → (ℕ → Bool) → ℕ → ℕ �
 erasedFrom l v back k zero xs = xs
 erasedFrom l v back k (suc n) xs = erasedFrom l v back (suc k) n (erased (membersBy l v (back k) k) xs)
 
--- the clears of the n cells from a on whose entry is not 0
+-- the clears of the n cells from a on whose entry says in use
 unfoldable pub clearsIn : Layout → List ℕ → ℕ → ℕ → List Write
 clearsIn l idents a zero = []
 clearsIn l idents a (suc n) =
-    cond (eqb (getD idents a 0) 0) (clearsIn l idents (suc a) n) (write (identAt l a) 0 ∷ clearsIn l idents (suc a) n)
+    cond (inUse (getD idents a 0)) (write (identAt l a) 0 ∷ clearsIn l idents (suc a) n) (clearsIn l idents (suc a) n)
 
--- the clears of the nodes that have an entry
+-- the clears of all nodes whose entry says so
 abbrev pub clears : Layout → List ℕ → List Write
 clears l idents = clearsIn l idents (firstNode l) (l .nodes)
 

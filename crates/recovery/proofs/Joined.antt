@@ -1,16 +1,17 @@
 -- The members of all sequences, and the nodes in none.
 use Prim.Native.Nat.{ℕ, zero, suc, _+_, _<_, _≤_}
-use mathlib.Core.Path.{_≡_, refl, ap, ap₂, sym, subst}
-use mathlib.Core.List.{List, [], _∷_, _++_, List·Memᴰ, List·Memᴰ·head, List·Memᴰ·tail, List·Memᴰ·append-cases, List·Memᴰ·cases-cons, Memᴰ·append-left, Memᴰ·append-right}
-use mathlib.Core.Bool.{Bool, true, false, _||_, or-true, true≢false}
+use mathlib.Core.Path.{_≡_, refl, ap, ap₂, _∙_, sym, subst}
+use mathlib.Core.List.{List, [], _∷_, _++_, List·Memᴰ, List·Memᴰ·head, List·Memᴰ·tail, List·Memᴰ·append-cases, Memᴰ·append-left, Memᴰ·append-right}
+use mathlib.Core.Bool.{Bool, true, false, not, _||_, or-true, true≢false}
 use mathlib.Core.Logic.{⊎-elim}
 use native.Mathlib.Omega.{arith}
 use native.Mathlib.Nat.{eq-or-lt-of-le, le-of-suc-le-suc}
 use lib.Dec.{eqb}
 use lib.ListN.{length}
 use borrow.Author.Tests.{eq-eqb, eqb-true}
-use Rattle.sequences.specs.Sequence.{_∈_, Different}
-use Rattle.sequences.proofs.Members.{member?}
+use Rattle.sequences.specs.Sequence.{_∈_, Different, range, filter}
+use Rattle.sequences.proofs.Range.{length-range, in-range, range-between, range-different, range-first}
+use Rattle.sequences.proofs.Filter.{filter-yes, filter-no, filter-in, in-filter, filter-different, filter-length}
 use Rattle.recovery.specs.Plan.{joined, isIn, outOf}
 
 -- a member of joined sequences is in one of them
@@ -58,44 +59,26 @@ not-isIn x s n = by (isIn x s) refl
 
 -- the cells that are no members, one by one
 module _ (ms : List ℕ) where
+  abbrev isOut : ℕ → Bool
+  isOut c = not (isIn c ms)
+
   pub out-member : (a n : ℕ) → a ∈ ms → outOf ms a (suc n) ≡ outOf ms (suc a) n
-  unfolding outOf
-  out-member a n m = rw (outOf, in-isIn a ms m)
+  out-member a n m = ap (filter isOut) (range-first a n) ∙ filter-no isOut a (range (suc a) n) (ap not (in-isIn a ms m))
 
   pub out-other : (a n : ℕ) → (a ∈ ms → ⊥) → outOf ms a (suc n) ≡ a ∷ outOf ms (suc a) n
-  unfolding outOf
-  out-other a n o = rw (outOf, not-isIn a ms o)
+  out-other a n o = ap (filter isOut) (range-first a n) ∙ filter-yes isOut a (range (suc a) n) (ap not (not-isIn a ms o))
 
   pub out-is : (a n x : ℕ) → x ∈ outOf ms a n → (a ≤ x) × (x < a + n) × (x ∈ ms → ⊥)
-  unfolding outOf
-  out-is a zero x m = absurd (elim m [ ])
-  out-is a (suc n) x m =
-      ⊎-elim (λ h. later (out-is (suc a) n x (subst (List·Memᴰ x) (out-member a n h) m)))
-      (λ o.
-      ⊎-elim (λ e. (omega arith, omega arith, λ q. o (subst (λ (y : ℕ). y ∈ ms) e q))) (λ t. later (out-is (suc a) n x t))
-      (List·Memᴰ·cases-cons (subst (List·Memᴰ x) (out-other a n o) m))) (member? a ms)
-    where
-      later : (suc a ≤ x) × (x < suc a + n) × (x ∈ ms → ⊥) → (a ≤ x) × (x < a + suc n) × (x ∈ ms → ⊥)
-      later r = (omega (arith, r .0), omega (arith, r .1), r .2)
+  out-is a n x m =
+      let r = filter-in isOut (range a n) x m in
+      let b = range-between a n x (r .0) in
+      (b .0, b .1, λ q. true≢false (sym (r .1) ∙ ap not (in-isIn x ms q)))
 
   pub is-out : (a n x : ℕ) → a ≤ x → x < a + n → (x ∈ ms → ⊥) → x ∈ outOf ms a n
-  is-out a zero x p q o = absurd (omega arith)
-  is-out a (suc n) x p q o =
-      let rest : a < x → x ∈ outOf ms (suc a) n = λ r. is-out (suc a) n x r (omega arith) o in
-      ⊎-elim (λ h. subst (List·Memᴰ x) (sym (out-member a n h)) (⊎-elim (λ e. absurd (o (subst (λ (y : ℕ). y ∈ ms) e h))) rest (eq-or-lt-of-le p)))
-      (λ k. subst (List·Memᴰ x) (sym (out-other a n k)) (⊎-elim (λ e. List·Memᴰ·head (sym e)) (λ r. List·Memᴰ·tail (rest r)) (eq-or-lt-of-le p)))
-      (member? a ms)
+  is-out a n x p q o = in-filter isOut (range a n) x (in-range a n x p q) (ap not (not-isIn x ms o))
 
   pub out-different : (a n : ℕ) → Different (outOf ms a n)
-  unfolding outOf
-  out-different a zero = tt
-  out-different a (suc n) =
-      ⊎-elim (λ h. subst Different (sym (out-member a n h)) (out-different (suc a) n))
-      (λ o. subst Different (sym (out-other a n o)) ((λ m. omega (arith, out-is (suc a) n a m .0)), out-different (suc a) n)) (member? a ms)
+  out-different a n = filter-different isOut (range a n) (range-different a n)
 
   pub out-few : (a n : ℕ) → length (outOf ms a n) ≤ n
-  unfolding outOf
-  out-few a zero = omega arith
-  out-few a (suc n) =
-      ⊎-elim (λ h. omega (arith, ap length (out-member a n h), out-few (suc a) n)) (λ o. omega (arith, ap length (out-other a n o), out-few (suc a) n))
-      (member? a ms)
+  out-few a n = omega (arith, filter-length isOut (range a n), length-range a n)

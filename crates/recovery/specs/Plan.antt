@@ -2,10 +2,10 @@
 use Prim.Native.Nat.{ℕ, zero, suc, _+_, _<_, _≤_}
 use mathlib.Core.Path.{_≡_}
 use mathlib.Core.List.{List, [], _∷_, _++_, map, List·Memᴰ}
-use mathlib.Core.Bool.{Bool, true, false, _||_, cond}
+use mathlib.Core.Bool.{Bool, false, not, _||_, cond}
 use lib.Dec.{eqb}
 use lib.ListN.{getD}
-use Rattle.sequences.specs.Sequence.{_∈_}
+use Rattle.sequences.specs.Sequence.{_∈_, range, filter}
 use Rattle.stores.specs.Stores.{Write, write, Plan, refuse, stores}
 use Rattle.layout.specs.declared.Layout.{Layout}
 use Rattle.layout.specs.Words.{firstNode, identAt, opened, afterOpen, ask}
@@ -22,9 +22,8 @@ isIn x [] = false
 isIn x (y ∷ s) = eqb x y || isIn x s
 
 -- of the n cells from a on, those that are no members
-unfoldable pub outOf : List ℕ → ℕ → ℕ → List ℕ
-outOf members a zero = []
-outOf members a (suc n) = elim (isIn a members) [ true ↦ outOf members (suc a) n | false ↦ a ∷ outOf members (suc a) n ]
+abbrev pub outOf : List ℕ → ℕ → ℕ → List ℕ
+outOf members a n = filter (λ c. not (isIn c members)) (range a n)
 
 -- the nodes in no sequence, lowest cell first
 abbrev pub nodesOut : Layout → (ℕ → List ℕ) → List ℕ

@@ -9,7 +9,7 @@ use lib.Dec.{eqb, leb, ltb}
 use borrow.Author.Tests.{lt-ltb, le-ltb, eq-eqb, ne-eqb, leb-true, ltb-true, eqb-true}
 use Rattle.layout.specs.declared.Layout.{Layout}
 use Rattle.layout.specs.declared.Opened.the-variants as O
-use Rattle.layout.specs.Words.{firstNode, cellCount, Node, isNode, InRange, Laid, ask, opened}
+use Rattle.layout.specs.Words.{firstNode, cellCount, Node, isNode, InRange, Laid, ask, opened, isFree}
 use Rattle.layout.proofs.Laws.{opened-open, is-node}
 use Rattle.lists.specs.Decide.{View, sequenceIn, soundIn}
 use Rattle.lists.proofs.Stepwise.{sound-count, sound-same}
@@ -41,15 +41,15 @@ module _ (l : Layout) (c : ℕ) where
 
 -- of n cells from c on, the first free one: c itself, or the first of those after it, or none
 module _ (l : Layout) (ident : ℕ → ℕ) (c n : ℕ) where
-  pub free-here : 0 < n → ident c ≡ 0 → Cell c ≡ firstFree ident (around l c n)
+  pub free-here : 0 < n → isFree (ident c) ≡ true → Cell c ≡ firstFree ident (around l c n)
   unfolding around firstFree
-  free-here h e = let m : n ≡ suc (n - 1) = omega arith in rw (m, eq-eqb _ _ e)
+  free-here h e = let m : n ≡ suc (n - 1) = omega arith in rw (m, e)
 
-  pub free-later : 0 < n → (ident c ≡ 0 → ⊥) → firstFree ident (around l c n) ≡ firstFree ident (around l (nextCell l c) (n - 1))
+  pub free-later : 0 < n → isFree (ident c) ≡ false → firstFree ident (around l c n) ≡ firstFree ident (around l (nextCell l c) (n - 1))
   unfolding around firstFree
   free-later h e =
       let m : n ≡ suc (n - 1) = omega arith in
-      ap (λ (x : ℕ). firstFree ident (around l c x)) m ∙ rw (ne-eqb _ _ e)
+      ap (λ (x : ℕ). firstFree ident (around l c x)) m ∙ rw e
 
   pub free-none : n ≡ 0 → Full ≡ firstFree ident (around l c n)
   unfolding around firstFree

@@ -1,20 +1,21 @@
 -- A turn through all nodes from a cell on: it meets each node once, a turn begun later is the same turn rotated, and the free cells met.
 use Prim.Native.Nat.{ℕ, zero, suc, _+_, _-_, _<_, _≤_}
 use mathlib.Core.Path.{_≡_, refl, ap, _∙_, sym, subst}
-use mathlib.Core.List.{List, [], _∷_, _++_, append-assoc, List·Memᴰ·head, List·Memᴰ·tail, Memᴰ·append-left, Memᴰ·append-right}
+use mathlib.Core.List.{List, [], _∷_, _++_, append-assoc, Memᴰ·append-left, Memᴰ·append-right}
 use mathlib.Core.Bool.{Bool, true, false, cond}
 use native.Mathlib.Decide.{ℕ-discrete, decLe}
 use native.Mathlib.Omega.{arith}
 use native.Mathlib.Numerals.{add-one}
 use lib.Dec.{eqb}
 use lib.ListN.{length, getD, drop, length-append}
-use borrow.Author.Tests.{ne-eqb, eqb-true, eqb-false}
-use Rattle.sequences.specs.Sequence.{_∈_, All, Different, range}
-use Rattle.sequences.proofs.Members.{different-append}
-use Rattle.sequences.proofs.Pigeonhole.{in-range}
+use borrow.Author.Tests.{eq-eqb, ne-eqb, eqb-true, eqb-false}
+use Rattle.sequences.specs.Sequence.{_∈_, All, Different, range, filter}
+use Rattle.sequences.proofs.Members.{all-in, in-all, different-append}
+use Rattle.sequences.proofs.Range.{in-range, range-between, range-different, range-append}
+use Rattle.sequences.proofs.Filter.{filter-in, in-filter, filter-append, filter-none, filter-same}
 use Rattle.layout.specs.declared.Layout.{Layout}
-use Rattle.layout.specs.Words.{firstNode, cellCount, Node}
-use Rattle.lists.specs.Decide.{View, used}
+use Rattle.layout.specs.Words.{firstNode, cellCount, Node, isFree}
+use Rattle.lists.specs.Decide.{View, cellsWith}
 use Rattle.requests.specs.declared.Free.the-variants.{Cell}
 use Rattle.requests.specs.Requests.{nextCell, around, firstFree, freeCells}
 use Rattle.requests.proofs.Laws.{next-wraps, next-follows}
@@ -82,18 +83,6 @@ around-nodes l c (suc n) h = (h, around-nodes l (nextCell l c) n (by (eqb (c + 1
         let q : c + 1 < cellCount l = omega (arith, h .high, eqb-false (c + 1) (cellCount l) e) in
         subst (Node l) (sym (next-up l c q)) (record { low = omega (arith, h .low); high = omega arith })
 
--- a range has only the numbers between its ends, and each once
-range-between : (a n x : ℕ) → x ∈ range a n → (a ≤ x) × (x < a + n)
-unfolding range
-range-between a zero x m = absurd (elim m [ ])
-range-between a (suc n) x (List·Memᴰ·head e) = (omega arith, omega arith)
-range-between a (suc n) x (List·Memᴰ·tail m) = let r = range-between (suc a) n x m in (omega (arith, r .0), omega (arith, r .1))
-
-range-different : (a n : ℕ) → Different (range a n)
-unfolding range
-range-different a zero = tt
-range-different a (suc n) = ((λ m. omega (arith, range-between (suc a) n a m .0)), range-different (suc a) n)
-
 -- so a turn meets each node once
 pub around-different : (l : Layout) (c : ℕ) → Node l c → Different (around l c (l .nodes))
 around-different l c h =
@@ -105,10 +94,9 @@ around-different l c h =
 -- the last number of a range
 range-last : (a n : ℕ) → range a (suc n) ≡ range a n ++ (a + n) ∷ []
 unfolding range
-range-last a zero = let e : a ≡ a + 0 = omega arith in ap (λ (x : ℕ). x ∷ []) e
-range-last a (suc n) =
-    let e : suc a + n ≡ a + suc n = omega arith in
-    ap (λ (t : List ℕ). a ∷ t) (range-last (suc a) n ∙ ap (λ (x : ℕ). range (suc a) n ++ x ∷ []) e)
+range-last a n =
+    let e : suc n ≡ n + 1 = omega arith in
+    ap (range a) e ∙ range-append a n 1
 
 -- a turn begun one cell later
 around-next : (l : Layout) (c y : ℕ) (t : List ℕ) → Node l c → around l c (l .nodes) ≡ y ∷ t
@@ -177,56 +165,22 @@ around-behind l c (y ∷ passed) x rest h e =
 
 -- the free cells among some: free, and of these
 module _ (ident : ℕ → ℕ) where
+  abbrev free : ℕ → Bool
+  free c = isFree (ident c)
+
   pub free-in : (cs : List ℕ) (x : ℕ) → x ∈ freeCells ident cs → (x ∈ cs) × (ident x ≡ 0)
-  unfolding freeCells
-  free-in [] x m = absurd (elim m [ ])
-  free-in (c ∷ cs) x m = by (eqb (ident c) 0) refl (λ q. free-in cs x q) m
-    where
-      by : (b : Bool) → eqb (ident c) 0 ≡ b → (x ∈ freeCells ident cs → (x ∈ cs) × (ident x ≡ 0))
-          → x ∈ cond b (c ∷ freeCells ident cs) (freeCells ident cs) → (x ∈ (c ∷ cs)) × (ident x ≡ 0)
-      by true q below (List·Memᴰ·head e) = (List·Memᴰ·head e, ap ident e ∙ eqb-true _ _ q)
-      by true q below (List·Memᴰ·tail m) = let r = below m in (List·Memᴰ·tail (r .0), r .1)
-      by false q below m = let r = below m in (List·Memᴰ·tail (r .0), r .1)
+  free-in cs x m = let r = filter-in free cs x m in (r .0, eqb-true (ident x) 0 (r .1))
 
   pub in-free : (cs : List ℕ) (x : ℕ) → x ∈ cs → ident x ≡ 0 → x ∈ freeCells ident cs
-  unfolding freeCells
-  in-free [] x m z = absurd (elim m [ ])
-  in-free (c ∷ cs) x m z = by (eqb (ident c) 0) refl (λ q. in-free cs x q z) m
-    where
-      by : (b : Bool) → eqb (ident c) 0 ≡ b → (x ∈ cs → x ∈ freeCells ident cs) → x ∈ (c ∷ cs)
-          → x ∈ cond b (c ∷ freeCells ident cs) (freeCells ident cs)
-      by true q below (List·Memᴰ·head e) = List·Memᴰ·head e
-      by true q below (List·Memᴰ·tail m) = List·Memᴰ·tail (below m)
-      by false q below (List·Memᴰ·head e) = absurd (eqb-false _ _ q (ap ident (sym e) ∙ z))
-      by false q below (List·Memᴰ·tail m) = below m
-
-  pub free-different : (cs : List ℕ) → Different cs → Different (freeCells ident cs)
-  unfolding freeCells
-  free-different [] d = tt
-  free-different (c ∷ cs) d = by (eqb (ident c) 0) (free-different cs (d .1))
-    where
-      by : (b : Bool) → Different (freeCells ident cs) → Different (cond b (c ∷ freeCells ident cs) (freeCells ident cs))
-      by true h = ((λ m. d .0 (free-in cs c m .0)), h)
-      by false h = h
-
-  pub free-append : (cs ds : List ℕ) → freeCells ident (cs ++ ds) ≡ freeCells ident cs ++ freeCells ident ds
-  unfolding freeCells
-  free-append [] ds = refl
-  free-append (c ∷ cs) ds = by (eqb (ident c) 0) (free-append cs ds)
-    where
-      by : (b : Bool) → freeCells ident (cs ++ ds) ≡ freeCells ident cs ++ freeCells ident ds
-          → cond b (c ∷ freeCells ident (cs ++ ds)) (freeCells ident (cs ++ ds)) ≡ cond b (c ∷ freeCells ident cs) (freeCells ident cs) ++ freeCells ident ds
-      by true e = ap (λ (t : List ℕ). c ∷ t) e
-      by false e = e
+  in-free cs x m z = in-filter free cs x m (eq-eqb (ident x) 0 z)
 
   pub free-taken : (cs : List ℕ) → All (λ c. ident c ≡ 0 → ⊥) cs → freeCells ident cs ≡ []
-  unfolding freeCells
-  free-taken [] h = refl
-  free-taken (c ∷ cs) h = rw (ne-eqb (ident c) 0 (h .0)) (free-taken cs (h .1))
+  free-taken cs h =
+      filter-none free cs (in-all (λ c. free c ≡ false) cs (λ c m. ne-eqb (ident c) 0 (all-in (λ c. ident c ≡ 0 → ⊥) cs h m)))
 
   -- the first of them is the one that the search finds
   pub free-first : (cs : List ℕ) (x : ℕ) (xs : List ℕ) → freeCells ident cs ≡ x ∷ xs → firstFree ident cs ≡ Cell x
-  unfolding freeCells firstFree
+  unfolding filter firstFree
   free-first [] x xs e = absurd (omega (arith, ap length e))
   free-first (c ∷ cs) x xs e = by (eqb (ident c) 0) (λ q. free-first cs x xs q) e
     where
@@ -236,7 +190,7 @@ module _ (ident : ℕ → ℕ) where
       by false below e = below e
 
   pub free-found : (cs : List ℕ) (x : ℕ) → firstFree ident cs ≡ Cell x → freeCells ident cs ≡ x ∷ drop 1 (freeCells ident cs)
-  unfolding freeCells firstFree
+  unfolding filter firstFree
   free-found [] x e = let z : _≡_ {A = ℕ} 0 1 = cc in absurd (omega arith)
   free-found (c ∷ cs) x e = by (eqb (ident c) 0) (λ q. free-found cs x q) e
     where
@@ -248,40 +202,18 @@ module _ (ident : ℕ → ℕ) where
 
 -- identifiers that are the same there
 pub free-same : (ident ident′ : ℕ → ℕ) (cs : List ℕ) → All (λ c. ident′ c ≡ ident c) cs → freeCells ident′ cs ≡ freeCells ident cs
-unfolding freeCells
-free-same ident ident′ [] h = refl
-free-same ident ident′ (c ∷ cs) h = rw (h .0, free-same ident ident′ cs (h .1))
+free-same ident ident′ cs h =
+    filter-same (free ident) (free ident′) cs
+    (in-all (λ c. free ident′ c ≡ free ident c) cs (λ c m. ap isFree (all-in (λ c. ident′ c ≡ ident c) cs h m)))
 
--- as many nodes are free as have no identifier
-range-free : (v : View) (a n : ℕ) → length (freeCells (v .ident) (range a n)) + length (used v a n) ≡ n
-unfolding freeCells used range
-range-free v a zero = refl
-range-free v a (suc n) = by (eqb (v .ident a) 0) (range-free v (suc a) n)
-  where
-    by : (b : Bool) → length (freeCells (v .ident) (range (suc a) n)) + length (used v (suc a) n) ≡ n
-        → length (cond b (a ∷ freeCells (v .ident) (range (suc a) n)) (freeCells (v .ident) (range (suc a) n)))
-        + length {A = ℕ} (elim b [ true ↦ used v (suc a) n | false ↦ a ∷ used v (suc a) n ])
-        ≡ suc n
-    by true e = omega arith
-    by false e = omega arith
-
-range-append : (a m n : ℕ) → range a (m + n) ≡ range a m ++ range (a + m) n
-unfolding range
-range-append a zero n =
-    let e : 0 + n ≡ n = omega arith in
-    let f : a ≡ a + 0 = omega arith in
-    ap (range a) e ∙ ap (λ (x : ℕ). range x n) f
-range-append a (suc m) n =
-    let e : suc m + n ≡ suc (m + n) = omega arith in
-    let f : suc a + m ≡ a + suc m = omega arith in
-    ap (range a) e ∙ ap (λ (t : List ℕ). a ∷ t) (range-append (suc a) m n ∙ ap (λ (x : ℕ). range (suc a) m ++ range x n) f)
-
+-- a turn meets as many free cells as there are free nodes
 pub free-count
     : (l : Layout) (v : View) (c : ℕ) → Node l c
-    → length (freeCells (v .ident) (around l c (l .nodes))) + length (used v (firstNode l) (l .nodes)) ≡ l .nodes
+    → length (freeCells (v .ident) (around l c (l .nodes))) ≡ length (cellsWith isFree v (firstNode l) (l .nodes))
 free-count l v c h =
     let up = range c (cellCount l - c) in
     let low = range (firstNode l) (c - firstNode l) in
+    let test : ℕ → Bool = λ x. isFree (v .ident x) in
     let n : c - firstNode l + (cellCount l - c) ≡ l .nodes = omega (arith, h .low, h .high) in
     let f : firstNode l + (c - firstNode l) ≡ c = omega (arith, h .low) in
     let all : range (firstNode l) (l .nodes) ≡ low ++ up =
@@ -289,11 +221,10 @@ free-count l v c h =
     ∙ ap (λ (x : ℕ). low ++ range x (cellCount l - c)) f in
     omega (
       arith,
-      ap (λ (s : List ℕ). length (freeCells (v .ident) s)) (around-turned l c h),
-      ap length (free-append (v .ident) up low),
-      length-append (freeCells (v .ident) up) (freeCells (v .ident) low),
-      ap (λ (s : List ℕ). length (freeCells (v .ident) s)) all,
-      ap length (free-append (v .ident) low up),
-      length-append (freeCells (v .ident) low) (freeCells (v .ident) up),
-      range-free v (firstNode l) (l .nodes),
+      ap (λ (s : List ℕ). length (filter test s)) (around-turned l c h),
+      ap length (filter-append test up low),
+      length-append (filter test up) (filter test low),
+      ap (λ (s : List ℕ). length (filter test s)) all,
+      ap length (filter-append test low up),
+      length-append (filter test low) (filter test up),
     )

@@ -4,8 +4,9 @@ use mathlib.Core.List.{List, [], _∷_, _++_}
 use mathlib.Core.Bool.{cond, _&&_}
 use lib.Dec.{eqb, leb, ltb}
 use lib.ListN.{length, getD}
+use Rattle.sequences.specs.Sequence.{filter}
 use Rattle.layout.specs.declared.Layout.{Layout}
-use Rattle.layout.specs.Words.{ask, firstNode, cellCount, isNode, opened, afterOpen}
+use Rattle.layout.specs.Words.{ask, firstNode, cellCount, isNode, isFree, opened, afterOpen}
 use Rattle.lists.specs.Decide.{View, viewOf, countIn, sequenceIn, soundIn}
 use Rattle.requests.specs.declared.Free.{Free}
 use Rattle.requests.specs.declared.Free.the-variants.{Cell, Full}
@@ -28,16 +29,15 @@ around l c (suc n) = c ∷ around l (nextCell l c) n
 -- "the first free cell met": a node is free if its identifier is 0
 unfoldable pub firstFree : (ℕ → ℕ) → List ℕ → Free
 firstFree ident [] = Full
-firstFree ident (c ∷ cs) = cond (eqb (ident c) 0) (Cell c) (firstFree ident cs)
+firstFree ident (c ∷ cs) = cond (isFree (ident c)) (Cell c) (firstFree ident cs)
 
 abbrev pub withFree {ℓ} : {A : Type ℓ} → Free → A → (ℕ → A) → A
 withFree Full refusal rest = refusal
 withFree (Cell c) refusal rest = rest c
 
 -- of these cells, those that are free, in order
-unfoldable pub freeCells : (ℕ → ℕ) → List ℕ → List ℕ
-freeCells ident [] = []
-freeCells ident (c ∷ cs) = cond (eqb (ident c) 0) (c ∷ freeCells ident cs) (freeCells ident cs)
+abbrev pub freeCells : (ℕ → ℕ) → List ℕ → List ℕ
+freeCells ident = filter (λ c. isFree (ident c))
 
 -- question 7 of read and delete: the member of list k at position p, with the cells before and after it
 unfoldable pub memberAt : ℕ → ℕ → List ℕ → Sited

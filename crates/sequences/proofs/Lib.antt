@@ -1,5 +1,7 @@
 pub mod Members
 pub mod Pigeonhole
+pub mod Range
+pub mod Filter
 pub mod Steps
 pub mod Trail
 pub mod Splice

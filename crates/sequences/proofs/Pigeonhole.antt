@@ -5,7 +5,7 @@ use mathlib.Core.List.{List, [], _∷_, List·Memᴰ·head, List·Memᴰ·tail}
 use native.Mathlib.Decide.{ℕ-discrete}
 use native.Mathlib.Omega.{arith}
 use lib.ListN.{length}
-use Rattle.sequences.specs.Sequence.{_∈_, Different, range}
+use Rattle.sequences.specs.Sequence.{_∈_, Different}
 
 -- t without its first x
 without : ℕ → List ℕ → List ℕ
@@ -46,18 +46,3 @@ pigeonhole-less s t y d h m n = pigeonhole (y ∷ s) t (n, d) (λ x q. cases x q
     cases : (x : ℕ) → x ∈ (y ∷ s) → x ∈ t
     cases x (List·Memᴰ·head e) = subst (λ (z : ℕ). z ∈ t) (sym e) m
     cases x (List·Memᴰ·tail q) = h x q
-
--- a range has the numbers between its ends, as many as it says
-pub length-range : (a n : ℕ) → length (range a n) ≡ n
-unfolding range
-length-range a zero = refl
-length-range a (suc n) = ap suc (length-range (suc a) n)
-
-pub in-range : (a n x : ℕ) → a ≤ x → x < a + n → x ∈ range a n
-unfolding range
-in-range a zero x h k = absurd (omega arith)
-in-range a (suc n) x h k = by (λ p q. in-range (suc a) n x p q) (ℕ-discrete x a)
-  where
-    by : (suc a ≤ x → x < suc a + n → x ∈ range (suc a) n) → Dec (x ≡ a) → x ∈ (a ∷ range (suc a) n)
-    by below (yes e) = List·Memᴰ·head e
-    by below (no q) = List·Memᴰ·tail (below (omega arith) (omega arith))

@@ -2,7 +2,7 @@
 use Prim.Native.Nat.{ℕ, zero, suc}
 use mathlib.Core.Path.{_≡_}
 use mathlib.Core.List.{List, [], _∷_, List·Memᴰ}
-use mathlib.Core.Bool.{Bool, true, false}
+use mathlib.Core.Bool.{Bool, true, false, cond}
 
 -- x is a member of s
 abbrev pub _∈_ : ℕ → List ℕ → Type 0
@@ -51,6 +51,11 @@ follow link (suc n) c = follow link n (link c)
 unfoldable pub range : ℕ → ℕ → List ℕ
 range a zero = []
 range a (suc n) = a ∷ range (suc a) n
+
+-- the members that pass the test, in order
+unfoldable pub filter : (ℕ → Bool) → List ℕ → List ℕ
+filter test [] = []
+filter test (x ∷ s) = cond (test x) (x ∷ filter test s) (filter test s)
 
 -- the cell in front of what follows x and s, and the first cell of s and z
 abbrev pub lastOf : ℕ → List ℕ → ℕ

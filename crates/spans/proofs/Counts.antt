@@ -1,63 +1,90 @@
--- The nodes in use, counted one by one, and the sum of the counts in place of the number of members.
+-- Nodes counted one by one, by their identifiers, and the sum of the counts in place of the number of members.
 use Prim.Native.Nat.{ℕ, zero, suc, _+_, _-_, _≤_, _<_}
 use mathlib.Core.Path.{_≡_, refl, ap, _∙_, sym}
+use mathlib.Core.List.{_∷_}
 use mathlib.Core.Bool.{Bool, true, false, cond, and-eq-true-iff, true≢false}
 use native.Mathlib.Omega.{arith}
 use native.Mathlib.Numerals.{add-one}
 use lib.Dec.{eqb}
 use lib.ListN.{length, length-append}
 use borrow.Author.Tests.{eq-eqb, eqb-true}
+use Rattle.sequences.specs.Sequence.{range, filter}
 use Rattle.layout.specs.declared.Layout.{Layout}
-use Rattle.layout.specs.Words.{firstNode}
-use Rattle.lists.specs.Decide.{View, sequenceIn, holds, allHold, members, used, soundIn}
+use Rattle.layout.specs.Words.{firstNode, isFree, inUse}
+use Rattle.lists.specs.Decide.{View, sequenceIn, holds, allHold, members, cellsWith, used, soundIn}
 use Rattle.lists.proofs.Agree.{holds-true}
-use Rattle.lists.proofs.Stepwise.{used-none, used-length, all-hold-more, sound-by, sound-hold}
-use Rattle.spans.specs.Spans.{Held, countSum, Decides}
+use Rattle.lists.proofs.Decided.{cells-few}
+use Rattle.lists.proofs.Stepwise.{all-hold-more, sound-by, sound-hold}
+use Rattle.spans.specs.declared.Tally.{Tally}
+use Rattle.spans.specs.Spans.{tallyOf, tallied, Held, countSum, Decides}
 
--- 1 for a cell in use, 0 for any other
-abbrev pub oneIn : View → ℕ → ℕ
-oneIn v a = cond (eqb (v .ident a) 0) 0 1
+-- 1 for a cell whose identifier passes the test, 0 for any other
+abbrev oneIn : (ℕ → Bool) → View → ℕ → ℕ
+oneIn test v a = cond (test (v .ident a)) 1 0
 
-pub one-small : (b : Bool) → cond b 0 1 ≤ 1
-one-small true = omega arith
-one-small false = omega arith
-
-used-next : (v : View) (a n : ℕ) → length (used v a (suc n)) ≡ oneIn v a + length (used v (suc a) n)
-unfolding used
-used-next v a n = by (eqb (v .ident a) 0) refl
-  where
-    by : (b : Bool) → eqb (v .ident a) 0 ≡ b → length (used v a (suc n)) ≡ oneIn v a + length (used v (suc a) n)
-    by true e = rw (used, e) (omega arith)
-    by false e = rw (used, e) (omega arith)
-
--- n of the first i nodes are in use
-pub record Counting (l : Layout) (v : View) (i n : ℕ) : Type 0 where
+-- n of the first i nodes pass
+pub record Counting (test : ℕ → Bool) (l : Layout) (v : View) (i n : ℕ) : Type 0 where
   pub few : i ≤ l .nodes
-  pub sum : n + length (used v (firstNode l + i) (l .nodes - i)) ≡ length (used v (firstNode l) (l .nodes))
+  pub sum : n + length (cellsWith test v (firstNode l + i) (l .nodes - i)) ≡ length (cellsWith test v (firstNode l) (l .nodes))
 
-module _ (l : Layout) (v : View) where
-  pub counting-first : Counting l v 0 0
+module _ (test : ℕ → Bool) (l : Layout) (v : View) where
+  next-cell : (a n : ℕ) → length (cellsWith test v a (suc n)) ≡ oneIn test v a + length (cellsWith test v (suc a) n)
+  unfolding range filter
+  next-cell a n = by (test (v .ident a))
+    where
+      by : (b : Bool)
+          → length (cond b (a ∷ cellsWith test v (suc a) n) (cellsWith test v (suc a) n)) ≡ cond b 1 0 + length (cellsWith test v (suc a) n)
+      by true = omega arith
+      by false = omega arith
+
+  counting-first : Counting test l v 0 0
   counting-first =
       let a : firstNode l + 0 ≡ firstNode l = omega arith in
       let b : l .nodes - 0 ≡ l .nodes = omega arith in
       record { few = omega arith; sum = rw (a, b) (omega arith) }
 
-  pub counting-next : (i n : ℕ) → Counting l v i n → i < l .nodes → Counting l v (i + 1) (n + oneIn v (firstNode l + i))
+  counting-next : (i n : ℕ) → Counting test l v i n → i < l .nodes → Counting test l v (i + 1) (n + oneIn test v (firstNode l + i))
   counting-next i n c h =
       let a : l .nodes - i ≡ suc (l .nodes - (i + 1)) = omega arith in
       let b : suc (firstNode l + i) ≡ firstNode l + (i + 1) = omega arith in
-      let q : length (used v (firstNode l + i) (l .nodes - i)) ≡ oneIn v (firstNode l + i) + length (used v (firstNode l + (i + 1)) (l .nodes - (i + 1))) =
-      rw (a, used-next, b) in
+      let q : length (cellsWith test v (firstNode l + i) (l .nodes - i)) ≡ oneIn test v (firstNode l + i) + length (cellsWith test v (firstNode l + (i + 1)) (l .nodes - (i + 1))) =
+      ap (λ (m : ℕ). length (cellsWith test v (firstNode l + i) m)) a
+      ∙ next-cell (firstNode l + i) (l .nodes - (i + 1))
+      ∙ ap (λ (d : ℕ). oneIn test v (firstNode l + i) + length (cellsWith test v d (l .nodes - (i + 1)))) b in
       record { few = omega arith; sum = omega (arith, c .sum) }
 
-  pub counting-few : (i n : ℕ) → Counting l v i n → n ≤ l .nodes
-  counting-few i n c = omega (arith, c .sum, used-length v (firstNode l) (l .nodes))
+  counting-few : (i n : ℕ) → Counting test l v i n → n ≤ l .nodes
+  counting-few i n c = omega (arith, c .sum, cells-few test v (firstNode l) (l .nodes))
 
-  pub counting-done : (i n : ℕ) → Counting l v i n → l .nodes ≤ i → n ≡ length (used v (firstNode l) (l .nodes))
+  counting-done : (i n : ℕ) → Counting test l v i n → l .nodes ≤ i → n ≡ length (cellsWith test v (firstNode l) (l .nodes))
   counting-done i n c h =
       let z : l .nodes - i ≡ 0 = omega arith in
-      let e : length (used v (firstNode l + i) (l .nodes - i)) ≡ 0 = rw (z, used-none) in
-      omega (arith, c .sum)
+      omega (arith, c .sum, cells-few test v (firstNode l + i) (l .nodes - i))
+
+pub one-small : (b : Bool) → cond b 1 0 ≤ 1
+one-small true = omega arith
+one-small false = omega arith
+
+-- the tally of the first i nodes
+pub record Tallying (l : Layout) (v : View) (i : ℕ) (t : Tally) : Type 0 where
+  pub free : Counting isFree l v i (t .free)
+  pub used : Counting inUse l v i (t .used)
+
+module _ (l : Layout) (v : View) where
+  pub tallying-first : Tallying l v 0 (record { free = 0; used = 0 })
+  tallying-first = record { free = counting-first isFree l v; used = counting-first inUse l v }
+
+  pub tallying-next : (i : ℕ) (t : Tally) → Tallying l v i t → i < l .nodes → Tallying l v (i + 1) (tallied t (v .ident (firstNode l + i)))
+  tallying-next i t c h =
+      record { free = counting-next isFree l v i (t .free) (c .free) h; used = counting-next inUse l v i (t .used) (c .used) h }
+
+  pub tallying-few : (i : ℕ) (t : Tally) → Tallying l v i t → (t .free ≤ l .nodes) × (t .used ≤ l .nodes)
+  tallying-few i t c = (counting-few isFree l v i (t .free) (c .free), counting-few inUse l v i (t .used) (c .used))
+
+  pub tallying-done : (i : ℕ) (t : Tally) → Tallying l v i t → l .nodes ≤ i → t ≡ tallyOf v (firstNode l) (l .nodes)
+  tallying-done i t c h =
+      λ j.
+      record { free = counting-done isFree l v i (t .free) (c .free) h j; used = counting-done inUse l v i (t .used) (c .used) h j }
 
 -- the sum of no counts, and of one count more
 pub sum-none : (count : ℕ → ℕ) → 0 ≡ countSum count 0

@@ -2,14 +2,15 @@
 use Prim.Native.Nat.{ℕ, zero, suc, _+_, _*_, _-_}
 use mathlib.Core.Path.{_≡_}
 use mathlib.Core.List.{List}
-use mathlib.Core.Bool.{Bool, true}
+use mathlib.Core.Bool.{Bool, true, cond}
 use lib.ListN.{length, getD}
 use Rattle.sequences.specs.Sequence.{All, Forward, Backward}
 use Rattle.layout.specs.declared.Layout.{Layout}
-use Rattle.layout.specs.Words.{firstNode, cellCount, isNode, nodeWords, nodesAt, forwardWord, backWord, identOf}
-use Rattle.lists.specs.Decide.{View, sequenceIn, holds}
+use Rattle.layout.specs.Words.{firstNode, cellCount, isNode, nodeWords, nodesAt, forwardWord, backWord, identOf, isFree, inUse}
+use Rattle.lists.specs.Decide.{View, sequenceIn, holds, cellsWith, used}
 use Rattle.spans.specs.declared.Grid.{Grid}
 use Rattle.spans.specs.declared.Cell.{Cell}
+use Rattle.spans.specs.declared.Tally.{Tally}
 use Rattle.spans.specs.declared.Span.{Span}
 use Rattle.spans.specs.declared.Round.{Round}
 use Rattle.spans.specs.declared.Round.the-variants.{Inner, Broken}
@@ -21,6 +22,14 @@ pub record Gridded (l : Layout) (g : Grid) : Type 0 where
   pub low : g .low ≡ nodeWords l * firstNode l
   pub from : g .from ≡ firstNode l
   pub to : g .to ≡ cellCount l
+
+-- how many of the n cells from a on are free, and how many are in use
+abbrev pub tallyOf : View → ℕ → ℕ → Tally
+tallyOf v a n = record { free = length (cellsWith isFree v a n); used = length (used v a n) }
+
+-- a tally with one node more, which has the identifier x
+abbrev pub tallied : Tally → ℕ → Tally
+tallied t x = record { free = t .free + cond (isFree x) 1 0; used = t .used + cond (inUse x) 1 0 }
 
 -- r says whether P
 pub record Decides (r : Bool) (P : Type 0) : Type 0 where

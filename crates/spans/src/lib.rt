@@ -1,11 +1,12 @@
 // A list walked from both ends at once. What the two walks have yet to meet is a span: so many cells between two cells. A round
-// takes its first and its last cell away, if they are right; in the middle nothing is left, or one cell. What stands here is what
-// the walks in lent words and in lent bytes share: they differ only in how they read a cell.
+// takes its first and its last cell away, if they are right; in the middle nothing is left, or one cell. The nodes are tallied by
+// their identifiers. What stands here is what the walks in lent words and in lent bytes share: they differ only in how they read a cell.
 use layout::Layout;
 ghost use mathlib.Core.Path.{_≡_};
-ghost use Prim.Native.Nat.{_<_};
-ghost use Rattle.layout.specs.Words.{mostLists, InRange, Node, isNode, cellAt};
-ghost use Rattle.spans.specs.Spans.{Gridded, wholeSpan, narrowed, Closed, Single, Decides};
+ghost use Prim.Native.Nat.{_<_, _≤_};
+ghost use mathlib.Core.Bool.{cond};
+ghost use Rattle.layout.specs.Words.{mostLists, mostNodes, InRange, Node, isNode, cellAt};
+ghost use Rattle.spans.specs.Spans.{Gridded, tallied, wholeSpan, narrowed, Closed, Single, Decides};
 
 // What the address of a node is computed from: node y begins at word first + step * y - low.
 pub struct Grid {
@@ -36,6 +37,31 @@ pub struct Span {
 pub enum Round {
     Inner(Span),
     Broken,
+}
+
+// How many nodes are free, and how many are in use.
+pub struct Tally {
+    pub free: u32,
+    pub used: u32,
+}
+
+// 1 for yes, 0 for no.
+fn one(yes: bool) -> u32
+    ensures { λ r. ⌜ r ≡ cond yes 1 0 ⌝ }
+{
+    if yes { 1 } else { 0 }
+}
+
+impl Tally {
+    // The tally with one node more, which has this identifier.
+    pub fn with(self, ident: u16) -> Self
+        requires { ⌜ (self .free ≤ mostNodes) × (self .used ≤ mostNodes) ⌝ }
+        ensures { λ r. ⌜ r ≡ tallied self ident ⌝ }
+    {
+        let free = self.free + one(Layout::is_free(ident));
+        let used = self.used + one(Layout::in_use(ident));
+        Self { free, used }
+    }
 }
 
 impl Grid {

@@ -131,7 +131,7 @@ fn step(words: &mut [u16], l: Layout, i: u16)
     words[l.node(i)] = 0;
 }
 
-// Clears each node that has an entry, lowest cell first, up to the allowance.
+// Clears each node whose entry says in use, lowest cell first, up to the allowance.
 pub fn clear(
     words: &mut [u16],
     idents: &[u16; Layout::MAX_CELLS],
@@ -146,7 +146,7 @@ pub fn clear(
     let mut i = l.first_node();
     let end = l.cell_count();
     while i < end {
-        if idents[i as usize] != 0 {
+        if Layout::in_use(idents[i as usize]) {
             if n == allowance {
                 return Answer::Stopped(n);
             }

@@ -64,7 +64,7 @@ pub fn recover_in(words: &mut [u16], l: Layout, allowance: u16) -> Answer
     ensures words { λ _. ⌜ now (words .exit) ≡ wordsAfter (recoverOf l (now (words .entry))) allowance (now (words .entry)) ⌝ }
 {
     let g = Grid::of(l);
-    let used = word_walks::used_in(words, l, g);
+    let used = word_walks::tally(words, l, g).used;
     let found = word_mends::all_mends(words, l, g);
     if found.refusal != 0 {
         return Answer::Refused(found.refusal);

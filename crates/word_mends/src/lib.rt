@@ -15,7 +15,7 @@ ghost use Rattle.spans.specs.Spans.{Gridded};
 ghost use Rattle.fitting.specs.Fitting.{fitIn, carries, FaultFits};
 ghost use Rattle.mending.specs.Mending.{MendsOf};
 
-// Is the wrong word no identifier that holds 0?
+// Is the wrong word no identifier, or one that says in use?
 fn carried(words: &[u16], l: Layout, g: Grid, f: Faults) -> bool
     requires { ⌜ Gridded l g × Laid l (now words) × FaultFits l f ⌝ }
     ensures { λ r. ⌜ r ≡ carries (viewOf l (now (words .entry)) .ident) f ⌝ }
@@ -23,7 +23,8 @@ fn carried(words: &[u16], l: Layout, g: Grid, f: Faults) -> bool
     match f {
         Faults::None => true,
         Faults::One(c, w, _) => {
-            w as usize != Layout::IDENTIFIER || word_walks::cell(words, l, g, c as usize).ident != 0
+            w as usize != Layout::IDENTIFIER
+                || Layout::in_use(word_walks::cell(words, l, g, c as usize).ident)
         }
         Faults::Many => true,
     }

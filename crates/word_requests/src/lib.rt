@@ -42,7 +42,7 @@ fn free_cell(words: &[u16], l: Layout, g: Grid, start: u16, n: u16) -> Free
     let mut c = start;
     let mut rest = n;
     while 0 < rest {
-        if word_walks::node(words, l, g, c as usize).ident == 0 {
+        if Layout::is_free(word_walks::node(words, l, g, c as usize).ident) {
             return Free::Cell(c);
         }
         c = requests::next_cell(l, c);
@@ -98,7 +98,7 @@ fn gaps(words: &[u16], l: Layout, g: Grid, k: u16, n: u16, p: u16, start: u16, s
     if refusal != 0 {
         return Sited::Refused(refusal);
     }
-    let free = l.nodes as usize - word_walks::used_in(words, l, g) as usize;
+    let free = word_walks::tally(words, l, g).free as usize;
     let width = l.width as usize;
     if free < size / width {
         return Sited::Refused(10);

@@ -6,14 +6,13 @@ use spans::Cell;
 use spans::Grid;
 use spans::Round;
 use spans::Span;
+use spans::Tally;
 ghost use mathlib.Core.Path.{_≡_};
 ghost use Prim.Native.Nat.{_+_, _≤_, _<_};
-ghost use mathlib.Core.Bool.{cond};
-ghost use lib.Dec.{eqb};
 ghost use lib.ListN.{length, getD};
 ghost use Rattle.layout.specs.Words.{Laid, Node, firstNode, cellCount, linkWords, identOf};
-ghost use Rattle.lists.specs.Decide.{viewOf, countIn, used, soundOf};
-ghost use Rattle.spans.specs.Spans.{Gridded, Decides, Held, countSum, cellOf, cellIn, wholeSpan, Spanned, Led, rounded};
+ghost use Rattle.lists.specs.Decide.{viewOf, countIn, soundOf};
+ghost use Rattle.spans.specs.Spans.{Gridded, tallyOf, Decides, Held, countSum, cellOf, cellIn, wholeSpan, Spanned, Led, rounded};
 
 // The word at a.
 fn word(words: &[u16], a: usize) -> u16
@@ -197,28 +196,20 @@ pub fn two_hold(words: &[u16], l: Layout, g: Grid, k: u16, j: u16) -> bool
     both_spanned(words, l, g, k, s, j, t)
 }
 
-// 1 where the word at a is not 0.
-fn one(words: &[u16], a: usize) -> u32
-    requires { ⌜ a < length (now words) ⌝ }
-    ensures { λ r. ⌜ r ≡ cond (eqb (getD (now (words .entry)) a 0) 0) 0 1 ⌝ }
-{
-    if word(words, a) != 0 { 1 } else { 0 }
-}
-
-// The number of nodes whose identifier is not 0.
-pub fn used_in(words: &[u16], l: Layout, g: Grid) -> u32
+// How many nodes are free, and how many are in use.
+pub fn tally(words: &[u16], l: Layout, g: Grid) -> Tally
     requires { ⌜ Gridded l g × Laid l (now words) ⌝ }
-    ensures { λ r. ⌜ r ≡ length (used (viewOf l (now (words .entry))) (firstNode l) (l .nodes)) ⌝ }
+    ensures { λ r. ⌜ r ≡ tallyOf (viewOf l (now (words .entry))) (firstNode l) (l .nodes) ⌝ }
 {
     let mut a = g.first;
-    let mut n: u32 = 0;
+    let mut t = Tally { free: 0, used: 0 };
     let mut i: u16 = 0;
     while i < l.nodes {
-        n += one(words, a);
+        t = t.with(word(words, a));
         a += g.step;
         i += 1;
     }
-    n
+    t
 }
 
 // The sum of the counts, whatever they are.
@@ -241,7 +232,7 @@ pub fn sound_in(words: &[u16], l: Layout) -> bool
     ensures { λ r. ⌜ r ≡ soundOf l (now (words .entry)) ⌝ }
 {
     let g = Grid::of(l);
-    if used_in(words, l, g) != counted(words, l) {
+    if tally(words, l, g).used != counted(words, l) {
         return false;
     }
     let mut k: u16 = 0;

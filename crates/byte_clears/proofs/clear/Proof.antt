@@ -49,30 +49,33 @@ loop-holds c =
       refl,
     )
 
-cast-if1 : tie.Need-cast-if1 Inv-loop μ-loop
-cast-if1 c = omega arith
+cast-in-use : tie.Need-cast-in-use Inv-loop μ-loop
+cast-in-use c = omega arith
 
-mul-if1 : tie.Need-mul-if1 Inv-loop μ-loop
-mul-if1 c = omega arith
+mul-in-use : tie.Need-mul-in-use Inv-loop μ-loop
+mul-in-use c = omega arith
 
-element-copy-out-if1 : tie.Need-element-copy-out-if1 Inv-loop μ-loop
-element-copy-out-if1 c = omega arith
+element-copy-out-in-use : tie.Need-element-copy-out-in-use Inv-loop μ-loop
+element-copy-out-in-use c = omega arith
+
+in-use-requires : tie.Need-in-use-requires Inv-loop μ-loop
+in-use-requires c κs = tt
 
 same-length : tie.Need-same-length Inv-loop μ-loop
-same-length c = c .before .before .before .before .loop .inv .6
+same-length c = c .before .before .before .before .before .loop .inv .6
 
 returns : tie.Need-returns Inv-loop μ-loop
 returns c =
-    let t = c .before .before .before .before in
+    let t = c .before .before .before .before .before in
     let s = start t in
-    let p = clearing-one (s .args .l) (s .args .idents .now) (t .loop .n) (t .loop .i) (t .loop .inv .4) (omega arith) (c .before .if1 .taken) in (
+    let p = clearing-one (s .args .l) (s .args .idents .now) (t .loop .n) (t .loop .i) (t .loop .inv .4) (omega arith) (sym (c .before .before .in-use .ensures) ∙ c .before .if1 .taken) in (
       ap A.Stopped (c .if2 .taken) ∙ answer-stopped (all s) (s .args .allowance) (omega (arith, p .0, c .if2 .taken)),
       t .loop .inv .5 ∙ ap (λ (m : ℕ). appliedBytes (all s) m (s .args .bytes .now)) (c .if2 .taken),
     )
 
 step-requires : tie.Need-step-requires Inv-loop μ-loop
 step-requires c κs =
-    let t = c .before .before .before .before .before in
+    let t = c .before .before .before .before .before .before in
     let s = start t in
     (record { inRange = s .pre .inRange; exact = same-words _ _ (t .loop .inv .6) ∙ s .pre .exact }, record { low = t .loop .inv .0; high = omega arith })
 
@@ -87,11 +90,11 @@ loop-less c = omega arith
 
 loop-again : tie.Need-loop-again Inv-loop μ-loop
 loop-again c =
-    let t = c .before .before .before in
+    let t = c .before .before .before .before in
     let s = start t in
     ⊎-elim
     (λ w.
-    let p = clearing-one (s .args .l) (s .args .idents .now) (t .loop .n) (t .loop .i) (t .loop .inv .4) (omega arith) (w .0 .taken) in
+    let p = clearing-one (s .args .l) (s .args .idents .now) (t .loop .n) (t .loop .i) (t .loop .inv .4) (omega arith) (sym (c .before .in-use .ensures) ∙ w .0 .taken) in
     rw (w .6, w .7) (
       omega arith,
       omega arith,
@@ -108,7 +111,7 @@ loop-again c =
       omega arith,
       t .loop .inv .2,
       t .loop .inv .3,
-      clearing-skip (s .args .l) (s .args .idents .now) (t .loop .n) (t .loop .i) (t .loop .inv .4) (omega arith) (w .0 .left),
+      clearing-skip (s .args .l) (s .args .idents .now) (t .loop .n) (t .loop .i) (t .loop .inv .4) (omega arith) (sym (c .before .in-use .ensures) ∙ w .0 .left),
       t .loop .inv .5,
       t .loop .inv .6,
     ))
@@ -135,9 +138,10 @@ clear-spec =
     first-node-requires
     cell-count-requires
     loop-holds
-    cast-if1
-    mul-if1
-    element-copy-out-if1
+    cast-in-use
+    mul-in-use
+    element-copy-out-in-use
+    in-use-requires
     same-length
     returns
     step-requires

@@ -23,6 +23,9 @@ cell-requires c κs =
     let h = rw (f .f .given .1) at (s .pre .2) in
     (s .pre .0, s .pre .1, h .0)
 
+in-use-requires : tie.Need-in-use-requires
+in-use-requires c κs = tt
+
 enum-told-2 : tie.Need-enum-told-2
 enum-told-2 c = search needs
 
@@ -36,7 +39,7 @@ returns-3 : tie.Need-returns-3
 returns-3 c =
     let x = c .before in
     let f = x .before .before .before in
-    rw (f .f .given .1, eq-eqb _ _ (x .before .if1 .left), x .cell .ensures)
+    rw (f .f .given .1, eq-eqb _ _ (x .before .if1 .left), c .in-use .ensures, x .cell .ensures)
 
 returns-4 : tie.Need-returns-4
 returns-4 c = search needs
@@ -50,6 +53,7 @@ carried-spec =
     cast-if1
     cast-cell
     cell-requires
+    in-use-requires
     enum-told-2
     returns
     returns-2

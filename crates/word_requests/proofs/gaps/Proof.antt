@@ -1,6 +1,6 @@
 -- `word_requests::gaps` meets its contract: questions 7 to 9, then question 10 by the number of free nodes, and the search, which then finds one.
 use Prim.Native.Nat.{ℕ, _+_, _≤_}
-use mathlib.Core.Path.{_≡_, _∙_}
+use mathlib.Core.Path.{_≡_, ap, _∙_, sym}
 use mathlib.Core.List.{List}
 use native.Mathlib.Omega.{arith}
 use lib.ListN.{length}
@@ -8,6 +8,7 @@ use borrow.Author.Needs.{needs}
 use Rattle.layout.specs.Words.{Node}
 use Rattle.lists.specs.Decide.{viewOf, sequenceOf}
 use Rattle.lists.proofs.Ring.{held-count}
+use Rattle.spans.specs.declared.Tally.{Tally}
 use Rattle.requests.specs.Requests.{around, freeCells}
 use Rattle.requests.proofs.Laws.{gaps-asked}
 use Rattle.requests.proofs.Sites.{gaps-shut, gaps-few, gaps-open}
@@ -35,34 +36,28 @@ returns c =
     let a = s .args in
     gaps-shut (a .l) (ident s) (a .k) (a .p) (a .start) (members s) (held-count (s .pre .2)) (a .size) (c .before .gaps-number .ensures) (c .if1 .taken)
 
-cast-free : tie.Need-cast-free
-cast-free c = search needs
+tally-requires : tie.Need-tally-requires
+tally-requires c κs = search needs
 
-used-in-requires : tie.Need-used-in-requires
-used-in-requires c κs = search needs
+-- the start, from behind the tally; questions 7 to 9 are answered yes
+abbrev start : tie.After-tally → tie.Start
+start c = c .before .before .before .before
 
-cast-free-2 : tie.Need-cast-free-2
-cast-free-2 c = search needs
-
--- the start, from behind the count of the used nodes; questions 7 to 9 are answered yes
-abbrev start : tie.After-used-in → tie.Start
-start c = c .before .before .before .before .before
-
-asked : (c : tie.After-used-in) → let a = start c .args in (a .p ≤ a .n) × Node (a .l) (a .start)
+asked : (c : tie.After-tally) → let a = start c .args in (a .p ≤ a .n) × Node (a .l) (a .start)
 asked c =
     let a = start c .args in
-    let q = gaps-asked (a .l) (a .n) (a .p) (a .start) (a .size) (c .before .before .before .gaps-number .ensures) (c .before .before .if1 .left) in
+    let q = gaps-asked (a .l) (a .n) (a .p) (a .start) (a .size) (c .before .before .gaps-number .ensures) (c .before .if1 .left) in
     (q .0, q .1)
 
--- the nodes are those that are free and those that are used
-counted : (c : tie.After-used-in) → free (start c) + c .used-in .result ≡ start c .args .l .nodes
+-- the free nodes are counted
+counted : (c : tie.After-tally) → free (start c) ≡ c .tally .result .free
 counted c =
     let s = start c in
     let a = s .args in
-    omega (arith, c .used-in .ensures, free-count (a .l) (viewOf (a .l) (a .words .now)) (a .start) (asked c .1))
+    free-count (a .l) (viewOf (a .l) (a .words .now)) (a .start) (asked c .1) ∙ sym (ap (λ (t : Tally). t .free) (c .tally .ensures))
 
-sub-free : tie.Need-sub-free
-sub-free c = omega (arith, counted c)
+cast-free : tie.Need-cast-free
+cast-free c = search needs
 
 cast-width : tie.Need-cast-width
 cast-width c = search needs
@@ -72,27 +67,27 @@ div-if2 c = search needs
 
 returns-2 : tie.Need-returns-2
 returns-2 c =
-    let u = c .before .before in
+    let u = c .before .before .before in
     let s = start u in
     let a = s .args in
     gaps-few (a .l) (ident s) (a .k) (a .p) (a .start) (members s) (held-count (s .pre .2)) (a .size)
-    (u .before .before .before .gaps-number .ensures) (u .before .before .if1 .left) (omega (arith, counted u, c .if2 .taken))
+    (u .before .before .gaps-number .ensures) (u .before .if1 .left) (omega (arith, counted u, c .if2 .taken))
 
 free-gap-requires : tie.Need-free-gap-requires
 free-gap-requires c κs =
-    let u = c .before .before in
+    let u = c .before .before .before in
     let s = start u in
     (s .pre .0, s .pre .1, s .pre .2, asked u .0, asked u .1)
 
 returns-3 : tie.Need-returns-3
 returns-3 c =
     let g = c .before in
-    let u = g .before .before in
+    let u = g .before .before .before in
     let s = start u in
     let a = s .args in
     c .free-gap .ensures
     ∙ gaps-open (a .l) (ident s) (a .k) (a .p) (a .start) (members s) (held-count (s .pre .2)) (a .size)
-    (u .before .before .before .gaps-number .ensures) (u .before .before .if1 .left) (omega (arith, counted u, g .if2 .left))
+    (u .before .before .gaps-number .ensures) (u .before .if1 .left) (omega (arith, counted u, g .if2 .left))
 
 pub gaps-spec : {M : Type 1} → statement M
 gaps-spec =
@@ -100,10 +95,8 @@ gaps-spec =
     (tie.spec
     gaps-number-requires
     returns
+    tally-requires
     cast-free
-    used-in-requires
-    cast-free-2
-    sub-free
     cast-width
     div-if2
     returns-2
