@@ -123,7 +123,7 @@ extern "C" {
 
 /* The version of the library: in numbers, and as text "MAJOR.MINOR.PATCH". */
 #define AXLE_VERSION_MAJOR 1
-#define AXLE_VERSION_MINOR 3
+#define AXLE_VERSION_MINOR 4
 #define AXLE_VERSION_PATCH 0
 #define AXLE_VERSION AXLE_DOTTED(AXLE_VERSION_MAJOR, AXLE_VERSION_MINOR, AXLE_VERSION_PATCH)
 #define AXLE_DOTTED(a, b, c) AXLE_QUOTED(a) "." AXLE_QUOTED(b) "." AXLE_QUOTED(c)
@@ -145,6 +145,7 @@ extern "C" {
 #define AXLE_FULL 10u
 #define AXLE_NO_FIT 11u
 #define AXLE_TWO_FIT 12u
+#define AXLE_NOT_FREE 13u
 
 /* The parts of an answer. At most one of the first three holds; none of them of the answer 0. */
 static inline int axle_is_refused(uint32_t answer) { return answer != 0 && answer < AXLE_DONE; }
@@ -184,6 +185,7 @@ static inline uint16_t axle_number(uint32_t answer) { return (uint16_t)(answer &
  * The identifier of list k is 42,400 + k; a node in no list has identifier 0.
  */
 #define AXLE_IDENTIFIER 42400u
+#define AXLE_WORN 65535u
 #define AXLE_HEADER_WORD(list) (8 + 4 * (size_t)(list))
 #define AXLE_NODE_WORD(lists, record_words, cell) \
     (8 + 4 * (size_t)(lists) + (3 + (size_t)(record_words)) * ((size_t)(cell) - (size_t)(lists)))
@@ -235,6 +237,14 @@ uint32_t axle_insert_several(uint8_t *store, size_t store_len, uint16_t list, ui
  * Answers: AXLE_DONE + 4, AXLE_STOPPED + the allowance, 1 to 7.
  */
 uint32_t axle_delete(uint8_t *store, size_t store_len, uint16_t list, uint16_t position, uint16_t allowance);
+
+/*
+ * Marks a free node as worn, by its cell number: memory that a fitter has found weak. From then on no insert takes it, and
+ * recovery lets it be. One store, its identifier: AXLE_WORN. Has no allowance, and nothing takes the mark back but
+ * axle_format.
+ * Answers: AXLE_DONE + 1, 1 to 4, 6, 8, 13.
+ */
+uint32_t axle_mark_worn(uint8_t *store, size_t store_len, uint16_t cell);
 
 /*
  * After a power cut: puts every list right, and frees the nodes in none. A sequence of different nodes fits a list if at

@@ -13,7 +13,7 @@ use Rattle.recovery.specs.Plan.{recoverPlan}
 use Rattle.axle_store.specs.declared.Counted.{Counted}
 use Rattle.axle_store.specs.declared.Counted.the-variants as L
 use Rattle.axle_store.specs.Answers.{checkedNumber}
-use Rattle.axle_store.specs.Calls.{checkAnswer, lengthAnswer, insertPlan, severalPlan, deletePlan}
+use Rattle.axle_store.specs.Calls.{checkAnswer, lengthAnswer, insertPlan, severalPlan, deletePlan, markPlan}
 use Rattle.byte_calls.specs.Records.{evenly, recordWords}
 
 -- "a refusal's number, ..; 65,536 plus the length or the number of stores done; 131,072 plus the number where stopped"
@@ -60,6 +60,9 @@ byteSeveral bytes k p c records = evenly bytes (refuse 4) (λ w. severalPlan w k
 
 unfoldable pub byteDelete : List ℕ → ℕ → ℕ → Plan
 byteDelete bytes k p = evenly bytes (refuse 4) (λ w. deletePlan w k p)
+
+unfoldable pub byteMark : List ℕ → ℕ → Plan
+byteMark bytes c = evenly bytes (refuse 4) (λ w. markPlan w c)
 
 unfoldable pub byteRecover : List ℕ → Plan
 byteRecover bytes = evenly bytes (refuse 4) recoverPlan

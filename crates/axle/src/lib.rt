@@ -7,9 +7,11 @@ use stores::Answer;
 ghost use mathlib.Core.Path.{_≡_};
 ghost use Prim.Native.Nat.{_+_, _/_, _%_};
 ghost use Rattle.stores.specs.Stores.{answerOf};
-ghost use Rattle.byte_form.specs.Bytes.{bytesAfter};
-ghost use Rattle.layout.specs.Words.{layoutFor};
-ghost use Rattle.axle.specs.Interface.{codeOf, checkCode, lengthCode, wholeCode, wholeBytes, byteFormat, byteInsert, byteSeveral, byteDelete, byteRecover};
+ghost use Rattle.byte_form.specs.Bytes.{wordsIn, bytesAfter};
+ghost use Rattle.layout.specs.Words.{layoutFor, layoutOf};
+ghost use Rattle.lists.specs.Lists.{KeepsWorn};
+ghost use Rattle.edits.specs.Edits.{markStores};
+ghost use Rattle.axle.specs.Interface.{codeOf, checkCode, lengthCode, wholeCode, wholeBytes, byteFormat, byteInsert, byteSeveral, byteDelete, byteMark, byteRecover};
 
 // What stands in front of the number of stores done or of a length, and of the number where stopped.
 const DONE: u32 = 65536;
@@ -80,7 +82,7 @@ pub extern "C" fn axle_length(store: &[u8], list: u16) -> u32
     }
 }
 
-// Inserts a record into the list at the position, in the first free cell from the starting cell on.
+// Inserts a record into the list at the position, in the first free cell from the starting cell on. Worn nodes are passed over.
 #[no_mangle]
 pub extern "C" fn axle_insert(
     store: &mut [u8],
@@ -92,6 +94,7 @@ pub extern "C" fn axle_insert(
 ) -> u32
     ensures answer { λ r. ⌜ r ≡ codeOf (answerOf (byteInsert (now (store .entry)) list position start (now (rec .entry))) allowance) ⌝ }
     ensures bytes { λ _. ⌜ now (store .exit) ≡ bytesAfter (byteInsert (now (store .entry)) list position start (now (rec .entry))) allowance (now (store .entry)) ⌝ }
+    ensures worn { λ _. ⌜ KeepsWorn (layoutOf (wordsIn (now (store .entry)))) (wordsIn (now (store .entry))) (wordsIn (now (store .exit))) ⌝ }
 {
     if store.len() % 2 != 0 {
         return 4;
@@ -99,7 +102,7 @@ pub extern "C" fn axle_insert(
     code(byte_calls::insert(store, list, position, start, rec, allowance))
 }
 
-// Inserts several records into the list from the position on, in the first free cells from the starting cell on.
+// Inserts several records into the list from the position on, in the first free cells from the starting cell on. Worn nodes are passed over.
 #[no_mangle]
 pub extern "C" fn axle_insert_several(
     store: &mut [u8],
@@ -111,6 +114,7 @@ pub extern "C" fn axle_insert_several(
 ) -> u32
     ensures answer { λ r. ⌜ r ≡ codeOf (answerOf (byteSeveral (now (store .entry)) list position start (now (records .entry))) allowance) ⌝ }
     ensures bytes { λ _. ⌜ now (store .exit) ≡ bytesAfter (byteSeveral (now (store .entry)) list position start (now (records .entry))) allowance (now (store .entry)) ⌝ }
+    ensures worn { λ _. ⌜ KeepsWorn (layoutOf (wordsIn (now (store .entry)))) (wordsIn (now (store .entry))) (wordsIn (now (store .exit))) ⌝ }
 {
     if store.len() % 2 != 0 {
         return 4;
@@ -128,6 +132,18 @@ pub extern "C" fn axle_delete(store: &mut [u8], list: u16, position: u16, allowa
         return 4;
     }
     code(byte_calls::delete(store, list, position, allowance))
+}
+
+// Marks a free node as worn: no insert will take it, and recovery lets it be.
+#[no_mangle]
+pub extern "C" fn axle_mark_worn(store: &mut [u8], cell: u16) -> u32
+    ensures answer { λ r. ⌜ r ≡ codeOf (answerOf (byteMark (now (store .entry)) cell) markStores) ⌝ }
+    ensures bytes { λ _. ⌜ now (store .exit) ≡ bytesAfter (byteMark (now (store .entry)) cell) markStores (now (store .entry)) ⌝ }
+{
+    if store.len() % 2 != 0 {
+        return 4;
+    }
+    code(byte_calls::mark_worn(store, cell))
 }
 
 // Recovers the store by correction: the words that a cut insert or delete, or one altered word in a list, left wrong.

@@ -36,7 +36,7 @@ pub sound-opened : (w : List ℕ) → Sound w → opened w ≡ O.Open (layoutOf 
 sound-opened w s = open-opened w (s .marked) (s .inRange) (s .exact)
 
 pub sound-decided : (w : List ℕ) → Sound w → soundOf (layoutOf w) w ≡ true
-sound-decided w s = lists-sound (layoutOf w) w (s .lists)
+sound-decided w s = lists-sound (layoutOf w) (s .inRange) w (s .lists)
 
 -- check's definition decides soundness
 pub sound-check : (w : List ℕ) → Sound w → checkAnswer w ≡ C.Sound
@@ -65,7 +65,7 @@ check-sound w = by (lookOf w Check) refl
           marked = q .1;
           inRange = subst InRange (q .0) (q .2);
           exact = q .3 ∙ ap sizeOf (q .0);
-          lists = sound-lists (layoutOf w) w g;
+          lists = sound-lists (layoutOf w) (subst InRange (q .0) (q .2)) w g;
         }
 
 pub check-decides : (w : List ℕ) → (checkAnswer w ≡ C.Sound) ↔ Sound w

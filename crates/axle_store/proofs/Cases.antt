@@ -10,16 +10,16 @@ use Rattle.layout.specs.declared.Layout.{Layout}
 use Rattle.layout.specs.declared.Opened.the-variants as O
 use Rattle.layout.specs.Words.{opened, inRange, sizeOf, formatted, recordAt}
 use Rattle.requests.specs.declared.Site.{Site}
-use Rattle.requests.specs.declared.Request.the-variants.{Check, Whole, Member, Gap, Gaps}
+use Rattle.requests.specs.declared.Request.the-variants.{Check, Whole, Member, Gap, Gaps, Mark}
 use Rattle.requests.specs.declared.Looked.the-variants as K
 use Rattle.requests.specs.Requests.{lookOf}
-use Rattle.edits.specs.Edits.{insertWrites, chain, deleteWrites}
+use Rattle.edits.specs.Edits.{insertWrites, chain, deleteWrites, markWrites}
 use Rattle.edits.proofs.Gaps.{freeFrom}
 use Rattle.recovery.specs.Plan.{recoverOf, recoverPlan}
 use Rattle.axle_store.specs.declared.Formatted.the-variants as F
 use Rattle.axle_store.specs.declared.Checked.the-variants as C
 use Rattle.axle_store.specs.declared.Counted.the-variants as L
-use Rattle.axle_store.specs.Calls.{formatAnswer, formatWords, checkAnswer, lengthAnswer, readNumber, readWords, readStart, insertPlan, severalPlan, deletePlan}
+use Rattle.axle_store.specs.Calls.{formatAnswer, formatWords, checkAnswer, lengthAnswer, readNumber, readWords, readStart, insertPlan, severalPlan, deletePlan, markPlan}
 
 -- format: the numbers are out of range, the length is not exact, done
 module _ (l : Layout) (w : List ℕ) where
@@ -96,6 +96,15 @@ module _ (w : List ℕ) where
             → severalPlan w k p c words ≡ stores (chain l k (t .before) (t .after) (t .count) (freeFrom l w c (length words / l .width)) words)
         unfolding severalPlan
         several-at e = rw e
+
+  module _ (c : ℕ) where
+    pub mark-refused : {n : ℕ} → lookOf w (Mark c) ≡ K.Refused n → markPlan w c ≡ refuse n
+    unfolding markPlan
+    mark-refused e = rw e
+
+    pub mark-at : {l : Layout} {t : Site} → lookOf w (Mark c) ≡ K.At l t → markPlan w c ≡ stores (markWrites l (t .cell))
+    unfolding markPlan
+    mark-at e = rw e
 
   -- recover: a store that is not opened, or a plan by its layout
   pub recover-shut : {n : ℕ} → opened w ≡ O.Refused n → recoverPlan w ≡ refuse n

@@ -3,3 +3,4 @@ pub mod Cases
 pub mod Numbers
 pub mod Sites
 pub mod Calls
+pub mod Worn

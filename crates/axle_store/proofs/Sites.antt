@@ -8,17 +8,18 @@ use Rattle.sequences.specs.Sequence.{_∈_, All}
 use Rattle.sequences.proofs.Members.{all-in, at-in, in-front}
 use Rattle.sequences.proofs.Trail.{trail-inside, trail-length}
 use Rattle.layout.specs.declared.Layout.{Layout}
-use Rattle.layout.specs.Words.{tailWords, Node, isNode, cellCount, sizeOf, recordAt}
+use Rattle.layout.specs.Words.{tailWords, Node, Laid, isNode, cellCount, sizeOf, recordAt}
 use Rattle.layout.proofs.Laws.{opened-open, node-fits}
 use Rattle.lists.specs.Decide.{viewOf, sequenceOf}
 use Rattle.lists.proofs.Unique.{all-nodes}
 use Rattle.requests.specs.declared.Site.{Site}
 use Rattle.requests.specs.declared.Looked.the-variants as K
-use Rattle.requests.specs.declared.Request.the-variants.{Member, Gap}
+use Rattle.requests.specs.declared.Request.the-variants.{Member, Gap, Mark}
 use Rattle.requests.specs.Requests.{lookOf, around}
+use Rattle.requests.proofs.Laws.{opened-laid}
 use Rattle.requests.proofs.Turn.{around-nodes}
 use Rattle.edits.specs.Edits.{Placed}
-use Rattle.edits.proofs.Done.{looked, member-facts, gap-facts}
+use Rattle.edits.proofs.Done.{looked, member-facts, gap-facts, mark-facts}
 
 module _ (l : Layout) (w : List ℕ) (k : ℕ) (h : k < l .lists) where
   abbrev S : List ℕ
@@ -76,6 +77,13 @@ module _ (w : List ℕ) (k p : ℕ) (l : Layout) (t : Site) where
         f .size,
         o .3,
       )
+
+-- the node to mark
+pub mark-placed : (w : List ℕ) (c : ℕ) (l : Layout) (t : Site) → lookOf w (Mark c) ≡ K.At l t → Laid l w × Node l (t .cell)
+mark-placed w c l t e =
+    let a = looked w (Mark c) l t e in
+    let f = mark-facts l w c t (a .1) in
+    (opened-laid w l (a .0), subst (Node l) (sym (f .cell)) (f .node))
 
 -- the record of a site lies in the store
 pub record-fits : (l : Layout) (k : ℕ) (t : Site) → Placed l k t → recordAt l (t .cell) + l .width ≤ sizeOf l

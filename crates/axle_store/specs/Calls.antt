@@ -7,10 +7,10 @@ use Rattle.stores.specs.Stores.{Plan, refuse, stores}
 use Rattle.layout.specs.declared.Layout.{Layout}
 use Rattle.layout.specs.Words.{ask, inRange, sizeOf, recordAt}
 use Rattle.requests.specs.declared.Looked.{Looked}
-use Rattle.requests.specs.declared.Request.the-variants.{Check, Whole, Member, Gap, Gaps}
+use Rattle.requests.specs.declared.Request.the-variants.{Check, Whole, Member, Gap, Gaps, Mark}
 use Rattle.lists.specs.Decide.{viewOf}
 use Rattle.requests.specs.Requests.{around, freeCells, lookOf, withLook}
-use Rattle.edits.specs.Edits.{insertWrites, chain, deleteWrites}
+use Rattle.edits.specs.Edits.{insertWrites, chain, deleteWrites, markWrites}
 use Rattle.axle_store.specs.Answers.{formattedWords}
 use Rattle.axle_store.specs.declared.Formatted.{Formatted}
 use Rattle.axle_store.specs.declared.Formatted.the-variants as F
@@ -89,3 +89,8 @@ severalPlan w k p c words =
 -- delete from list k at position p: 1 to 4, 5, 6, 7
 unfoldable pub deletePlan : List ℕ → ℕ → ℕ → Plan
 deletePlan w k p = withLook (lookOf w (Member k p)) refuse (λ l t. stores (deleteWrites l k t))
+
+-- mark cell c worn: 1 to 4, 6, 8, 13. "A new exported call marks a free node with one store, answered done": it has no allowance, and makes its
+-- `markStores`
+unfoldable pub markPlan : List ℕ → ℕ → Plan
+markPlan w c = withLook (lookOf w (Mark c)) refuse (λ l t. stores (markWrites l (t .cell)))

@@ -9,10 +9,12 @@ ghost use mathlib.Core.Path.{_≡_};
 ghost use Prim.Native.Nat.{_+_, _*_};
 ghost use lib.ListN.{length};
 ghost use Rattle.stores.specs.Stores.{stores, answerOf, wordsAfter, answerNumber, answerStores, planNumber, madeBy};
-ghost use Rattle.layout.specs.Words.{layoutFor};
+ghost use Rattle.layout.specs.Words.{layoutFor, layoutOf};
+ghost use Rattle.lists.specs.Lists.{KeepsWorn};
+ghost use Rattle.edits.specs.Edits.{markStores};
 ghost use Rattle.recovery.specs.Plan.{recoverPlan};
 ghost use Rattle.axle_store.specs.Answers.{checkedNumber, formattedNumber, countedNumber, countedLength};
-ghost use Rattle.axle_store.specs.Calls.{formatAnswer, formatNumber, formatWords, checkAnswer, checkNumber, lengthAnswer, lengthNumber, lengthValue, readNumber, readWords, readStart, insertPlan, severalPlan, deletePlan};
+ghost use Rattle.axle_store.specs.Calls.{formatAnswer, formatNumber, formatWords, checkAnswer, checkNumber, lengthAnswer, lengthNumber, lengthValue, readNumber, readWords, readStart, insertPlan, severalPlan, deletePlan, markPlan};
 
 // The answer of format.
 pub enum Formatted {
@@ -144,7 +146,7 @@ pub fn read(words: &[u16], list: u16, position: u16) -> &[u16]
     }
 }
 
-// Inserts a record into the list at the position, in the first free cell from the starting cell on.
+// Inserts a record into the list at the position, in the first free cell from the starting cell on. Worn nodes are passed over.
 pub fn insert(
     words: &mut [u16],
     list: u16,
@@ -157,6 +159,7 @@ pub fn insert(
     ensures words { λ _. ⌜ now (words .exit) ≡ wordsAfter (insertPlan (now (words .entry)) list position start (now (rec .entry))) allowance (now (words .entry)) ⌝ }
     ensures number { λ r. ⌜ answerNumber r ≡ planNumber (insertPlan (now (words .entry)) list position start (now (rec .entry))) ⌝ }
     ensures stores { λ r. ⌜ answerStores r ≡ length (madeBy (insertPlan (now (words .entry)) list position start (now (rec .entry))) allowance) ⌝ }
+    ensures worn { λ _. ⌜ KeepsWorn (layoutOf (now (words .entry))) (now (words .entry)) (now (words .exit)) ⌝ }
 {
     match word_requests::look(words, Request::Gap(list, position, start, rec.len())) {
         Looked::Refused(n) => Answer::Refused(n),
@@ -164,7 +167,7 @@ pub fn insert(
     }
 }
 
-// Inserts several records into the list from the position on, in the first free cells from the starting cell on.
+// Inserts several records into the list from the position on, in the first free cells from the starting cell on. Worn nodes are passed over.
 pub fn insert_several(
     words: &mut [u16],
     list: u16,
@@ -177,6 +180,7 @@ pub fn insert_several(
     ensures words { λ _. ⌜ now (words .exit) ≡ wordsAfter (severalPlan (now (words .entry)) list position start (now (records .entry))) allowance (now (words .entry)) ⌝ }
     ensures number { λ r. ⌜ answerNumber r ≡ planNumber (severalPlan (now (words .entry)) list position start (now (records .entry))) ⌝ }
     ensures stores { λ r. ⌜ answerStores r ≡ length (madeBy (severalPlan (now (words .entry)) list position start (now (records .entry))) allowance) ⌝ }
+    ensures worn { λ _. ⌜ KeepsWorn (layoutOf (now (words .entry))) (now (words .entry)) (now (words .exit)) ⌝ }
 {
     match word_requests::look(words, Request::Gaps(list, position, start, records.len())) {
         Looked::Refused(n) => Answer::Refused(n),
@@ -194,6 +198,22 @@ pub fn delete(words: &mut [u16], list: u16, position: u16, allowance: u16) -> An
     match word_requests::look(words, Request::Member(list, position)) {
         Looked::Refused(n) => Answer::Refused(n),
         Looked::At(l, t) => word_edits::delete_at(words, l, list, t, allowance),
+    }
+}
+
+// Marks a free node as worn: no insert will take it, and recovery lets it be.
+pub fn mark_worn(words: &mut [u16], cell: u16) -> Answer
+    ensures answer { λ r. ⌜ r ≡ answerOf (markPlan (now (words .entry)) cell) markStores ⌝ }
+    ensures words { λ _. ⌜ now (words .exit) ≡ wordsAfter (markPlan (now (words .entry)) cell) markStores (now (words .entry)) ⌝ }
+    ensures number { λ r. ⌜ answerNumber r ≡ planNumber (markPlan (now (words .entry)) cell) ⌝ }
+    ensures stores { λ r. ⌜ answerStores r ≡ length (madeBy (markPlan (now (words .entry)) cell) markStores) ⌝ }
+{
+    match word_requests::look(words, Request::Mark(cell)) {
+        Looked::Refused(n) => Answer::Refused(n),
+        Looked::At(l, t) => {
+            words[l.node(t.cell)] = Layout::WORN;
+            Answer::Done(1)
+        }
     }
 }
 

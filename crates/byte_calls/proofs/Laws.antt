@@ -1,6 +1,6 @@
 -- Plans that are carried out in bytes, a layout read again, and a record in bytes.
 use Prim.Native.Nat.{ℕ, _%_, _≤_, _<_}
-use mathlib.Core.Path.{_≡_, refl, ap, _∙_, sym}
+use mathlib.Core.Path.{_≡_, refl, ap, _∙_, sym, subst}
 use mathlib.Core.List.{List, []}
 use mathlib.Core.Bool.{Bool, true, false, cond}
 use native.Mathlib.Omega.{arith}
@@ -9,11 +9,13 @@ use lib.ListN.{length}
 use borrow.Author.Tests.{eqb-true}
 use Rattle.stores.specs.declared.Answer.{Answer}
 use Rattle.stores.specs.declared.Answer.the-variants as A
-use Rattle.stores.specs.Stores.{Write, Plan, refuse, stores, answerOf}
+use Rattle.stores.specs.Stores.{Write, Plan, refuse, stores, answerOf, wordsAfter}
 use Rattle.byte_form.specs.Bytes.{wordsIn, appliedBytes, bytesAfter}
+use Rattle.byte_form.proofs.Laws.{words-after}
 use Rattle.layout.specs.declared.Layout.{Layout}
 use Rattle.layout.specs.Words.{headWords, sizeOf, layoutOf}
 use Rattle.layout.proofs.Laws.{opened-open}
+use Rattle.lists.specs.Lists.{KeepsWorn}
 use Rattle.requests.specs.declared.Site.{Site}
 use Rattle.requests.specs.declared.Request.{Request}
 use Rattle.requests.specs.declared.Looked.the-variants as K
@@ -29,6 +31,13 @@ pub byte-run
     : {p : Plan} {ps : List Write} {x : Answer} {b′ : List ℕ} (m : ℕ) (b : List ℕ) → p ≡ stores ps
     → x ≡ answerOf (stores ps) m → b′ ≡ appliedBytes ps m b → (x ≡ answerOf p m) × (b′ ≡ bytesAfter p m b)
 byte-run m b e x y = (x ∙ ap (λ (p : Plan). answerOf p m) (sym e), y ∙ ap (λ (p : Plan). bytesAfter p m b) (sym e))
+
+-- and of an insert, which keeps the worn nodes
+pub byte-kept : (p : Plan) (m : ℕ) (b : List ℕ) {x : Answer} {b′ : List ℕ} → length b % 2 ≡ 0
+    → KeepsWorn (layoutOf (wordsIn b)) (wordsIn b) (wordsAfter p m (wordsIn b)) → (x ≡ answerOf p m) × (b′ ≡ bytesAfter p m b)
+    → (x ≡ answerOf p m) × ((b′ ≡ bytesAfter p m b) × KeepsWorn (layoutOf (wordsIn b)) (wordsIn b) (wordsIn b′))
+byte-kept p m b even h q =
+    (q .0, (q .1, subst (KeepsWorn (layoutOf (wordsIn b)) (wordsIn b)) (sym (ap wordsIn (q .1) ∙ words-after p m b even)) h))
 
 -- the layout that a look found is read again from the words
 pub look-again : {l : Layout} {t : Site} (w : List ℕ) (q : Request) → lookOf w q ≡ K.At l t → (headWords ≤ length w) × (lookOf w q ≡ K.At (layoutOf w) t)

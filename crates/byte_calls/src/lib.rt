@@ -1,4 +1,4 @@
-// Insert, delete and recover on lent bytes: what the calls of crate axle_store are on words. That the bytes are even is asked above, in crate axle.
+// Insert, delete, mark and recover on lent bytes: what the calls of crate axle_store are on words. That the bytes are even is asked above, in crate axle.
 use layout::Layout;
 use layout::Opened;
 use requests::Looked;
@@ -10,8 +10,10 @@ ghost use lib.ListN.{length};
 ghost use Rattle.stores.specs.Stores.{answerOf};
 ghost use Rattle.byte_form.specs.Bytes.{wordsIn, bytesAfter};
 ghost use Rattle.layout.specs.Words.{headWords, layoutOf};
+ghost use Rattle.lists.specs.Lists.{KeepsWorn};
+ghost use Rattle.edits.specs.Edits.{markStores};
 ghost use Rattle.recovery.specs.Plan.{recoverPlan};
-ghost use Rattle.axle_store.specs.Calls.{insertPlan, severalPlan, deletePlan};
+ghost use Rattle.axle_store.specs.Calls.{insertPlan, severalPlan, deletePlan, markPlan};
 ghost use Rattle.byte_calls.specs.Records.{recordWords};
 
 // The layout of a store that is open. It is read again by the calls that store: that is quicker than to hand it on with the site.
@@ -37,7 +39,7 @@ fn record_size(rec: &[u8]) -> usize
     rec.len() / 2
 }
 
-// Inserts a record.
+// Inserts a record. Worn nodes are passed over.
 pub fn insert(
     bytes: &mut [u8],
     list: u16,
@@ -46,8 +48,10 @@ pub fn insert(
     rec: &[u8],
     allowance: u16,
 ) -> Answer
+    requires { ⌜ length (now bytes) % 2 ≡ 0 ⌝ }
     ensures answer { λ r. ⌜ r ≡ answerOf (insertPlan (wordsIn (now (bytes .entry))) list position start (recordWords (now (rec .entry)))) allowance ⌝ }
     ensures bytes { λ _. ⌜ now (bytes .exit) ≡ bytesAfter (insertPlan (wordsIn (now (bytes .entry))) list position start (recordWords (now (rec .entry)))) allowance (now (bytes .entry)) ⌝ }
+    ensures worn { λ _. ⌜ KeepsWorn (layoutOf (wordsIn (now (bytes .entry)))) (wordsIn (now (bytes .entry))) (wordsIn (now (bytes .exit))) ⌝ }
 {
     let n = record_size(rec);
     match byte_requests::look(bytes, Request::Gap(list, position, start, n)) {
@@ -56,7 +60,7 @@ pub fn insert(
     }
 }
 
-// Inserts several records.
+// Inserts several records. Worn nodes are passed over.
 pub fn insert_several(
     bytes: &mut [u8],
     list: u16,
@@ -68,6 +72,7 @@ pub fn insert_several(
     requires { ⌜ length (now bytes) % 2 ≡ 0 ⌝ }
     ensures answer { λ r. ⌜ r ≡ answerOf (severalPlan (wordsIn (now (bytes .entry))) list position start (recordWords (now (records .entry)))) allowance ⌝ }
     ensures bytes { λ _. ⌜ now (bytes .exit) ≡ bytesAfter (severalPlan (wordsIn (now (bytes .entry))) list position start (recordWords (now (records .entry)))) allowance (now (bytes .entry)) ⌝ }
+    ensures worn { λ _. ⌜ KeepsWorn (layoutOf (wordsIn (now (bytes .entry)))) (wordsIn (now (bytes .entry))) (wordsIn (now (bytes .exit))) ⌝ }
 {
     let n = record_size(records);
     match byte_requests::look(bytes, Request::Gaps(list, position, start, n)) {
@@ -91,6 +96,20 @@ pub fn delete(bytes: &mut [u8], list: u16, position: u16, allowance: u16) -> Ans
     match byte_requests::look(bytes, Request::Member(list, position)) {
         Looked::Refused(n) => Answer::Refused(n),
         Looked::At(_, t) => byte_edits::delete_at(bytes, layout_of(bytes), list, t, allowance),
+    }
+}
+
+// Marks a free node as worn.
+pub fn mark_worn(bytes: &mut [u8], cell: u16) -> Answer
+    ensures answer { λ r. ⌜ r ≡ answerOf (markPlan (wordsIn (now (bytes .entry))) cell) markStores ⌝ }
+    ensures bytes { λ _. ⌜ now (bytes .exit) ≡ bytesAfter (markPlan (wordsIn (now (bytes .entry))) cell) markStores (now (bytes .entry)) ⌝ }
+{
+    match byte_requests::look(bytes, Request::Mark(cell)) {
+        Looked::Refused(n) => Answer::Refused(n),
+        Looked::At(l, t) => {
+            byte_form::put(bytes, l.node(t.cell), Layout::WORN);
+            Answer::Done(1)
+        }
     }
 }
 

@@ -8,6 +8,7 @@ ghost use lib.ListN.{length};
 ghost use Rattle.stores.specs.Stores.{stores, answerOf};
 ghost use Rattle.byte_form.specs.Bytes.{wordsIn, appliedBytes};
 ghost use Rattle.layout.specs.Words.{tailWords, sizeOf};
+ghost use Rattle.lists.specs.Lists.{KeepsWorn};
 ghost use Rattle.edits.specs.Edits.{insertWrites, chainFrom, deleteWrites, Placed, Room};
 
 // Makes the stores of an insert, the record and then the links, up to the allowance.
@@ -36,7 +37,8 @@ pub fn insert_at(
     Answer::Done(n + m)
 }
 
-// Makes the stores of several inserts, one record after another from the first site on, up to the allowance.
+// Makes the stores of several inserts, one record after another from the first site on, up to the allowance. Worn nodes
+// are passed over.
 pub fn insert_all(
     bytes: &mut [u8],
     l: Layout,
@@ -48,6 +50,7 @@ pub fn insert_all(
     requires { ⌜ Room l (wordsIn (now bytes)) list first (length (wordsIn (now records)) / l .width) × (0 < length (wordsIn (now records))) × (length (wordsIn (now records)) ≡ length (wordsIn (now records)) / l .width * l .width) × (length (now records) % 2 ≡ 0) × (length (now bytes) % 2 ≡ 0) ⌝ }
     ensures answer { λ r. ⌜ r ≡ answerOf (stores (chainFrom l (wordsIn (now (bytes .entry))) list first (length (wordsIn (now (records .entry))) / l .width) (wordsIn (now (records .entry))))) allowance ⌝ }
     ensures bytes { λ _. ⌜ now (bytes .exit) ≡ appliedBytes (chainFrom l (wordsIn (now (bytes .entry))) list first (length (wordsIn (now (records .entry))) / l .width) (wordsIn (now (records .entry)))) allowance (now (bytes .entry)) ⌝ }
+    ensures worn { λ _. ⌜ KeepsWorn l (wordsIn (now (bytes .entry))) (wordsIn (now (bytes .exit))) ⌝ }
 {
     let size = 2 * l.width as usize;
     let mut t = first;

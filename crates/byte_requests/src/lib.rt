@@ -1,4 +1,4 @@
-// Questions 1 to 10, put to a store in byte form as crate word_requests puts them to lent words: a cell's words are read from its bytes, and
+// Questions 1 to 10 and 13, put to a store in byte form as crate word_requests puts them to lent words: a cell's words are read from its bytes, and
 // all else is the same.
 use layout::Layout;
 use layout::Opened;
@@ -12,10 +12,10 @@ ghost use mathlib.Core.Path.{_≡_};
 ghost use Prim.Native.Nat.{ℕ, _≤_};
 ghost use lib.ListN.{length};
 ghost use Rattle.byte_form.specs.Bytes.{wordsIn};
-ghost use Rattle.layout.specs.Words.{headWords, Laid, Node, openedBy, opened};
+ghost use Rattle.layout.specs.Words.{headWords, Laid, Node, openedBy, opened, wornIdent};
 ghost use Rattle.lists.specs.Decide.{viewOf, sequenceOf, HeldList};
 ghost use Rattle.spans.specs.Spans.{Gridded};
-ghost use Rattle.requests.specs.Requests.{around, firstFree, memberAt, freeGap, gapAt, gapsAt, siteOf, lookOf};
+ghost use Rattle.requests.specs.Requests.{around, firstFree, memberAt, freeGap, gapAt, gapsAt, markAt, siteOf, lookOf, foundUnworn, sitedUnworn, lookedUnworn};
 ghost use Rattle.requests.specs.Sites.{gapSite, nextSite};
 
 // The first eight words.
@@ -65,10 +65,11 @@ fn member(bytes: &[u8], l: Layout, g: Grid, k: u16, n: u16, p: u16) -> Sited
     })
 }
 
-// The first free one of n nodes: from the starting cell on, and on from the first node after the last.
+// The first free one of n nodes: from the starting cell on, and on from the first node after the last. Worn nodes are passed over.
 fn free_cell(bytes: &[u8], l: Layout, g: Grid, start: u16, n: u16) -> Free
     requires { ⌜ Gridded l g × Laid l (wordsIn (now bytes)) × Node l start ⌝ }
-    ensures { λ r. ⌜ r ≡ firstFree (viewOf l (wordsIn (now (bytes .entry))) .ident) (around l start n) ⌝ }
+    ensures found { λ r. ⌜ r ≡ firstFree (viewOf l (wordsIn (now (bytes .entry))) .ident) (around l start n) ⌝ }
+    ensures worn { λ r. ⌜ foundUnworn (viewOf l (wordsIn (now (bytes .entry))) .ident) r ⌝ }
 {
     let mut c = start;
     let mut rest = n;
@@ -100,7 +101,8 @@ fn gap_site(bytes: &[u8], l: Layout, g: Grid, k: u16, n: u16, p: u16, cell: u16)
 // Question 10: the gap of list k, which has n members, at position p, and a free cell.
 fn free_gap(bytes: &[u8], l: Layout, g: Grid, k: u16, n: u16, p: u16, start: u16) -> Sited
     requires { ⌜ Gridded l g × Laid l (wordsIn (now bytes)) × HeldList l (viewOf l (wordsIn (now bytes))) k n × (p ≤ n) × Node l start ⌝ }
-    ensures { λ r. ⌜ r ≡ freeGap l (viewOf l (wordsIn (now (bytes .entry))) .ident) k p start (sequenceOf l (wordsIn (now (bytes .entry))) k) ⌝ }
+    ensures site { λ r. ⌜ r ≡ freeGap l (viewOf l (wordsIn (now (bytes .entry))) .ident) k p start (sequenceOf l (wordsIn (now (bytes .entry))) k) ⌝ }
+    ensures worn { λ r. ⌜ sitedUnworn (viewOf l (wordsIn (now (bytes .entry))) .ident) r ⌝ }
 {
     match free_cell(bytes, l, g, start, l.nodes) {
         Free::Full => Sited::Refused(10),
@@ -111,7 +113,8 @@ fn free_gap(bytes: &[u8], l: Layout, g: Grid, k: u16, n: u16, p: u16, start: u16
 // The gap of list k, which has n members, at position p, and a free cell for a record of so many words.
 fn gap(bytes: &[u8], l: Layout, g: Grid, k: u16, n: u16, p: u16, start: u16, size: usize) -> Sited
     requires { ⌜ Gridded l g × Laid l (wordsIn (now bytes)) × HeldList l (viewOf l (wordsIn (now bytes))) k n ⌝ }
-    ensures { λ r. ⌜ r ≡ gapAt l (viewOf l (wordsIn (now (bytes .entry))) .ident) k p start size (sequenceOf l (wordsIn (now (bytes .entry))) k) ⌝ }
+    ensures site { λ r. ⌜ r ≡ gapAt l (viewOf l (wordsIn (now (bytes .entry))) .ident) k p start size (sequenceOf l (wordsIn (now (bytes .entry))) k) ⌝ }
+    ensures worn { λ r. ⌜ sitedUnworn (viewOf l (wordsIn (now (bytes .entry))) .ident) r ⌝ }
 {
     let refusal = requests::gap_number(l, n, p, start, size);
     if refusal != 0 {
@@ -123,7 +126,8 @@ fn gap(bytes: &[u8], l: Layout, g: Grid, k: u16, n: u16, p: u16, start: u16, siz
 // The same for several records, of so many words in all: question 10 is then of the number of free nodes.
 fn gaps(bytes: &[u8], l: Layout, g: Grid, k: u16, n: u16, p: u16, start: u16, size: usize) -> Sited
     requires { ⌜ Gridded l g × Laid l (wordsIn (now bytes)) × HeldList l (viewOf l (wordsIn (now bytes))) k n ⌝ }
-    ensures { λ r. ⌜ r ≡ gapsAt l (viewOf l (wordsIn (now (bytes .entry))) .ident) k p start size (sequenceOf l (wordsIn (now (bytes .entry))) k) ⌝ }
+    ensures site { λ r. ⌜ r ≡ gapsAt l (viewOf l (wordsIn (now (bytes .entry))) .ident) k p start size (sequenceOf l (wordsIn (now (bytes .entry))) k) ⌝ }
+    ensures worn { λ r. ⌜ sitedUnworn (viewOf l (wordsIn (now (bytes .entry))) .ident) r ⌝ }
 {
     let refusal = requests::gaps_number(l, n, p, start, size);
     if refusal != 0 {
@@ -140,7 +144,8 @@ fn gaps(bytes: &[u8], l: Layout, g: Grid, k: u16, n: u16, p: u16, start: u16, si
 // searches together are one turn.
 pub fn next_site(bytes: &[u8], l: Layout, t: Site) -> Site
     requires { ⌜ Laid l (wordsIn (now bytes)) × Node l (t .cell) × (t .count ≤ l .nodes) ⌝ }
-    ensures { λ r. ⌜ r ≡ nextSite l (viewOf l (wordsIn (now (bytes .entry))) .ident) t ⌝ }
+    ensures site { λ r. ⌜ r ≡ nextSite l (viewOf l (wordsIn (now (bytes .entry))) .ident) t ⌝ }
+    ensures worn { λ r. ⌜ ((viewOf l (wordsIn (now (bytes .entry))) .ident (t .cell) ≡ wornIdent → ⊥) → viewOf l (wordsIn (now (bytes .entry))) .ident (r .cell) ≡ wornIdent → ⊥) ⌝ }
 {
     let g = Grid::of(l);
     let from = requests::next_cell(l, t.cell);
@@ -155,10 +160,30 @@ pub fn next_site(bytes: &[u8], l: Layout, t: Site) -> Site
     }
 }
 
+// The node to mark: is it one, and free?
+fn mark(bytes: &[u8], l: Layout, g: Grid, cell: u16) -> Sited
+    requires { ⌜ Gridded l g × Laid l (wordsIn (now bytes)) ⌝ }
+    ensures { λ r. ⌜ r ≡ markAt l (viewOf l (wordsIn (now (bytes .entry))) .ident) cell ⌝ }
+{
+    if !l.is_node(cell) {
+        return Sited::Refused(8);
+    }
+    if !Layout::is_free(byte_walks::node(bytes, l, g, cell as usize).ident) {
+        return Sited::Refused(13);
+    }
+    Sited::At(Site {
+        before: 0,
+        cell,
+        after: 0,
+        count: 0,
+    })
+}
+
 // The site that a request gets.
 fn site_of(bytes: &[u8], l: Layout, q: Request) -> Sited
     requires { ⌜ Laid l (wordsIn (now bytes)) ⌝ }
-    ensures { λ r. ⌜ r ≡ siteOf l (wordsIn (now (bytes .entry))) q ⌝ }
+    ensures site { λ r. ⌜ r ≡ siteOf l (wordsIn (now (bytes .entry))) q ⌝ }
+    ensures worn { λ r. ⌜ sitedUnworn (viewOf l (wordsIn (now (bytes .entry))) .ident) r ⌝ }
 {
     let k = requests::list_of(q);
     if l.lists <= k {
@@ -185,12 +210,14 @@ fn site_of(bytes: &[u8], l: Layout, q: Request) -> Sited
         Request::Member(k, p) => member(bytes, l, g, k, n, p),
         Request::Gap(k, p, start, size) => gap(bytes, l, g, k, n, p, start, size),
         Request::Gaps(k, p, start, size) => gaps(bytes, l, g, k, n, p, start, size),
+        Request::Mark(cell) => mark(bytes, l, g, cell),
     }
 }
 
 // All questions of a call.
 pub fn look(bytes: &[u8], q: Request) -> Looked
-    ensures { λ r. ⌜ r ≡ lookOf (wordsIn (now (bytes .entry))) q ⌝ }
+    ensures outcome { λ r. ⌜ r ≡ lookOf (wordsIn (now (bytes .entry))) q ⌝ }
+    ensures worn { λ r. ⌜ lookedUnworn (wordsIn (now (bytes .entry))) r ⌝ }
 {
     match open(bytes) {
         Opened::Refused(n) => Looked::Refused(n),

@@ -1,8 +1,9 @@
 -- The course from any cut of a sound store, whatever the call was.
-use Prim.Native.Nat.{ℕ, _<_, _≤_}
+use Prim.Native.Nat.{ℕ, _+_, _<_, _≤_}
 use mathlib.Core.Path.{_≡_, refl, ap, _∙_, sym, subst}
-use mathlib.Core.List.{List, [], _∷_, _++_, List·Memᴰ·tail}
+use mathlib.Core.List.{List, [], _∷_, _++_, List·Memᴰ·head, List·Memᴰ·tail, List·Memᴰ·eq-of-singleton}
 use mathlib.Core.Logic.{inl, inr}
+use native.Mathlib.Decide.{ℕ-discrete}
 use native.Mathlib.Omega.{arith}
 use lib.ListN.{length, getD}
 use Rattle.sequences.specs.Sequence.{_∈_, All}
@@ -10,26 +11,30 @@ use Rattle.sequences.proofs.Members.{all-in}
 use Rattle.stores.specs.Stores.{Write, Plan, run, answerOf}
 use Rattle.stores.proofs.Laws.{length-run}
 use Rattle.layout.specs.declared.Layout.{Layout}
-use Rattle.layout.specs.Words.{Node, layoutOf}
+use Rattle.layout.specs.Words.{Node, cellAt, cellWords, identAt, wornIdent, worn, layoutOf}
 use Rattle.layout.proofs.Laws.{open-opened}
-use Rattle.layout.proofs.Apart.{cell-behind}
-use Rattle.lists.specs.Lists.{Sound, IsList, SameCells}
-use Rattle.lists.proofs.Same.{same-opened, same-sound}
+use Rattle.layout.proofs.Apart.{cell-behind, links-words}
+use Rattle.lists.specs.Lists.{Sound, IsList, SameCells, KeepsWorn}
+use Rattle.lists.proofs.Nodes.{list-used}
+use Rattle.lists.proofs.Unique.{member-ident}
+use Rattle.lists.proofs.Same.{ident-word, same-opened, same-sound}
 use Rattle.edits.specs.Edited.{replaced}
 use Rattle.edits.proofs.Edited.{replaced-own, replaced-other}
-use Rattle.recovery.specs.Plan.{recoverStores, recoverPlan, Accepted, Kind}
+use Rattle.recovery.specs.Plan.{joined, recoverStores, recoverPlan, Accepted, Kind}
+use Rattle.recovery.proofs.Joined.{joined-one}
 use Rattle.recovery.proofs.Count.{plan-kinds, plan-differs}
 use Rattle.courses.specs.Course.{allStores, needed, Alteration, untouched, altered, Allowed, AllowedBut, alteredBelow, wordsThrough}
 use Rattle.courses.specs.Demand3.{Course}
 use Rattle.courses.proofs.Other.{Touches}
 use Rattle.courses.proofs.Cut.{Cut}
 use Rattle.courses.proofs.Found.{altered-out, length-altered, kept, kept-outside, found-accepted}
-use Rattle.courses.proofs.Final.{final-head, final-outside, final-lists, final-zero, final-words}
+use Rattle.courses.proofs.Final.{final-head, final-outside, final-worn, final-lists, final-zero, final-words}
 use Rattle.courses.proofs.Recoveries.{recovered}
 use Rattle.courses.proofs.Standing.{Standing, standing-plan, standing-after}
 
-module _ (w : List ℕ) (s : Sound w) (k : ℕ) (own x y₀ : List ℕ) (cut : Cut (layoutOf w) w (s .lists) k own x y₀) (alts : ℕ → Alteration)
-    (allowed : AllowedBut k (layoutOf w .lists) (s .lists .sequence) alts) where
+module _ (w : List ℕ) (s : Sound w) (k : ℕ) (own x y₀ : List ℕ) (cut : Cut (layoutOf w) w (s .lists) k own x y₀)
+    (due : KeepsWorn (layoutOf w) w x) (left : KeepsWorn (layoutOf w) w y₀)
+    (alts : ℕ → Alteration) (allowed : AllowedBut k (layoutOf w .lists) (s .lists .sequence) alts) where
   abbrev l : Layout
   l = layoutOf w
 
@@ -42,7 +47,7 @@ module _ (w : List ℕ) (s : Sound w) (k : ℕ) (own x y₀ : List ℕ) (cut : C
   t = replaced (s .lists .sequence) k own
 
   accepted : Accepted l y t
-  accepted = found-accepted l w (s .lists) k alts allowed y₀ (cut .others) (cut .rest) own (λ h. (cut .own h, cut .apart h))
+  accepted = found-accepted l w (s .lists) k alts allowed (s .inRange) y₀ (cut .others) (cut .rest) own (λ h. (cut .own h, cut .apart h))
 
   head : (a : ℕ) → a < 8 → getD y a 0 ≡ getD w a 0
   head a h = altered-out l k alts (l .lists) y₀ a (λ j _ _ c f v _ q. omega (arith, cell-behind l c)) ∙ cut .head a h
@@ -77,7 +82,7 @@ module _ (w : List ℕ) (s : Sound w) (k : ℕ) (own x y₀ : List ℕ) (cut : C
       (final-words l y (standing .size) t accepted x k h (subst (IsList l x k) (sym q) (cut .list h))
       (λ c f n g z.
       let i : c ∈ own = subst (λ (r : List ℕ). c ∈ r) q n in
-      kept-outside l w (s .lists) k alts allowed y₀ (cut .others) (cut .rest) c f z (cut .apart h c (List·Memᴰ·tail i))
+      kept-outside l w (s .lists) k alts allowed (s .inRange) y₀ (cut .others) (cut .rest) c f z (cut .apart h c (List·Memᴰ·tail i))
       ∙ cut .records h c f i g z))
     where
       q : t k ≡ own
@@ -90,7 +95,7 @@ module _ (w : List ℕ) (s : Sound w) (k : ℕ) (own x y₀ : List ℕ) (cut : C
       (final-words l y (standing .size) t accepted w j h (subst (IsList l w j) (sym q) (s .lists .lists j h))
       (λ c f i g z.
       let d : c ∈ s .lists .sequence j = subst (λ (r : List ℕ). c ∈ r) q i in
-      kept l w (s .lists) k alts allowed y₀ (cut .others) (cut .rest) j h n c f (List·Memᴰ·tail d) z
+      kept l w (s .lists) k alts allowed (s .inRange) y₀ (cut .others) (cut .rest) j h n c f (List·Memᴰ·tail d) z
       (untouched-record (alts j) c f d g (allowed j h n))))
     where
       q : t j ≡ s .lists .sequence j
@@ -101,6 +106,57 @@ module _ (w : List ℕ) (s : Sound w) (k : ℕ) (own x y₀ : List ℕ) (cut : C
       untouched-record (altered b i v) c f d g (inl a) u =
           omega (arith, all-in (Node l) (s .lists .sequence j) (s .lists .lists j h .nodes) d .low, u .0, a .0)
       untouched-record (altered b i v) c f d g (inr a) u = omega (arith, u .1, a .1)
+
+  -- a node that is worn in the sound store is in no list, not even in what the one named becomes,
+  worn-out : (c : ℕ) → Node l c → getD w (identAt l c) 0 ≡ wornIdent → c ∈ joined t (l .lists) → ⊥
+  worn-out c n z m =
+      let r = joined-one t (l .lists) c m in
+      by (r .0) (r .1) (r .2) (ℕ-discrete (r .0) k)
+    where
+      same : (v : List ℕ) → KeepsWorn l w v → getD v (identAt l c) 0 ≡ wornIdent
+      same v h =
+          ap (λ (a : ℕ). getD v a 0) (ident-word l c) ∙ h c n z c 0 (List·Memᴰ·head refl) (links-words l c 0 (omega arith))
+          ∙ ap (λ (a : ℕ). getD w a 0) (sym (ident-word l c)) ∙ z
+
+      by : (j : ℕ) → j < l .lists → c ∈ t j → Dec (j ≡ k) → ⊥
+      by j h i (yes e) =
+          let hk : k < l .lists = subst (λ (a : ℕ). a < l .lists) e h in
+          list-used (s .inRange) hk
+          (member-ident l x k own c (cut .list hk) (subst (λ (r : List ℕ). c ∈ r) (replaced-own (s .lists .sequence) k own j e) i))
+          (worn (same x due))
+      by j h i (no e) =
+          list-used (s .inRange) h
+          (member-ident l w j (s .lists .sequence j) c (s .lists .lists j h)
+          (subst (λ (r : List ℕ). c ∈ r) (replaced-other (s .lists .sequence) k own j e) i))
+          (worn z)
+
+  -- and keeps all its words
+  worn-kept : KeepsWorn l w Final
+  worn-kept c n z d f i g =
+      let e : d ≡ c = List·Memᴰ·eq-of-singleton i in
+      subst (λ (a : ℕ). f < cellWords l a → getD Final (cellAt l a + f) 0 ≡ getD w (cellAt l a + f) 0) (sym e) (words f) g
+    where
+      outside : (j : ℕ) → j < l .lists → (j ≡ k → ⊥) → c ∈ (j ∷ s .lists .sequence j) → ⊥
+      outside j h q (List·Memᴰ·head e) = omega (arith, n .low)
+      outside j h q (List·Memᴰ·tail m) = list-used (s .inRange) h (member-ident l w j (s .lists .sequence j) c (s .lists .lists j h) m) (worn z)
+
+      found : (f : ℕ) → f < cellWords l c → getD y (cellAt l c + f) 0 ≡ getD w (cellAt l c + f) 0
+      found f g =
+          kept-outside l w (s .lists) k alts allowed (s .inRange) y₀ (cut .others) (cut .rest) c f g outside
+          ∙ left c n z c f (List·Memᴰ·head refl) g
+
+      words : (f : ℕ) → f < cellWords l c → getD Final (cellAt l c + f) 0 ≡ getD w (cellAt l c + f) 0
+      words f g =
+          final-worn l y (standing .size) t accepted c f n (worn-out c n z)
+          (ap (λ (a : ℕ). getD y a 0) (ident-word l c) ∙ found 0 (links-words l c 0 (omega arith)) ∙ ap (λ (a : ℕ). getD w a 0) (sym (ident-word l c)) ∙ z) g
+          ∙ found f g
+
+  -- a worn one of the found store stays so
+  still-worn : (c : ℕ) → Node l c → (c ∈ joined t (l .lists) → ⊥) → getD y (identAt l c) 0 ≡ wornIdent → getD Final (identAt l c) 0 ≡ wornIdent
+  still-worn c n o z =
+      ap (λ (a : ℕ). getD Final a 0) (ident-word l c)
+      ∙ final-worn l y (standing .size) t accepted c 0 n o z (links-words l c 0 (omega arith))
+      ∙ ap (λ (a : ℕ). getD y a 0) (sym (ident-word l c)) ∙ z
 
   pub cut-course : (ms : List ℕ) (last : ℕ) → needed (recoverPlan (wordsThrough ms y)) ≤ last
       → Course w s k x y ms last (wordsThrough (ms ++ last ∷ []) y) (answerOf (recoverPlan (wordsThrough ms y)) last)
@@ -118,8 +174,13 @@ module _ (w : List ℕ) (s : Sound w) (k : ℕ) (own x y₀ : List ℕ) (cut : C
         others = theirs;
         head = final-head l y (standing .size) t accepted;
         outside =
-            λ c n o.
-            (final-zero l y (standing .size) t accepted c n o, λ f g z. final-outside l y (standing .size) t accepted c f n o g z);
+            λ c n o. (
+              final-zero l y (standing .size) t accepted c n o,
+              still-worn c n o,
+              λ f g z. final-outside l y (standing .size) t accepted c f n o g z,
+            );
+        wornOut = worn-out;
+        worn = worn-kept;
         stored = subst (All (Kind l y t)) (sym (r .made)) (plan-kinds l y t);
         adds = r .adds ∙ sym (plan-differs l t ps y (standing .size) accepted refl);
         made = r .made ∙ ap allStores (sym (standing-plan l t y standing));

@@ -8,7 +8,7 @@ use lib.ListN.{length, getD}
 use Rattle.sequences.specs.Sequence.{_∈_}
 use Rattle.sequences.proofs.Members.{member?}
 use Rattle.layout.specs.declared.Layout.{Layout}
-use Rattle.layout.specs.Words.{Node, cellAt, cellWords, identAt, identOf}
+use Rattle.layout.specs.Words.{Node, cellAt, cellWords, identAt, identOf, Unlisted}
 use Rattle.lists.specs.Lists.{IsList, SoundLists, SameCells}
 use Rattle.lists.proofs.Unique.{member-ident}
 use Rattle.lists.proofs.Same.{lists-apart}
@@ -23,7 +23,7 @@ pub record Cut (l : Layout) (w : List ℕ) (s : SoundLists l w) (k : ℕ) (t x y
   pub head : (b : ℕ) → b < 8 → getD y b 0 ≡ getD w b 0
   pub others : (j : ℕ) → j < l .lists → (j ≡ k → ⊥) → SameCells l w y (j ∷ s .sequence j)
   pub rest : (c : ℕ) → Node l c → ((j : ℕ) → j < l .lists → (j ≡ k → ⊥) → c ∈ s .sequence j → ⊥)
-      → (getD y (identAt l c) 0 ≡ 0) ⊎ (getD y (identAt l c) 0 ≡ identOf k)
+      → Unlisted (getD y (identAt l c) 0) ⊎ (getD y (identAt l c) 0 ≡ identOf k)
   pub own : k < l .lists → Own l y k t
   pub apart : k < l .lists → (c : ℕ) → c ∈ (k ∷ t) → (j : ℕ) → j < l .lists → (j ≡ k → ⊥) → c ∈ (j ∷ s .sequence j) → ⊥
   pub list : k < l .lists → IsList l x k t
@@ -45,13 +45,13 @@ settled l w y k h s i alt kept a b =
       told = inl refl;
     }
 
--- a node in no list but perhaps k has identifier 0 or that of k
+-- a node in no list but perhaps k is free, worn or has the identifier of k
 pub rest-ident
     : (l : Layout) (w : List ℕ) (s : SoundLists l w) (k c : ℕ) → Node l c → ((j : ℕ) → j < l .lists → (j ≡ k → ⊥) → c ∈ s .sequence j → ⊥)
-    → (getD w (identAt l c) 0 ≡ 0) ⊎ (getD w (identAt l c) 0 ≡ identOf k)
+    → Unlisted (getD w (identAt l c) 0) ⊎ (getD w (identAt l c) 0 ≡ identOf k)
 rest-ident l w s k c nc o = by (decLt k (l .lists)) (member? c (s .sequence k))
   where
-    by : Dec (k < l .lists) → (c ∈ s .sequence k) ⊎ (c ∈ s .sequence k → ⊥) → (getD w (identAt l c) 0 ≡ 0) ⊎ (getD w (identAt l c) 0 ≡ identOf k)
+    by : Dec (k < l .lists) → (c ∈ s .sequence k) ⊎ (c ∈ s .sequence k → ⊥) → Unlisted (getD w (identAt l c) 0) ⊎ (getD w (identAt l c) 0 ≡ identOf k)
     by (yes h) (inl m) = inr (member-ident l w k (s .sequence k) c (s .lists k h) m)
     by (no h) m = inl (s .outside c nc (λ j g. o j g (λ e. h (subst (λ (i : ℕ). i < l .lists) e g))))
     by (yes h) (inr n) = inl (s .outside c nc (λ j g q. other j g q (ℕ-discrete j k)))

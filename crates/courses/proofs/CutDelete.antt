@@ -17,7 +17,7 @@ use Rattle.sequences.proofs.Splice.{backward-same}
 use Rattle.stores.specs.Stores.{Write, write, run, applied, Spares}
 use Rattle.stores.proofs.Laws.{length-run, run-out, run-either, applied-none, applied-all}
 use Rattle.layout.specs.declared.Layout.{Layout}
-use Rattle.layout.specs.Words.{Node, sizeOf, cellAt, cellWords, identAt, forwardAt, backAt, countAt, identOf}
+use Rattle.layout.specs.Words.{Node, sizeOf, cellAt, cellWords, identAt, forwardAt, backAt, countAt, identOf, Unlisted, free}
 use Rattle.layout.proofs.Apart.{words-apart, links-words, words-header}
 use Rattle.lists.specs.Lists.{IsList, SoundLists}
 use Rattle.lists.specs.Decide.{viewOf, countIn}
@@ -165,11 +165,11 @@ module _ (l : Layout) (w : List ℕ) (exact : length w ≡ sizeOf l) (s : SoundL
       word : (y g : ℕ) → 1 ≤ g → g < cellWords l y → identAt l x ≡ cellAt l y + g → ⊥
       word y g h i e = words-apart l x y 0 g (λ _ b. omega arith) (links-words l x 0 (omega arith)) i (sym (ident-word l x) ∙ e)
 
-  -- a node in no list but k has identifier 0 or that of k, wherever the delete is cut
+  -- a node in no list but k is free, worn or has the identifier of k, wherever the delete is cut
   rest : (m x : ℕ) → Node l x → ((j : ℕ) → j < l .lists → (j ≡ k → ⊥) → x ∈ s .sequence j → ⊥)
-      → (getD (applied full m w) (identAt l x) 0 ≡ 0) ⊎ (getD (applied full m w) (identAt l x) 0 ≡ identOf k)
+      → Unlisted (getD (applied full m w) (identAt l x) 0) ⊎ (getD (applied full m w) (identAt l x) 0 ≡ identOf k)
   rest m x n o =
-      ⊎-elim (λ e. ⊎-elim (λ z. inl (e ∙ z)) (λ z. inr (e ∙ z)) (rest-ident l w s k x n o)) inl
+      ⊎-elim (λ e. ⊎-elim (λ z. inl (subst Unlisted (sym e) z)) (λ z. inr (e ∙ z)) (rest-ident l w s k x n o)) (λ z. inl (free z))
       (run-either (take m full) w (identAt l x) 0 (all-take (λ (q : Write). identAt l x ≡ q .at → q .value ≡ 0) full m (idents x)))
 
   -- no store goes to a record word of a member

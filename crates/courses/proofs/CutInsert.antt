@@ -17,7 +17,7 @@ use Rattle.sequences.proofs.Splice.{backward-same}
 use Rattle.stores.specs.Stores.{Write, write, store, run, applied, Spares, inRow}
 use Rattle.stores.proofs.Laws.{run-append, length-run, run-out, run-either, applied-none, applied-all, row-spares}
 use Rattle.layout.specs.declared.Layout.{Layout}
-use Rattle.layout.specs.Words.{tailWords, Node, cellCount, sizeOf, cellAt, cellWords, identAt, forwardAt, backAt, recordAt, identOf}
+use Rattle.layout.specs.Words.{tailWords, Node, cellCount, sizeOf, cellAt, cellWords, identAt, forwardAt, backAt, recordAt, identOf, Unlisted}
 use Rattle.layout.proofs.Apart.{words-apart, links-words, words-header, words-node}
 use Rattle.lists.specs.Lists.{IsList, SoundLists, SameCells}
 use Rattle.lists.specs.Decide.{viewOf, countIn}
@@ -223,11 +223,11 @@ module _ (l : Layout) (w : List ℕ) (exact : length w ≡ sizeOf l) (s : SoundL
       other : (d g : ℕ) → 0 < g → g < cellWords l d → identAt l c ≡ cellAt l d + g → ⊥
       other d g h b e = words-apart l c d 0 g (λ _ q. omega arith) (links-words l c 0 (omega arith)) b (sym (ident-word l c) ∙ e)
 
-  -- a node in no other list is marked free or with the list's identifier
+  -- a node in no other list is free, worn or has the list's identifier
   rest : (m c : ℕ) → Node l c → ((j : ℕ) → j < l .lists → (j ≡ k → ⊥) → c ∈ s .sequence j → ⊥)
-      → (getD (applied full m w) (identAt l c) 0 ≡ 0) ⊎ (getD (applied full m w) (identAt l c) 0 ≡ identOf k)
+      → Unlisted (getD (applied full m w) (identAt l c) 0) ⊎ (getD (applied full m w) (identAt l c) 0 ≡ identOf k)
   rest m c nc o =
-      ⊎-elim (λ e. ⊎-elim (λ z. inl (e ∙ z)) (λ z. inr (e ∙ z)) (rest-ident l w s k c nc o)) inr
+      ⊎-elim (λ e. ⊎-elim (λ z. inl (subst Unlisted (sym e) z)) (λ z. inr (e ∙ z)) (rest-ident l w s k c nc o)) inr
       (run-either (take m full) w (identAt l c) (identOf k)
       (all-take (λ (x : Write). identAt l c ≡ x .at → x .value ≡ identOf k) full m (ident-stores c)))
 

@@ -6,7 +6,8 @@ use native.Mathlib.Omega.{arith}
 use lib.Seq.{take-nil}
 use Rattle.stores.specs.Stores.{Write, Plan, refuse, stores, run, applied, answerOf, wordsAfter}
 use Rattle.layout.specs.Words.{layoutOf}
-use Rattle.lists.specs.Lists.{Sound}
+use Rattle.lists.specs.Lists.{Sound, KeepsWorn}
+use Rattle.edits.proofs.Worn.{gap-keeps, chain-keeps, delete-keeps}
 use Rattle.recovery.specs.Plan.{recoverPlan}
 use Rattle.courses.specs.Course.{named, editPlan, allStores, needed, due, alteredBelow, wordsThrough}
 use Rattle.courses.specs.Demand3.{Course, Demand3}
@@ -41,6 +42,14 @@ left-cut w s k d ps (insertsAll hk p hp cells free words size) m =
     chain-cut (layoutOf w) w (s .exact) (s .lists) k hk p hp cells free words (omega (arith, size)) m
 left-cut w s k d ps (deletes hk p hp) m = delete-cut (layoutOf w) w (s .exact) (s .lists) k hk p hp m
 
+-- and keeps the worn nodes
+pub left-keeps : (w : List ℕ) (s : Sound w) (k : ℕ) (d : ℕ → ℕ) (ps : List Write) → Left w s k d ps → (m : ℕ) → KeepsWorn (layoutOf w) w (applied ps m w)
+left-keeps w s k d ps (nothing _) m = subst (KeepsWorn (layoutOf w) w) (sym (applied-nothing m w)) (λ c n z x f i g. refl)
+left-keeps w s k d ps (inserts hk p hp i hi free words size) m = gap-keeps (layoutOf w) (s .inRange) w (s .exact) (s .lists) k hk p hp i hi free words size m
+left-keeps w s k d ps (insertsAll hk p hp cells free words size) m =
+    chain-keeps (layoutOf w) (s .inRange) w (s .exact) (s .lists) k hk p hp cells words free size m
+left-keeps w s k d ps (deletes hk p hp) m = delete-keeps (layoutOf w) (s .inRange) w (s .exact) (s .lists) k hk p hp m
+
 pub left-demand3 : LeftDemand3
 left-demand3 w s k d ps f m alts allowed y ms last q =
     let c = left-cut w s k d ps f m in
@@ -48,7 +57,8 @@ left-demand3 w s k d ps f m alts allowed y ms last q =
     (λ (v : List ℕ).
     needed (recoverPlan (wordsThrough ms v)) ≤ last
     → Course w s k (applied ps (d m) w) v ms last (wordsThrough (ms ++ last ∷ []) v) (answerOf (recoverPlan (wordsThrough ms v)) last))
-    (sym q) (cut-course w s k (c .0) (applied ps (d m) w) (applied ps m w) (c .1) alts allowed ms last)
+    (sym q) (cut-course w s k (c .0) (applied ps (d m) w) (applied ps m w) (c .1)
+    (left-keeps w s k d ps f (d m)) (left-keeps w s k d ps f m) alts allowed ms last)
 
 pub demand3 : Demand3
 demand3 y ms last w s e m alts allowed q =

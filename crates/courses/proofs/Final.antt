@@ -6,12 +6,13 @@ use mathlib.Core.Logic.{_⊎_, inl, inr}
 use native.Mathlib.Decide.{decLt}
 use native.Mathlib.Omega.{arith}
 use lib.ListN.{length, getD}
+use borrow.Author.Tests.{eq-eqb, eqb-true}
 use Rattle.sequences.specs.Sequence.{_∈_}
 use Rattle.sequences.proofs.Members.{all-in, in-all}
 use Rattle.stores.specs.Stores.{Write, run, Spares}
-use Rattle.stores.proofs.Laws.{run-out}
+use Rattle.stores.proofs.Laws.{run-out, run-word}
 use Rattle.layout.specs.declared.Layout.{Layout}
-use Rattle.layout.specs.Words.{linkWords, countWord, firstNode, Node, sizeOf, cellAt, cellWords, identAt}
+use Rattle.layout.specs.Words.{linkWords, countWord, firstNode, Node, sizeOf, cellAt, cellWords, identAt, wornIdent, Unlisted, free, worn}
 use Rattle.layout.proofs.Apart.{cells-apart, words-apart, links-words, words-header, cell-behind}
 use Rattle.lists.specs.Lists.{asked, IsList, SoundLists, SameCells}
 use Rattle.lists.proofs.Same.{ident-word}
@@ -20,6 +21,7 @@ use Rattle.recovery.proofs.Required.{Right, wrong-in}
 use Rattle.recovery.proofs.Slots.{Value, ident, forward, back, count, slot, asked-word}
 use Rattle.recovery.proofs.Joined.{one-joined}
 use Rattle.recovery.proofs.Count.{plan-kinds}
+use Rattle.recovery.proofs.Suffix.{worn-kept}
 use Rattle.recovery.proofs.Whole.{whole-sound}
 
 -- two stores in which list j has the sequence s hold the same words in its header and the same links in its members
@@ -68,7 +70,7 @@ module _ (l : Layout) (y : List ℕ) (exact : length y ≡ sizeOf l) (s : ℕ �
       elsewhere p (clear d lo out nz r) e =
           words-apart l c d f 0 (λ _ q. omega arith) g (links-words l d 0 (omega arith)) (e ∙ ap (λ (q : Write). q .at) r ∙ ident-word l d)
 
-  -- nor to a word of a node in no list but its identifier, which ends as 0
+  -- nor to a word of a node in no list but its identifier, which ends as 0 unless the node is worn
   pub final-outside : (c f : ℕ) → Node l c → (c ∈ joined s (l .lists) → ⊥) → 1 ≤ f → f < cellWords l c → getD Final (cellAt l c + f) 0 ≡ getD y (cellAt l c + f) 0
   final-outside c f n o h g = run-out (recoverStores l y s) y (cellAt l c + f) (plan-spares (cellAt l c + f) elsewhere)
     where
@@ -83,16 +85,37 @@ module _ (l : Layout) (y : List ℕ) (exact : length y ≡ sizeOf l) (s : ℕ �
       elsewhere p (clear d lo out nz r) e =
           words-apart l c d f 0 (λ _ q. omega arith) g (links-words l d 0 (omega arith)) (e ∙ ap (λ (q : Write). q .at) r ∙ ident-word l d)
 
+  -- nor to any word of a worn one
+  pub final-worn : (c f : ℕ) → Node l c → (c ∈ joined s (l .lists) → ⊥) → getD y (identAt l c) 0 ≡ wornIdent → f < cellWords l c
+      → getD Final (cellAt l c + f) 0 ≡ getD y (cellAt l c + f) 0
+  final-worn c f n o w g = run-out (recoverStores l y s) y (cellAt l c + f) (plan-spares (cellAt l c + f) elsewhere)
+    where
+      member : (k : ℕ) → k < l .lists → (d : ℕ) → d ∈ (k ∷ s k) → c ≡ d → ⊥
+      member k hk d (List·Memᴰ·head e) q = omega (arith, n .low)
+      member k hk d (List·Memᴰ·tail m) q = o (one-joined s (l .lists) k c hk (subst (λ (x : ℕ). x ∈ s k) (sym q) m))
+
+      elsewhere : (p : Write) → Kind l y s p → cellAt l c + f ≡ p .at → ⊥
+      elsewhere p (mend k g′ m) e =
+          let t = slot l k (s k) g′ (wrong-in y (asked l k (s k)) m .0) in
+          cells-apart l c (t .cell) f (t .word) (member k g′ (t .cell) (t .within)) g (t .fits) (e ∙ t .at)
+      elsewhere p (clear d lo out nz r) e =
+          cells-apart l c d f 0 (λ q. nz (worn (ap (λ (x : ℕ). getD y (identAt l x) 0) (sym q) ∙ w))) g (links-words l d 0 (omega arith))
+          (e ∙ ap (λ (q : Write). q .at) r ∙ ident-word l d)
+
   pub final-lists : (x : SoundLists l Final) × (x .sequence ≡ s)
   final-lists = whole-sound l y s exact a
 
   pub final-list : (j : ℕ) → j < l .lists → IsList l Final j (s j)
   final-list j h = subst (λ (t : ℕ → List ℕ). IsList l Final j (t j)) (final-lists .1) (final-lists .0 .lists j h)
 
-  pub final-zero : (c : ℕ) → Node l c → (c ∈ joined s (l .lists) → ⊥) → getD Final (identAt l c) 0 ≡ 0
-  final-zero c n o =
-      final-lists .0 .outside c n
-      (λ k h m. o (one-joined s (l .lists) k c h (subst (λ (t : ℕ → List ℕ). c ∈ t k) (final-lists .1) m)))
+  pub final-zero : (c : ℕ) → Node l c → (c ∈ joined s (l .lists) → ⊥) → (getD y (identAt l c) 0 ≡ wornIdent → ⊥) → getD Final (identAt l c) 0 ≡ 0
+  final-zero c n o z =
+      by (final-lists .0 .outside c n (λ k h m. o (one-joined s (l .lists) k c h (subst (λ (t : ℕ → List ℕ). c ∈ t k) (final-lists .1) m))))
+    where
+      by : Unlisted (getD Final (identAt l c) 0) → getD Final (identAt l c) 0 ≡ 0
+      by (free e) = e
+      by (worn e) =
+          absurd (z (eqb-true _ wornIdent (sym (worn-kept l y s a Final (run-word (recoverStores l y s) y) c n o) ∙ eq-eqb _ wornIdent e)))
 
   -- a list's words are those of any store that has the same list, if its members' records are
   pub final-words : (w : List ℕ) (j : ℕ) → j < l .lists → IsList l w j (s j)

@@ -14,10 +14,11 @@ use borrow.Author.Tests.{eqb-false}
 use Rattle.sequences.specs.Sequence.{_∈_, All, Forward, Backward}
 use Rattle.sequences.proofs.Members.{member?}
 use Rattle.layout.specs.declared.Layout.{Layout}
-use Rattle.layout.specs.Words.{Node, cellAt, cellWords, identAt, identOf}
+use Rattle.layout.specs.Words.{Node, InRange, cellAt, cellWords, identAt, identOf, Unlisted}
 use Rattle.layout.proofs.Apart.{cells-apart, words-apart, links-words, words-header}
 use Rattle.lists.specs.Lists.{IsList, SoundLists, SameCells}
 use Rattle.lists.specs.Decide.{viewOf}
+use Rattle.lists.proofs.Nodes.{list-used}
 use Rattle.lists.proofs.Unique.{member-ident}
 use Rattle.lists.proofs.Same.{ident-word, lists-apart}
 use Rattle.edits.specs.Edited.{replaced}
@@ -93,10 +94,10 @@ module _ (l : Layout) (w : List ℕ) (s : SoundLists l w) (k : ℕ) (alts : ℕ 
           (λ a. lists-apart l w j i (s .sequence j) (s .sequence i) h hi (λ x. y (sym x)) (s .lists j h) (s .lists i hi) c d m (altered-cell i hi ni d e v q .0) a)
           g (altered-cell i hi ni d e v q .1) z
 
-  -- the words before the alterations: every other list as in the sound store, and no identifiers but the named list's outside them
-  module _ (y₀ : List ℕ) (others : (j : ℕ) → j < l .lists → (j ≡ k → ⊥) → SameCells l w y₀ (j ∷ s .sequence j))
+  -- the words before the alterations: every other list as in the sound store, and outside them nodes that are free, worn or the named list's
+  module _ (range : InRange l) (y₀ : List ℕ) (others : (j : ℕ) → j < l .lists → (j ≡ k → ⊥) → SameCells l w y₀ (j ∷ s .sequence j))
       (rest : (c : ℕ) → Node l c → ((j : ℕ) → j < l .lists → (j ≡ k → ⊥) → c ∈ s .sequence j → ⊥)
-      → (getD y₀ (identAt l c) 0 ≡ 0) ⊎ (getD y₀ (identAt l c) 0 ≡ identOf k)) where
+      → Unlisted (getD y₀ (identAt l c) 0) ⊎ (getD y₀ (identAt l c) 0 ≡ identOf k)) where
     abbrev pub y : List ℕ
     y = alteredBelow l k alts (l .lists) y₀
 
@@ -146,7 +147,7 @@ module _ (l : Layout) (w : List ℕ) (s : SoundLists l w) (k : ℕ) (alts : ℕ 
             ap (λ (b : ℕ). getD y b 0) (ident-word l c)
             ∙ kept-outside c 0 (links-words l c 0 (omega arith)) out
             ∙ ap (λ (b : ℕ). getD y₀ b 0) (sym (ident-word l c)) in
-            ⊎-elim (λ z. omega (arith, sym e ∙ same ∙ z))
+            ⊎-elim (list-used range h (sym same ∙ e))
             (λ z. let q : 42400 + j ≡ 42400 + k = sym e ∙ same ∙ z in n (omega arith)) (rest c nc o)
           where
             out : (m : ℕ) → m < l .lists → (m ≡ k → ⊥) → c ∈ (m ∷ s .sequence m) → ⊥

@@ -7,8 +7,8 @@ use Rattle.sequences.specs.Sequence.{_∈_, All}
 use Rattle.stores.specs.declared.Answer.{Answer}
 use Rattle.stores.specs.declared.Answer.the-variants as A
 use Rattle.stores.specs.Stores.{run, answerOf, answerStores}
-use Rattle.layout.specs.Words.{headWords, Node, cellAt, cellWords, identAt, layoutOf}
-use Rattle.lists.specs.Lists.{Sound, IsList, SameCells}
+use Rattle.layout.specs.Words.{headWords, Node, cellAt, cellWords, identAt, wornIdent, layoutOf}
+use Rattle.lists.specs.Lists.{Sound, IsList, SameCells, KeepsWorn}
 use Rattle.edits.specs.Edited.{replaced}
 use Rattle.recovery.specs.Plan.{joined, recoverPlan, Kind, differing}
 use Rattle.courses.specs.Course.{Edit, named, allStores, needed, dueWords, Alteration, AllowedBut, found, wordsThrough, answersThrough, storesThrough, NotRefused, total}
@@ -28,12 +28,18 @@ pub record Course (w : List ℕ) (s : Sound w) (k : ℕ) (x y ms : List ℕ) (la
   -- "In the final store the list named by the call has its old words if .., else its new words. Every other list has its old words."
   pub named : k < layoutOf w .lists → SameCells (layoutOf w) x z (k ∷ own)
   pub others : (j : ℕ) → j < layoutOf w .lists → (j ≡ k → ⊥) → SameCells (layoutOf w) w z (j ∷ s .lists .sequence j)
-  -- "Words 0 to 7 and all nodes in none of these lists are as found, with 0 where the rule above clears."
+  -- "Words 0 to 7 and all nodes in none of these lists are as found, with 0 where the rule above clears": not on a worn node, which is as
+  -- found, whole.
   pub head : (a : ℕ) → a < headWords → getD z a 0 ≡ getD y a 0
   pub outside : (c : ℕ) → Node (layoutOf w) c → (c ∈ joined (replaced (s .lists .sequence) k own) (layoutOf w .lists) → ⊥)
-      → (getD z (identAt (layoutOf w) c) 0 ≡ 0)
+      → ((getD y (identAt (layoutOf w) c) 0 ≡ wornIdent → ⊥) → getD z (identAt (layoutOf w) c) 0 ≡ 0)
+      × (getD y (identAt (layoutOf w) c) 0 ≡ wornIdent → getD z (identAt (layoutOf w) c) 0 ≡ wornIdent)
       × ((f : ℕ) → 1 ≤ f → f < cellWords (layoutOf w) c → getD z (cellAt (layoutOf w) c + f) 0 ≡ getD y (cellAt (layoutOf w) c + f) 0)
-  -- every store goes to a faulty word of these lists or to the identifier of a cell in none
+  -- The nodes that are worn in the sound store are in none of these lists, and keep all their words.
+  pub wornOut : (c : ℕ) → Node (layoutOf w) c → getD w (identAt (layoutOf w) c) 0 ≡ wornIdent
+      → c ∈ joined (replaced (s .lists .sequence) k own) (layoutOf w .lists) → ⊥
+  pub worn : KeepsWorn (layoutOf w) w z
+  -- every store goes to a faulty word of these lists or to the identifier of a cell in none, which is not worn
   pub stored : All (Kind (layoutOf w) y (replaced (s .lists .sequence) k own)) (storesThrough (ms ++ last ∷ []) y)
   -- "The runs' numbers of stores, the last run's too, add up to the count of places where the found and the final store hold different
   -- words."

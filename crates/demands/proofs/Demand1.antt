@@ -16,20 +16,21 @@ use Rattle.stores.proofs.Laws.{length-run}
 use Rattle.layout.specs.declared.Layout.{Layout}
 use Rattle.layout.specs.declared.Opened.{Opened}
 use Rattle.layout.specs.declared.Opened.the-variants as O
-use Rattle.layout.specs.Words.{ask, headWords, marked, layoutOf, inRange, sizeOf, recordAt, isNode, openedBy, opened, afterOpen}
-use Rattle.layout.proofs.Laws.{opened-open, length-formatted}
+use Rattle.layout.specs.Words.{ask, headWords, marked, layoutOf, inRange, sizeOf, recordAt, isNode, openedBy, opened, afterOpen, isFree}
+use Rattle.layout.proofs.Laws.{opened-open, length-formatted, cell-node, node-fits}
 use Rattle.lists.specs.Decide.{viewOf, soundOf, sequenceOf}
+use Rattle.lists.proofs.Decided.{sound-lists}
 use Rattle.requests.specs.declared.Free.{Free}
 use Rattle.requests.specs.declared.Free.the-variants.{Cell, Full}
 use Rattle.requests.specs.declared.Site.{Site}
 use Rattle.requests.specs.declared.Sited.{Sited}
 use Rattle.requests.specs.declared.Sited.the-variants as S
 use Rattle.requests.specs.declared.Request.{Request}
-use Rattle.requests.specs.declared.Request.the-variants.{Check, Whole, Member, Gap, Gaps}
+use Rattle.requests.specs.declared.Request.the-variants.{Check, Whole, Member, Gap, Gaps, Mark}
 use Rattle.requests.specs.declared.Looked.{Looked}
 use Rattle.requests.specs.declared.Looked.the-variants as K
 use Rattle.requests.specs.Requests.{around, firstFree, withFree, freeCells, memberAt, gapAt, gapsAt, siteIn, siteOf, withSite, lookOf, withLook}
-use Rattle.edits.specs.Edits.{insertWrites, chain, deleteWrites}
+use Rattle.edits.specs.Edits.{insertWrites, chain, deleteWrites, markWrites}
 use Rattle.edits.proofs.Inside.{insert-inside, delete-inside}
 use Rattle.edits.proofs.Done.{looked}
 use Rattle.edits.proofs.Gaps.{freeFrom, gaps-looked, gaps-chain, gaps-inside}
@@ -41,8 +42,8 @@ use Rattle.axle_store.specs.declared.Formatted.the-variants as F
 use Rattle.axle_store.specs.declared.Checked.the-variants as C
 use Rattle.axle_store.specs.declared.Counted.the-variants as L
 use Rattle.axle_store.specs.Answers.{formattedWords}
-use Rattle.axle_store.specs.Calls.{formatAnswer, formatWords, checkAnswer, lengthAnswer, readNumber, readWords, readStart, insertPlan, severalPlan, deletePlan}
-use Rattle.axle_store.proofs.Sites.{member-placed, gap-placed, record-fits}
+use Rattle.axle_store.specs.Calls.{formatAnswer, formatWords, checkAnswer, lengthAnswer, readNumber, readWords, readStart, insertPlan, severalPlan, deletePlan, markPlan}
+use Rattle.axle_store.proofs.Sites.{member-placed, gap-placed, record-fits, mark-placed}
 use Rattle.demands.specs.Demand1.{Refuses, Reads, Demand1}
 
 -- what holds of a question's refusal and of what follows holds of its outcome
@@ -73,6 +74,7 @@ ownNumbers (Whole k) = 5 ∷ 6 ∷ []
 ownNumbers (Member k p) = 5 ∷ 6 ∷ 7 ∷ []
 ownNumbers (Gap k p c m) = 5 ∷ 6 ∷ 7 ∷ 8 ∷ 9 ∷ 10 ∷ []
 ownNumbers (Gaps k p c m) = 5 ∷ 6 ∷ 7 ∷ 8 ∷ 9 ∷ 10 ∷ []
+ownNumbers (Mark c) = 6 ∷ 8 ∷ 13 ∷ []
 
 -- the search for a free cell refuses, or finds one
 searched : (P : Sited → Type 0) (x : Free) {r : Sited} {at : ℕ → Sited} → P r → ((i : ℕ) → P (at i)) → P (withFree x r at)
@@ -103,6 +105,11 @@ siting l w (Gaps k p c m) P h rest =
     (asked P (ltb 0 m && eqb (m % l .width) 0) (h .1 .1 .1 .1 .0)
     (asked P (leb (m / l .width) (length (freeCells (viewOf l w .ident) (around l c (l .nodes))))) (h .1 .1 .1 .1 .1 .0)
     (searched P (firstFree (viewOf l w .ident) (around l c (l .nodes))) (h .1 .1 .1 .1 .1 .0) (λ i. rest _)))))))
+siting l w (Mark c) P h rest =
+    asked P (soundOf l w) (h .0)
+    (asked P (isNode l c) (h .1 .0)
+    (asked P (isFree (viewOf l w .ident c)) (h .1 .1 .0)
+    (rest _)))
 
 -- and of all of them
 abbrev numbersOf : Request → List ℕ
@@ -247,7 +254,7 @@ severals w k p c words =
     (λ l t e.
     let a = looked w q l t e in
     let o = opened-open w l (a .0) in
-    let s = gaps-looked l w k p c (length words) t (a .1) .lists in
+    let s = sound-lists l (o .2) w (gaps-looked l w k p c (length words) t (a .1) .sound) in
     stored (numbersOf q) w (chain l k (t .before) (t .after) (t .count) (freeFrom l w c (length words / l .width)) words)
     (rw (o .3, gaps-chain l w s k p c (length words) t (a .1) words) (gaps-inside l w s k p c (length words) t (a .1) (o .2) words refl)))
 
@@ -259,6 +266,16 @@ deletes w k p =
     (λ l t e.
     let a = member-placed w k p l t e in
     stored (numbersOf q) w (deleteWrites l k t) (rw (a .1) (delete-inside (a .0))))
+
+marks : (w : List ℕ) (c : ℕ) → Refuses (numbersOf (Mark c)) (markPlan w c) w
+unfolding markPlan
+marks w c =
+    let q = Mark c in
+    looking w q (λ x. Refuses (numbersOf q) (withLook x refuse (λ l t. stores (markWrites l (t .cell)))) w) (refused (numbersOf q) w)
+    (λ l t e.
+    let a = mark-placed w c l t e in
+    stored (numbersOf q) w (markWrites l (t .cell))
+    (omega (arith, a .0 .exact, cell-node l (t .cell) (a .1 .low), node-fits l (t .cell) (a .1)), tt))
 
 -- recover: a list that is refused is refused with 11 or 12
 abbrev recoverNumbers : List ℕ
@@ -299,5 +316,6 @@ demand1 =
       inserts = inserts;
       severals = severals;
       deletes = deletes;
+      marks = marks;
       recovers = recovers;
     }

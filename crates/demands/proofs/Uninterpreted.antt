@@ -1,7 +1,7 @@
 -- Nothing interprets a record: no question, answer or store depends on a word of one.
 use Prim.Native.Nat.{ℕ, zero, suc, _+_, _*_, _/_, _≤_, _<_}
 use mathlib.Core.Path.{_≡_, refl, ap, _∙_, sym, subst, fun-ext}
-use mathlib.Core.List.{List, [], _∷_, reverse, append-nil, List·Memᴰ, List·Memᴰ·append-cases}
+use mathlib.Core.List.{List, [], _∷_, _++_, map, reverse, append-nil, List·Memᴰ, List·Memᴰ·append-cases}
 use mathlib.Core.Logic.{⊎-elim}
 use native.Mathlib.Omega.{arith}
 use native.Mathlib.Nat.{zero-mul, one-mul, suc-mul}
@@ -9,20 +9,21 @@ use lib.Dec.{eqb, leb}
 use lib.ListN.{length, getD, take, drop, length-drop}
 use lib.Seq.{take-all}
 use Rattle.sequences.specs.Sequence.{All, trail}
-use Rattle.stores.specs.Stores.{Write, refuse, stores}
+use Rattle.stores.specs.Stores.{Write, write, refuse, stores}
 use Rattle.layout.specs.declared.Layout.{Layout}
 use Rattle.layout.specs.declared.Opened.{Opened}
 use Rattle.layout.specs.declared.Opened.the-variants as O
-use Rattle.layout.specs.Words.{Node, isNode, cellAt, cellWords, identAt, layoutOf, ask, opened, afterOpen}
+use Rattle.layout.specs.Words.{firstNode, Node, isNode, cellAt, cellWords, identAt, layoutOf, ask, opened, afterOpen}
 use Rattle.layout.proofs.Laws.{tail-width, opened-open}
 use Rattle.layout.proofs.Apart.{words-apart, words-header, words-node, links-words, cell-behind}
 use Rattle.lists.specs.Lists.{asked}
 use Rattle.lists.specs.Decide.{View, viewOf, countIn, sequenceIn, sequenceOf}
+use Rattle.lists.proofs.Decided.{sound-lists}
 use Rattle.lists.proofs.Same.{ident-word, count-word, same-opened}
 use Rattle.requests.specs.declared.Site.{Site}
 use Rattle.requests.specs.declared.Sited.{Sited}
 use Rattle.requests.specs.declared.Request.{Request}
-use Rattle.requests.specs.declared.Request.the-variants.{Check, Whole, Member, Gap, Gaps}
+use Rattle.requests.specs.declared.Request.the-variants.{Check, Whole, Member, Gap, Gaps, Mark}
 use Rattle.requests.specs.declared.Looked.{Looked}
 use Rattle.requests.specs.declared.Looked.the-variants as K
 use Rattle.requests.specs.Requests.{around, freeCells, siteIn, siteOf, withSite, lookOf}
@@ -31,13 +32,13 @@ use Rattle.edits.specs.Edits.{insertLinks, insertWrites, chain}
 use Rattle.edits.proofs.Writes.{record-word}
 use Rattle.edits.proofs.Done.{looked}
 use Rattle.edits.proofs.Gaps.{freeFrom, gaps-looked, gaps-cells, gaps-words}
-use Rattle.recovery.specs.Fits.{backwardOf, fewWrong, same, fitting, fitOf}
-use Rattle.recovery.specs.Plan.{listsAsked, required, recoverStores, onlyOf, fittingOf, fitNumber, refusalFrom, recoverOf, recoverPlan}
+use Rattle.recovery.specs.Fits.{wrong, backwardOf, fewWrong, same, fitting, fitOf}
+use Rattle.recovery.specs.Plan.{joined, outOf, listsAsked, required, recoverStores, onlyOf, fittingOf, fitNumber, refusalFrom, recoverOf, recoverPlan}
 use Rattle.recovery.proofs.Slots.{Value, ident, forward, back, count, slot}
 use Rattle.recovery.proofs.Required.{wrong-same}
 use Rattle.recovery.proofs.Count.{in-lists, in-clears}
 use Rattle.recovery.proofs.Whole.{plan-same}
-use Rattle.axle_store.specs.Calls.{formatAnswer, checkAnswer, lengthAnswer, readNumber, readStart, insertPlan, severalPlan, deletePlan}
+use Rattle.axle_store.specs.Calls.{formatAnswer, checkAnswer, lengthAnswer, readNumber, readStart, insertPlan, severalPlan, deletePlan, markPlan}
 use Rattle.axle_store.proofs.Cases.{insert-refused, insert-at, several-refused, several-at}
 use Rattle.axle_store.proofs.Sites.{gap-placed}
 use Rattle.demands.specs.Records.{RecordWord, SameButRecords, SameCalls, SameWrites, none, next, SameStores, refused, stored, Uninterpreted}
@@ -133,10 +134,14 @@ module _ (w w′ : List ℕ) (s : SameButRecords w w′) where
 
   same-required : (t : ℕ → List ℕ) → recoverStores l w′ t ≡ recoverStores l w t
   same-required t =
-      wrong-same w w′ (required l t)
+      ap
+      (λ (v : View).
+      wrong w′ (listsAsked l t ++ map (λ c. write (identAt l c) 0) (outOf (v .ident) (joined t (l .lists)) (firstNode l) (l .nodes))))
+      same-view
+      ∙ wrong-same w w′ (required l w t)
       (λ p m.
-      ⊎-elim (λ i. let k = in-lists l t i in same-asked (k .0) (k .1) (t (k .0)) p (k .2))
-      (λ i. let c = in-clears l t i in moved (ap (λ (q : Write). q .at) (sym (c .3))) (same-ident (c .0)))
+      ⊎-elim (λ i. let k = in-lists l w t i in same-asked (k .0) (k .1) (t (k .0)) p (k .2))
+      (λ i. let c = in-clears l w t i in moved (ap (λ (q : Write). q .at) (sym (c .4))) (same-ident (c .0)))
       (List·Memᴰ·append-cases (listsAsked l t) m))
 
   same-stores : recoverStores l w′ (fittingOf l w′) ≡ recoverStores l w (fittingOf l w)
@@ -168,7 +173,7 @@ module _ (w w′ : List ℕ) (s : SameButRecords w w′) where
           ∙ sym (several-at w k p c words e)
 
   same-calls : SameCalls w w′
-  unfolding formatAnswer checkAnswer lengthAnswer readNumber readStart insertPlan deletePlan recoverPlan
+  unfolding formatAnswer checkAnswer lengthAnswer readNumber readStart insertPlan deletePlan markPlan recoverPlan
   same-calls =
       record {
         questions = same-look;
@@ -180,6 +185,7 @@ module _ (w w′ : List ℕ) (s : SameButRecords w w′) where
         inserts = λ k p c words. rw (same-look (Gap k p c (length words)));
         severals = same-several;
         deletes = λ k p. rw (same-look (Member k p));
+        marks = λ c. rw (same-look (Mark c));
         recovers = after refuse (λ m. recoverOf m w′) (λ m. recoverOf m w) same-recovery;
       }
 
@@ -232,7 +238,7 @@ module _ (w : List ℕ) (k p c : ℕ) (words words′ : List ℕ) (e : length wo
       by (K.At l t) q q′ =
           let a = looked w (Gaps k p c (length words)) l t q in
           let m = length words in
-          let s = gaps-looked l w k p c m t (a .1) .lists in
+          let s = sound-lists l (opened-open w l (a .0) .2) w (gaps-looked l w k p c m t (a .1) .sound) in
           subst GivenSeveral (opened-open w l (a .0) .0)
           (stored _ _
           (chain-alike l k (t .before) (t .after) (t .count) (freeFrom l w c (m / l .width)) words words′

@@ -16,7 +16,7 @@ use Rattle.recovery.specs.Plan.{recoverPlan}
 use Rattle.axle_store.specs.declared.Formatted.the-variants as F
 use Rattle.axle_store.specs.declared.Checked.the-variants as C
 use Rattle.axle_store.specs.declared.Counted.the-variants as L
-use Rattle.axle_store.specs.Calls.{formatAnswer, formatWords, checkAnswer, lengthAnswer, readNumber, readWords, readStart, insertPlan, severalPlan, deletePlan}
+use Rattle.axle_store.specs.Calls.{formatAnswer, formatWords, checkAnswer, lengthAnswer, readNumber, readWords, readStart, insertPlan, severalPlan, deletePlan, markPlan}
 
 -- a call that stores, on the words w, whose questions have these numbers
 pub record Refuses (numbers : List ℕ) (plan : Plan) (w : List ℕ) : Type 0 where
@@ -46,4 +46,5 @@ pub record Demand1 : Type 0 where
   pub severals : (w : List ℕ) (k p c : ℕ) (words : List ℕ)
       → Refuses (1 ∷ 2 ∷ 3 ∷ 4 ∷ 5 ∷ 6 ∷ 7 ∷ 8 ∷ 9 ∷ 10 ∷ []) (severalPlan w k p c words) w
   pub deletes : (w : List ℕ) (k p : ℕ) → Refuses (1 ∷ 2 ∷ 3 ∷ 4 ∷ 5 ∷ 6 ∷ 7 ∷ []) (deletePlan w k p) w
+  pub marks : (w : List ℕ) (c : ℕ) → Refuses (1 ∷ 2 ∷ 3 ∷ 4 ∷ 6 ∷ 8 ∷ 13 ∷ []) (markPlan w c) w
   pub recovers : (w : List ℕ) → Refuses (1 ∷ 2 ∷ 3 ∷ 4 ∷ 11 ∷ 12 ∷ []) (recoverPlan w) w

@@ -10,7 +10,7 @@ use Rattle.layout.specs.Words.{Node, recordAt, layoutOf}
 use Rattle.requests.specs.declared.Request.{Request}
 use Rattle.requests.specs.Requests.{lookOf}
 use Rattle.recovery.specs.Plan.{recoverPlan}
-use Rattle.axle_store.specs.Calls.{formatAnswer, checkAnswer, lengthAnswer, readNumber, readStart, insertPlan, severalPlan, deletePlan}
+use Rattle.axle_store.specs.Calls.{formatAnswer, checkAnswer, lengthAnswer, readNumber, readStart, insertPlan, severalPlan, deletePlan, markPlan}
 
 -- word a belongs to the record of a node
 pub record RecordWord (l : Layout) (a : ℕ) : Type 0 where
@@ -36,6 +36,7 @@ pub record SameCalls (w w′ : List ℕ) : Type 0 where
   pub inserts : (k p c : ℕ) (words : List ℕ) → insertPlan w′ k p c words ≡ insertPlan w k p c words
   pub severals : (k p c : ℕ) (words : List ℕ) → severalPlan w′ k p c words ≡ severalPlan w k p c words
   pub deletes : (k p : ℕ) → deletePlan w′ k p ≡ deletePlan w k p
+  pub marks : (c : ℕ) → markPlan w′ c ≡ markPlan w c
   pub recovers : recoverPlan w′ ≡ recoverPlan w
 
 -- stores that differ in the values of the record stores alone: record after record, both store their words as the record of one node and

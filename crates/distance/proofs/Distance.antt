@@ -1,20 +1,30 @@
 -- The statement on altered words holds, for the calls on words and for those from C; and four altered words can pass, by calculation.
-use Prim.Native.Nat.{ℕ, _%_, _≤_}
-use mathlib.Core.Path.{_≡_, refl, ap, _∙_, sym}
+use Prim.Native.Nat.{ℕ, suc, _%_, _<_, _≤_}
+use mathlib.Core.Path.{_≡_, refl, ap, _∙_, sym, subst}
 use mathlib.Core.List.{List}
+use mathlib.Core.Logic.{_↔_}
 use native.Mathlib.Decide.{ℕ-discrete}
 use native.Mathlib.Omega.{arith}
-use lib.ListN.{length, getD, set}
-use lib.Seq.{getD-set-other}
+use lib.ListN.{length, getD, set, length-set}
+use lib.Seq.{getD-set-same, getD-set-other}
 use borrow.Author.Tests.{eq-eqb}
-use Rattle.sequences.specs.Sequence.{trail, range, filter}
+use Rattle.sequences.specs.Sequence.{_∈_, trail, range, filter}
+use Rattle.sequences.proofs.Members.{all-in}
 use Rattle.stores.specs.Stores.{run, Plan, refuse, stores, answerOf}
 use Rattle.byte_form.specs.Bytes.{wordsIn, byteWrites, bytesAfter}
-use Rattle.layout.specs.Words.{isNode, checkWords, nodeAt, cellAt, sizeOf, marked, layoutOf, layoutFor, inRange, openedBy, emptyHeaders, formatted}
+use Rattle.layout.specs.declared.Layout.{Layout}
+use Rattle.layout.specs.Words.{Node, isNode, checkWords, nodeAt, cellAt, identAt, wornIdent, worn, sizeOf, marked, layoutOf, layoutFor, inRange, openedBy, emptyHeaders, formatted}
+use Rattle.layout.proofs.Apart.{links-words, word-fits}
 use Rattle.lists.specs.Lists.{Sound}
 use Rattle.lists.specs.Decide.{turn, holds, allHold, members, soundIn}
+use Rattle.lists.proofs.Nodes.{list-used}
+use Rattle.lists.proofs.Unique.{member-ident}
+use Rattle.lists.proofs.Same.{ident-word}
 use Rattle.requests.specs.Requests.{siteIn, lookOf}
-use Rattle.recovery.specs.Plan.{recoverPlan, differing}
+use Rattle.recovery.specs.Plan.{joined, recoverPlan, differing}
+use Rattle.recovery.proofs.Differing.{differing-self, differing-step}
+use Rattle.recovery.proofs.Slots.{same-cell}
+use Rattle.recovery.proofs.Joined.{one-joined}
 use Rattle.axle_store.specs.declared.Checked.the-variants as C
 use Rattle.axle_store.specs.Answers.{checkedNumber}
 use Rattle.axle_store.specs.Calls.{checkAnswer}
@@ -47,8 +57,18 @@ four-differ = refl
 four-places : (s : Sound empty) → Changed empty s single
 unfolding empty single emptyHeaders formatted checkWords nodeAt cellAt
 four-places s =
-    record { size = refl; places = λ a. by a (ℕ-discrete a 9) (ℕ-discrete a 10) (ℕ-discrete a 11) (ℕ-discrete a 12) }
+    record {
+      size = refl;
+      places = λ a. by a (ℕ-discrete a 9) (ℕ-discrete a 10) (ℕ-discrete a 11) (ℕ-discrete a 12);
+      worn = λ i n o. only i (omega (arith, n .low, n .high));
+    }
   where
+    -- its only node is worn in neither
+    only : (i : ℕ) → i ≡ 1 → (getD empty (identAt (layoutOf empty) i) 0 ≡ wornIdent) ↔ (getD single (identAt (layoutOf empty) i) 0 ≡ wornIdent)
+    only i e =
+        subst (λ (j : ℕ). (getD empty (identAt (layoutOf empty) j) 0 ≡ wornIdent) ↔ (getD single (identAt (layoutOf empty) j) 0 ≡ wornIdent)) (sym e)
+        ((λ z. absurd (omega (arith, z))), λ z. absurd (omega (arith, z)))
+
     by : (a : ℕ) → Dec (a ≡ 9) → Dec (a ≡ 10) → Dec (a ≡ 11) → Dec (a ≡ 12) → (getD empty a 0 ≡ getD single a 0 → ⊥)
         → Place (layoutOf empty) (s .lists .sequence) a
     by a (yes e) q r t n = header 0 1 (omega arith) (omega arith) e
@@ -61,6 +81,63 @@ four-places s =
         ∙ getD-set-other (set (set empty 9 1) 10 1) 11 a 1 0 r
         ∙ getD-set-other (set empty 9 1) 10 a 1 0 q
         ∙ getD-set-other empty 9 a 1 0 p)))
+
+-- the same with its node worn
+marked-check : checkAnswer (set empty 12 wornIdent) ≡ C.Sound
+unfolding range filter empty trail isNode checkWords nodeAt cellAt sizeOf marked inRange openedBy emptyHeaders formatted turn holds allHold members soundIn siteIn lookOf checkAnswer
+marked-check = refl
+
+mark-passes : (w : List ℕ) × Sound w × (i : ℕ) × Node (layoutOf w) i × (differing w (set w (identAt (layoutOf w) i) wornIdent) ≡ 1)
+    × (checkAnswer (set w (identAt (layoutOf w) i) wornIdent) ≡ C.Sound)
+unfolding empty emptyHeaders formatted checkWords nodeAt cellAt differing
+mark-passes = (empty, check-sound empty empty-check, 1, record { low = omega arith; high = omega arith }, refl, marked-check)
+
+-- a member's identifier becomes 65,535
+module _ (w : List ℕ) (s : Sound w) (k c : ℕ) (h : k < layoutOf w .lists) (m : c ∈ s .lists .sequence k) where
+  abbrev l : Layout
+  l = layoutOf w
+
+  node : Node l c
+  node = all-in (Node l) (s .lists .sequence k) (s .lists .lists k h .nodes) m
+
+  abbrev a : ℕ
+  a = identAt l c
+
+  inside : a < length w
+  inside = omega (arith, s .exact, ident-word l c, word-fits l c 0 (node .high) (links-words l c 0 (omega arith)))
+
+  altered-ident : Changed w s (set w a wornIdent)
+  altered-ident =
+      record {
+        size = length-set w a wornIdent;
+        places = λ b n. by b n (ℕ-discrete b a);
+        worn = λ i g o. subst (λ (x : ℕ). (getD w (identAt l i) 0 ≡ wornIdent) ↔ (x ≡ wornIdent)) (sym (kept i o)) ((λ z. z), λ z. z);
+      }
+    where
+      by : (b : ℕ) → (getD w b 0 ≡ getD (set w a wornIdent) b 0 → ⊥) → Dec (b ≡ a) → Place l (s .lists .sequence) b
+      by b n (yes e) = identifier c node e
+      by b n (no e) = absurd (n (sym (getD-set-other w a b wornIdent 0 e)))
+
+      kept : (i : ℕ) → (i ∈ joined (s .lists .sequence) (l .lists) → ⊥) → getD (set w a wornIdent) (identAt l i) 0 ≡ getD w (identAt l i) 0
+      kept i o =
+          getD-set-other w a (identAt l i) wornIdent 0
+          (λ e.
+          o (one-joined (s .lists .sequence) (l .lists) k i h
+          (subst (λ (x : ℕ). x ∈ s .lists .sequence k)
+          (same-cell l c i 0 0 (links-words l c 0 (omega arith)) (links-words l i 0 (omega arith)) (sym (ident-word l c) ∙ sym e ∙ ident-word l i)) m)))
+
+  one-differs : differing w (set w a wornIdent) ≡ 1
+  one-differs =
+      differing-step w (set w a wornIdent) a wornIdent inside (length-set w a wornIdent)
+      (λ z. list-used (s .inRange) h (member-ident l w k (s .lists .sequence k) c (s .lists .lists k h) m) (worn z))
+      (getD-set-same w a wornIdent 0 inside)
+      ∙ ap suc (differing-self (set w a wornIdent))
+
+  member-worn : (checkAnswer (set w a wornIdent) ≡ C.Refused 6) × PutBack w (set w a wornIdent)
+  member-worn = (
+    noticed w s (set w a wornIdent) altered-ident (omega (arith, one-differs)) (omega (arith, one-differs)),
+    put-back w s (set w a wornIdent) altered-ident one-differs,
+  )
 
 -- the calls from C
 no-store : (p : Plan) (b : List ℕ) → bytesAfter p 0 b ≡ b
@@ -92,6 +169,8 @@ distance =
       noticed = λ w s w′ c some few. noticed w s w′ c some (omega (arith, few));
       putBack = put-back;
       four = (empty, check-sound empty empty-check, single, four-places (check-sound empty empty-check), four-differ, single-check);
+      memberWorn = member-worn;
+      markPasses = mark-passes;
       noticedInBytes = bytes-noticed;
       putBackInBytes = bytes-back;
     }

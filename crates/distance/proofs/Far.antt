@@ -10,11 +10,12 @@ use Rattle.sequences.proofs.Members.{all-in, in-all, member?, every?}
 use Rattle.sequences.proofs.Pigeonhole.{pigeonhole-less}
 use Rattle.sequences.proofs.Reversed.{backward-forward, ring-reverse, all-reverse, reverse-in, in-reverse, different-reverse}
 use Rattle.layout.specs.declared.Layout.{Layout}
-use Rattle.layout.specs.Words.{identWord, forwardWord, backWord, countWord, cellCount, Node, isNode, cellAt, cellWords, sizeOf, identAt, identOf}
+use Rattle.layout.specs.Words.{identWord, forwardWord, backWord, countWord, cellCount, Node, isNode, cellAt, cellWords, sizeOf, identAt, identOf, InRange}
 use Rattle.layout.proofs.Apart.{words-apart, links-words, words-header, word-fits}
 use Rattle.lists.specs.Lists.{IsList, SoundLists}
 use Rattle.lists.specs.Decide.{viewOf, countIn}
 use Rattle.lists.proofs.Agree.{Holds, agrees-holds}
+use Rattle.lists.proofs.Nodes.{list-used}
 use Rattle.lists.proofs.Unique.{header-out, nodes-all, member-ident}
 use Rattle.lists.proofs.Same.{ident-word, count-word, ring-cell}
 use Rattle.recovery.specs.Plan.{joined, differing}
@@ -37,8 +38,8 @@ Apart [] = Unit {0}
 Apart (m ∷ ms) = All (λ n. m .cell ≡ n .cell → m .word ≡ n .word → ⊥) ms × Apart ms
 
 -- a node that carries a list's identifier is in the list
-carrier : (l : Layout) (w : List ℕ) (x : SoundLists l w) (k c : ℕ) → k < l .lists → Node l c → getD w (identAt l c) 0 ≡ identOf k → c ∈ x .sequence k
-carrier l w x k c h n e = by (member? c (joined (x .sequence) (l .lists)))
+carrier : (l : Layout) → InRange l → (w : List ℕ) (x : SoundLists l w) (k c : ℕ) → k < l .lists → Node l c → getD w (identAt l c) 0 ≡ identOf k → c ∈ x .sequence k
+carrier l r w x k c h n e = by (member? c (joined (x .sequence) (l .lists)))
   where
     by : (c ∈ joined (x .sequence) (l .lists)) ⊎ (c ∈ joined (x .sequence) (l .lists) → ⊥) → c ∈ x .sequence k
     by (inl m) =
@@ -46,9 +47,9 @@ carrier l w x k c h n e = by (member? c (joined (x .sequence) (l .lists)))
         let q : identOf (j .0) ≡ identOf k = sym (member-ident l w (j .0) (x .sequence (j .0)) c (x .lists (j .0) (j .1)) (j .2)) ∙ e in
         let same : j .0 ≡ k = omega (arith, q) in
         subst (λ (i : ℕ). c ∈ x .sequence i) same (j .2)
-    by (inr o) = absurd (omega (arith, e, x .outside c n (λ j g m. o (one-joined (x .sequence) (l .lists) j c g m))))
+    by (inr o) = absurd (list-used r h e (x .outside c n (λ j g m. o (one-joined (x .sequence) (l .lists) j c g m))))
 
-module _ (l : Layout) (w w′ : List ℕ) (exact : length w ≡ sizeOf l) (exact′ : length w′ ≡ sizeOf l) where
+module _ (l : Layout) (range : InRange l) (w w′ : List ℕ) (exact : length w ≡ sizeOf l) (exact′ : length w′ ≡ sizeOf l) where
   abbrev at : Word l w w′ → ℕ
   at m = cellAt l (m .cell) + m .word
 
@@ -137,12 +138,12 @@ module _ (l : Layout) (w w′ : List ℕ) (exact : length w ≡ sizeOf l) (exact
     abbrev left : (c : ℕ) → c ∈ s → (c ∈ s′ → ⊥) → Word l w w′
     left c m n =
         let node = all-in (Node l) s (i .nodes) m in
-        ident c node (λ e. n (carrier l w′ x′ k c h node (sym e ∙ member-ident l w k s c i m)))
+        ident c node (λ e. n (carrier l range w′ x′ k c h node (sym e ∙ member-ident l w k s c i m)))
 
     abbrev came : (c : ℕ) → c ∈ s′ → (c ∈ s → ⊥) → Word l w w′
     came c m n =
         let node = all-in (Node l) s′ (i′ .nodes) m in
-        ident c node (λ e. n (carrier l w x k c h node (e ∙ member-ident l w′ k s′ c i′ m)))
+        ident c node (λ e. n (carrier l range w x k c h node (e ∙ member-ident l w′ k s′ c i′ m)))
 
     reversed : reverse s ≡ reverse s′ → ⊥
     reversed e = other (sym (reverse-reverse s) ∙ ap reverse e ∙ reverse-reverse s′)

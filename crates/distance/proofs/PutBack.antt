@@ -16,7 +16,7 @@ use Rattle.stores.specs.declared.Answer.the-variants as A
 use Rattle.stores.specs.Stores.{Write, write, run, Plan, stores, answerOf, wordsAfter}
 use Rattle.stores.proofs.Laws.{applied-all}
 use Rattle.layout.specs.declared.Layout.{Layout}
-use Rattle.layout.specs.Words.{Node, cellAt, identAt, layoutOf}
+use Rattle.layout.specs.Words.{Node, InRange, cellAt, identAt, layoutOf}
 use Rattle.layout.proofs.Apart.{cells-apart, links-words}
 use Rattle.lists.specs.Lists.{SoundLists, Sound}
 use Rattle.lists.proofs.Same.{ident-word, list-same}
@@ -32,10 +32,10 @@ use Rattle.recovery.proofs.Whole.{accepted-plan, lists-accepted, sound-agrees, 
 use Rattle.courses.specs.Course.{Alteration, untouched, altered, alter, Allowed, AllowedBut, alteredBelow}
 use Rattle.courses.proofs.Found.{found-accepted}
 use Rattle.distance.specs.Distance.{Place, header, identifier, link, Changed, PutBack}
-use Rattle.distance.proofs.Noticed.{place-asked, changed-opened}
+use Rattle.distance.proofs.Noticed.{place-asked, changed-opened, changed-required, changed-unworn}
 
 -- a word of a list is altered: one alteration of demand 3, after a call that names no list
-module _ (l : Layout) (w : List ℕ) (x : SoundLists l w) (j : ℕ) (h : j < l .lists) (c f v : ℕ) (allowed : Allowed j (x .sequence j) (altered c f v)) where
+module _ (l : Layout) (range : InRange l) (w : List ℕ) (x : SoundLists l w) (j : ℕ) (h : j < l .lists) (c f v : ℕ) (allowed : Allowed j (x .sequence j) (altered c f v)) where
   alts : ℕ → Alteration
   alts i = cond (eqb i j) (altered c f v) untouched
 
@@ -83,7 +83,7 @@ module _ (l : Layout) (w : List ℕ) (x : SoundLists l w) (j : ℕ) (h : j < l .
       found =
           subst (λ (y : List ℕ). Accepted l y (replaced (x .sequence) (l .lists) []))
           (below (l .lists) (omega arith) ∙ rw (lt-ltb j (l .lists) h))
-          (found-accepted l w x (l .lists) alts all-allowed w (λ _ _ _ _ _ _ _. refl)
+          (found-accepted l w x (l .lists) alts all-allowed range w (λ _ _ _ _ _ _ _. refl)
           (λ i n o. inl (x .outside i n (λ k g m. o k g (λ e. omega (arith, e)) m))) [] (λ g. absurd (omega arith)))
 
       kept : (i : ℕ) → i < l .lists → replaced (x .sequence) (l .lists) [] i ≡ x .sequence i
@@ -105,18 +105,18 @@ outside-accepted l w x i v n o =
     apart k h c (List·Memᴰ·head e) q = omega (arith, n .low)
     apart k h c (List·Memᴰ·tail m) q = o (one-joined (x .sequence) (l .lists) k i h (subst (λ (d : ℕ). d ∈ x .sequence k) q m))
 
-place-accepted : (l : Layout) (w : List ℕ) (x : SoundLists l w) (a v : ℕ) → Place l (x .sequence) a → Accepted l (set w a v) (x .sequence)
-place-accepted l w x a v (header k f h g e) =
-    subst (λ (b : ℕ). Accepted l (set w b v) (x .sequence)) (sym e) (list-accepted l w x k h k f v (inl (refl, g)))
-place-accepted l w x a v (link k c f h m g e) =
-    subst (λ (b : ℕ). Accepted l (set w b v) (x .sequence)) (sym e) (list-accepted l w x k h c f v (inr (m, g)))
-place-accepted l w x a v (identifier i n e) = by (member? i (joined (x .sequence) (l .lists)))
+place-accepted : (l : Layout) → InRange l → (w : List ℕ) (x : SoundLists l w) (a v : ℕ) → Place l (x .sequence) a → Accepted l (set w a v) (x .sequence)
+place-accepted l r w x a v (header k f h g e) =
+    subst (λ (b : ℕ). Accepted l (set w b v) (x .sequence)) (sym e) (list-accepted l r w x k h k f v (inl (refl, g)))
+place-accepted l r w x a v (link k c f h m g e) =
+    subst (λ (b : ℕ). Accepted l (set w b v) (x .sequence)) (sym e) (list-accepted l r w x k h c f v (inr (m, g)))
+place-accepted l r w x a v (identifier i n e) = by (member? i (joined (x .sequence) (l .lists)))
   where
     by : (i ∈ joined (x .sequence) (l .lists)) ⊎ (i ∈ joined (x .sequence) (l .lists) → ⊥) → Accepted l (set w a v) (x .sequence)
     by (inl m) =
         let k = joined-one (x .sequence) (l .lists) i m in
         subst (λ (b : ℕ). Accepted l (set w b v) (x .sequence)) (sym (e ∙ ident-word l i))
-        (list-accepted l w x (k .0) (k .1) i 0 v (inr (k .2, omega arith)))
+        (list-accepted l r w x (k .0) (k .1) i 0 v (inr (k .2, omega arith)))
     by (inr o) = subst (λ (b : ℕ). Accepted l (set w b v) (x .sequence)) (sym e) (outside-accepted l w x i v n o)
 
 module _ (w : List ℕ) (s : Sound w) (w′ : List ℕ) (c : Changed w s w′) (one : differing w w′ ≡ 1) where
@@ -147,13 +147,14 @@ module _ (w : List ℕ) (s : Sound w) (w′ : List ℕ) (c : Changed w s w′) (
   -- the plan is its old value
   one-store : recoverPlan w′ ≡ stores (write a (getD w a 0) ∷ [])
   one-store =
-      let q = place-asked l sequence a place in
-      let old : getD w a 0 ≡ q .0 = all-in (λ (p : Write). getD w (p .at) 0 ≡ p .value) (required l sequence) (sound-agrees l w (s .lists)) (q .1) in
+      let q = place-asked l w sequence a place (changed-unworn w s w′ c a (some .2)) in
+      let old : getD w a 0 ≡ q .0 = all-in (λ (p : Write). getD w (p .at) 0 ≡ p .value) (required l w sequence) (sound-agrees l w (s .lists)) (q .1) in
       accepted-plan l w′ sequence (changed-opened w s w′ c)
-      (subst (λ (y : List ℕ). Accepted l y sequence) (sym changed) (place-accepted l w (s .lists) a v place))
+      (subst (λ (y : List ℕ). Accepted l y sequence) (sym changed) (place-accepted l (s .inRange) w (s .lists) a v place))
       ∙ ap stores
-      (ap (λ (y : List ℕ). wrong y (required l sequence)) changed
-      ∙ wrong-one (required l sequence) w a (q .0) v (required-once l w sequence (sound-accepted l w (s .lists) .fits)) (sound-agrees l w (s .lists))
+      (ap (wrong w′) (changed-required w s w′ c)
+      ∙ ap (λ (y : List ℕ). wrong y (required l w sequence)) changed
+      ∙ wrong-one (required l w sequence) w a (q .0) v (required-once l w sequence (sound-accepted l w (s .lists) .fits)) (sound-agrees l w (s .lists))
       (some .1) (q .1) (λ e. some .2 (old ∙ sym e))
       ∙ ap (λ (u : ℕ). write a u ∷ []) (sym old))
 

@@ -4,15 +4,16 @@
 use Prim.Native.Nat.{ℕ, _+_, _%_, _<_, _≤_}
 use mathlib.Core.Path.{_≡_}
 use mathlib.Core.List.{List, [], _∷_}
-use lib.ListN.{length, getD}
+use mathlib.Core.Logic.{_↔_}
+use lib.ListN.{length, getD, set}
 use Rattle.sequences.specs.Sequence.{_∈_}
 use Rattle.stores.specs.declared.Answer.the-variants as A
 use Rattle.stores.specs.Stores.{write, stores, answerOf, wordsAfter}
 use Rattle.byte_form.specs.Bytes.{wordsIn, bytesAfter}
 use Rattle.layout.specs.declared.Layout.{Layout}
-use Rattle.layout.specs.Words.{headerWords, linkWords, Node, cellAt, identAt, layoutOf}
+use Rattle.layout.specs.Words.{headerWords, linkWords, Node, cellAt, identAt, wornIdent, layoutOf}
 use Rattle.lists.specs.Lists.{Sound}
-use Rattle.recovery.specs.Plan.{recoverPlan, differing}
+use Rattle.recovery.specs.Plan.{joined, recoverPlan, differing}
 use Rattle.axle_store.specs.declared.Checked.the-variants as C
 use Rattle.axle_store.specs.Calls.{checkAnswer}
 use Rattle.axle.specs.Interface.{codeOf, checkCode, byteRecover}
@@ -29,6 +30,9 @@ pub data Place (l : Layout) (s : ℕ → List ℕ) (a : ℕ) : Type 0 where
 pub record Changed (w : List ℕ) (s : Sound w) (w′ : List ℕ) : Type 0 where
   pub size : length w′ ≡ length w
   pub places : (a : ℕ) → (getD w a 0 ≡ getD w′ a 0 → ⊥) → Place (layoutOf w) (s .lists .sequence) a
+  -- "excludes changes to or from 65,535 on a node in no list": no such node is worn in one of the two stores only
+  pub worn : (i : ℕ) → Node (layoutOf w) i → (i ∈ joined (s .lists .sequence) (layoutOf w .lists) → ⊥)
+      → (getD w (identAt (layoutOf w) i) 0 ≡ wornIdent) ↔ (getD w′ (identAt (layoutOf w) i) 0 ≡ wornIdent)
 
 -- One such word of w is altered in w′.
 pub record PutBack (w w′ : List ℕ) : Type 0 where
@@ -52,6 +56,12 @@ pub record Distance : Type 0 where
   pub putBack : (w : List ℕ) (s : Sound w) (w′ : List ℕ) → Changed w s w′ → differing w w′ ≡ 1 → PutBack w w′
   -- More than three cannot be promised: of some sound store four are changed, and check answers sound again.
   pub four : (w : List ℕ) × (s : Sound w) × (w′ : List ℕ) × Changed w s w′ × (differing w w′ ≡ 4) × (checkAnswer w′ ≡ C.Sound)
+  -- Nothing else is excluded: a member's identifier changed to 65,535 is noticed and put back.
+  pub memberWorn : (w : List ℕ) (s : Sound w) (k c : ℕ) → k < layoutOf w .lists → c ∈ s .lists .sequence k
+      → let w′ : List ℕ = set w (identAt (layoutOf w) c) wornIdent in (checkAnswer w′ ≡ C.Refused 6) × PutBack w w′
+  -- And that cannot be left out: of some sound store one identifier is changed, that of a node in no list to 65,535, and check answers sound.
+  pub markPasses : (w : List ℕ) × Sound w × (i : ℕ) × Node (layoutOf w) i × (differing w (set w (identAt (layoutOf w) i) wornIdent) ≡ 1)
+      × (checkAnswer (set w (identAt (layoutOf w) i) wornIdent) ≡ C.Sound)
   -- The same of the calls from C: b has the bytes of a sound store, b′ those with changed words.
   pub noticedInBytes : (b : List ℕ) (s : Sound (wordsIn b)) (b′ : List ℕ) → length b′ % 2 ≡ 0 → Changed (wordsIn b) s (wordsIn b′)
       → 1 ≤ differing (wordsIn b) (wordsIn b′) → differing (wordsIn b) (wordsIn b′) ≤ 3 → checkCode b′ ≡ 6

@@ -16,7 +16,7 @@ use Rattle.stores.proofs.Laws.{run-out, length-run, row-spares}
 use Rattle.layout.specs.declared.Layout.{Layout}
 use Rattle.layout.specs.declared.Opened.{Opened}
 use Rattle.layout.specs.declared.Opened.the-variants as O
-use Rattle.layout.specs.Words.{headWords, tailWords, ask, afterOpen, opened, isNode, Node, layoutOf, nodeAt, recordAt, identAt}
+use Rattle.layout.specs.Words.{headWords, tailWords, ask, afterOpen, opened, isNode, Node, layoutOf, nodeAt, recordAt, identAt, isFree}
 use Rattle.layout.proofs.Laws.{tail-width, opened-open, is-node}
 use Rattle.layout.proofs.Apart.{cell-behind}
 use Rattle.lists.specs.Lists.{Sound, SoundLists, SameCells}
@@ -30,7 +30,7 @@ use Rattle.requests.specs.declared.Sited.{Sited}
 use Rattle.requests.specs.declared.Sited.the-variants.{At, Refused}
 use Rattle.requests.specs.declared.Looked.the-variants as K
 use Rattle.requests.specs.declared.Request.{Request}
-use Rattle.requests.specs.declared.Request.the-variants.{Member, Gap}
+use Rattle.requests.specs.declared.Request.the-variants.{Member, Gap, Mark}
 use Rattle.requests.specs.Requests.{around, firstFree, withFree, memberAt, gapAt, siteIn, siteOf, withSite, lookOf}
 use Rattle.requests.proofs.Turn.{around-all, around-nodes}
 use Rattle.edits.specs.Edits.{insertLinks, insertWrites, deleteWrites}
@@ -63,6 +63,7 @@ looked w q l t = by (opened w) refl
 -- what the questions of insert tell of the gap and the free cell
 pub record GapFacts (l : Layout) (w : List ℕ) (k p c m : ℕ) (t : Site) : Type 0 where
   pub list : k < l .lists
+  pub sound : soundOf l w ≡ true
   pub position : p ≤ length (sequenceOf l w k)
   pub start : Node l c
   pub size : m ≡ tailWords l
@@ -81,6 +82,7 @@ gap-facts l w k p c m t e =
     let r = found (firstFree (viewOf l w .ident) (around l c (l .nodes))) refl (g .1) in
     record {
       list = ltb-true k (l .lists) (a .0);
+      sound = b .0;
       position = leb-true p (length s) (d .0);
       start = is-node l c (f .0);
       size = eqb-true m (l .width) (g .0) ∙ sym (tail-width l);
@@ -102,6 +104,7 @@ gap-facts l w k p c m t e =
 -- what the questions of delete tell of the member
 pub record MemberFacts (l : Layout) (w : List ℕ) (k p : ℕ) (t : Site) : Type 0 where
   pub list : k < l .lists
+  pub sound : soundOf l w ≡ true
   pub position : p < length (sequenceOf l w k)
   pub site : t ≡ record { before = getD (k ∷ sequenceOf l w k) p 0; cell = getD (sequenceOf l w k) p 0; after = getD (sequenceOf l w k ++ k ∷ []) (p + 1) 0; count = length (sequenceOf l w k) }
 
@@ -112,7 +115,22 @@ member-facts l w k p t e =
     let a = yes-at (ltb k (l .lists)) 5 _ t e in
     let b = yes-at (soundOf l w) 6 _ t (a .1) in
     let d = yes-at (ltb p (length s)) 7 _ t (b .1) in
-    record { list = ltb-true k (l .lists) (a .0); position = ltb-true p (length s) (d .0); site = cc (d .1) }
+    record { list = ltb-true k (l .lists) (a .0); sound = b .0; position = ltb-true p (length s) (d .0); site = cc (d .1) }
+
+-- what the questions of mark tell of the node
+pub record MarkFacts (l : Layout) (w : List ℕ) (c : ℕ) (t : Site) : Type 0 where
+  pub sound : soundOf l w ≡ true
+  pub node : Node l c
+  pub free : getD w (identAt l c) 0 ≡ 0
+  pub cell : t .cell ≡ c
+
+pub mark-facts : (l : Layout) (w : List ℕ) (c : ℕ) (t : Site) → siteOf l w (Mark c) ≡ At t → MarkFacts l w c t
+unfolding siteIn
+mark-facts l w c t e =
+    let a = yes-at (soundOf l w) 6 _ t e in
+    let b = yes-at (isNode l c) 8 _ t (a .1) in
+    let d = yes-at (isFree (viewOf l w .ident c)) 13 (At (record { before = 0; cell = c; after = 0; count = 0 })) t (b .1) in
+    record { sound = a .0; node = is-node l c (b .0); free = eqb-true _ 0 (d .0); cell = cc (d .1) }
 
 -- no store goes to words 0 to 7
 node-behind : (l : Layout) (i : ℕ) → headWords ≤ nodeAt l i

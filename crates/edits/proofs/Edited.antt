@@ -1,6 +1,6 @@
 -- The lists of a store in which one list is another: sound, if every other list's words stay.
 use Prim.Native.Nat.{ℕ, _<_}
-use mathlib.Core.Path.{_≡_, refl, _∙_, sym, subst}
+use mathlib.Core.Path.{_≡_, refl, sym, subst}
 use mathlib.Core.List.{List, _∷_}
 use mathlib.Core.Logic.{_⊎_, inl, inr, ⊎-elim}
 use native.Mathlib.Decide.{ℕ-discrete}
@@ -9,7 +9,7 @@ use borrow.Author.Tests.{eq-eqb, ne-eqb}
 use Rattle.sequences.specs.Sequence.{_∈_}
 use Rattle.sequences.proofs.Members.{member?}
 use Rattle.layout.specs.declared.Layout.{Layout}
-use Rattle.layout.specs.Words.{Node, identAt}
+use Rattle.layout.specs.Words.{Node, identAt, Unlisted, free}
 use Rattle.lists.specs.Lists.{IsList, SoundLists, SameCells}
 use Rattle.lists.proofs.Same.{list-same}
 use Rattle.edits.specs.Edited.{replaced}
@@ -43,7 +43,7 @@ edited-lists l w s k hk w′ t own others kept old =
             subst (IsList l w′ j) (sym (replaced-other (s .sequence) k t j n))
             (list-same l w j h (s .sequence j) (s .lists j h) w′ (others j h n))
 
-    unlisted : (x : ℕ) → Node l x → ((j : ℕ) → j < l .lists → x ∈ replaced (s .sequence) k t j → ⊥) → getD w′ (identAt l x) 0 ≡ 0
+    unlisted : (x : ℕ) → Node l x → ((j : ℕ) → j < l .lists → x ∈ replaced (s .sequence) k t j → ⊥) → Unlisted (getD w′ (identAt l x) 0)
     unlisted x n q = by (member? x (s .sequence k))
       where
         out : x ∈ t → ⊥
@@ -56,6 +56,6 @@ edited-lists l w s k hk w′ t own others kept old =
             by (yes e) = o (subst (λ (i : ℕ). x ∈ s .sequence i) e m)
             by (no d) = q j h (subst (λ (u : List ℕ). x ∈ u) (sym (replaced-other (s .sequence) k t j d)) m)
 
-        by : (x ∈ s .sequence k) ⊎ (x ∈ s .sequence k → ⊥) → getD w′ (identAt l x) 0 ≡ 0
-        by (inl m) = ⊎-elim (λ i. absurd (out i)) (λ z. z) (old x m)
-        by (inr o) = kept x n out o ∙ s .outside x n (apart o)
+        by : (x ∈ s .sequence k) ⊎ (x ∈ s .sequence k → ⊥) → Unlisted (getD w′ (identAt l x) 0)
+        by (inl m) = ⊎-elim (λ i. absurd (out i)) free (old x m)
+        by (inr o) = subst Unlisted (sym (kept x n out o)) (s .outside x n (apart o))

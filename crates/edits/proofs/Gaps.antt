@@ -19,7 +19,6 @@ use Rattle.layout.proofs.Laws.{is-node}
 use Rattle.lists.specs.Lists.{SoundLists}
 use Rattle.lists.specs.Decide.{viewOf, soundOf, sequenceOf}
 use Rattle.lists.proofs.Unique.{list-sequence}
-use Rattle.lists.proofs.Decided.{sound-lists}
 use Rattle.lists.proofs.Same.{ring-cell}
 use Rattle.requests.specs.declared.Free.{Free}
 use Rattle.requests.specs.declared.Free.the-variants.{Cell, Full}
@@ -45,7 +44,7 @@ freeFrom l w c r = take r (freeCells (viewOf l w .ident) (around l c (l .nodes))
 -- a site: questions 5 to 10 are answered yes
 pub record GapsLooked (l : Layout) (w : List ℕ) (k p c m : ℕ) (t : Site) : Type 0 where
   pub list : k < l .lists
-  pub lists : SoundLists l w
+  pub sound : soundOf l w ≡ true
   pub facts : GapsFacts l (viewOf l w .ident) k p c m (sequenceOf l w k) t
 
 pub gaps-looked : (l : Layout) (w : List ℕ) (k p c m : ℕ) (t : Site) → siteOf l w (Gaps k p c m) ≡ At t → GapsLooked l w k p c m t
@@ -55,7 +54,7 @@ gaps-looked l w k p c m t e =
     let b = yes-at (soundOf l w) 6 _ t (a .1) in
     record {
       list = ltb-true k (l .lists) (a .0);
-      lists = sound-lists l w (b .0);
+      sound = b .0;
       facts = gaps-facts l (viewOf l w .ident) k p c m (sequenceOf l w k) t (b .1);
     }
 

@@ -10,3 +10,4 @@ pub mod OneByOne
 pub mod Gaps
 pub mod Room
 pub mod Underway
+pub mod Worn

@@ -13,13 +13,14 @@ use Rattle.stores.specs.Stores.{run}
 use Rattle.stores.proofs.Laws.{run-out, length-run}
 use Rattle.layout.specs.declared.Layout.{Layout}
 use Rattle.layout.specs.declared.Opened.the-variants as O
-use Rattle.layout.specs.Words.{tailWords, Node, cellCount, sizeOf, opened, identAt, identOf, isFree}
-use Rattle.layout.proofs.Laws.{tail-width, node-is}
+use Rattle.layout.specs.Words.{tailWords, Node, cellCount, sizeOf, opened, identAt, identOf, isFree, InRange, Unlisted, free}
+use Rattle.layout.proofs.Laws.{tail-width, node-is, opened-open}
 use Rattle.layout.proofs.Apart.{links-words}
 use Rattle.lists.specs.Lists.{SoundLists}
 use Rattle.lists.specs.Decide.{viewOf}
 use Rattle.lists.proofs.Agree.{agrees-holds}
 use Rattle.lists.proofs.Unique.{list-sequence, member-ident}
+use Rattle.lists.proofs.Nodes.{list-used}
 use Rattle.lists.proofs.Decided.{lists-sound}
 use Rattle.lists.proofs.Same.{ident-word, ring-cell, same-opened}
 use Rattle.requests.specs.declared.Site.{Site}
@@ -65,10 +66,10 @@ turn-free l w c r h =
     let cells = freeCells (viewOf l w .ident) (around l c (l .nodes)) in
     front-nodes l w (take r cells) (drop r cells) (subst (FreeNodes l w) (sym (take-append-drop r cells)) (turn-nodes l w c h))
 
--- an insert into a gap between cells that are not free, at the first free cell of a turn
-module _ (l : Layout) (w : List ℕ) (exact : length w ≡ sizeOf l) (k : ℕ) (hk : k < l .lists) (t : Site)
+-- an insert into a gap between cells that are in use, at the first free cell of a turn
+module _ (l : Layout) (range : InRange l) (w : List ℕ) (exact : length w ≡ sizeOf l) (k : ℕ) (hk : k < l .lists) (t : Site)
     (ha : t .before < cellCount l) (hb : t .after < cellCount l)
-    (na : getD w (identAt l (t .before)) 0 ≡ 0 → ⊥) (nb : getD w (identAt l (t .after)) 0 ≡ 0 → ⊥)
+    (na : Unlisted (getD w (identAt l (t .before)) 0) → ⊥) (nb : Unlisted (getD w (identAt l (t .after)) 0) → ⊥)
     (words : List ℕ) (size : length words ≡ tailWords l)
     (c : ℕ) (hc : Node l c) (xs : List ℕ) (first : freeCells (viewOf l w .ident) (around l c (l .nodes)) ≡ t .cell ∷ xs) where
   abbrev Done : List ℕ
@@ -78,10 +79,10 @@ module _ (l : Layout) (w : List ℕ) (exact : length w ≡ sizeOf l) (k : ℕ) (
   found = subst (FreeNodes l w) first (turn-nodes l w c hc)
 
   ca : t .cell ≡ t .before → ⊥
-  ca e = na (ap (λ (x : ℕ). getD w (identAt l x) 0) (sym e) ∙ found .free .0)
+  ca e = na (free (ap (λ (x : ℕ). getD w (identAt l x) 0) (sym e) ∙ found .free .0))
 
   cb : t .cell ≡ t .after → ⊥
-  cb e = nb (ap (λ (x : ℕ). getD w (identAt l x) 0) (sym e) ∙ found .free .0)
+  cb e = nb (free (ap (λ (x : ℕ). getD w (identAt l x) 0) (sym e) ∙ found .free .0))
 
   -- the cell is not free any more
   pub used-ident : getD Done (identAt l (t .cell)) 0 ≡ identOf k
@@ -100,12 +101,12 @@ module _ (l : Layout) (w : List ℕ) (exact : length w ≡ sizeOf l) (k : ℕ) (
   insert-free =
       free-behind l (viewOf l w .ident) (viewOf l Done .ident) c (t .cell) xs hc first (λ e. omega (arith, sym used-ident ∙ e)) kept-ident
 
-  -- so the next gap, behind the cell, lies between cells that are not free
-  pub next-before : getD Done (identAt l (t .cell)) 0 ≡ 0 → ⊥
-  next-before z = omega (arith, sym used-ident ∙ z)
+  -- so the next gap, behind the cell, lies between cells that are in use
+  pub next-before : Unlisted (getD Done (identAt l (t .cell)) 0) → ⊥
+  next-before = list-used range hk used-ident
 
-  pub next-after : getD Done (identAt l (t .after)) 0 ≡ 0 → ⊥
-  next-after z = nb (sym (kept-ident (t .after) (λ e. cb (sym e))) ∙ z)
+  pub next-after : Unlisted (getD Done (identAt l (t .after)) 0) → ⊥
+  next-after z = nb (subst Unlisted (kept-ident (t .after) (λ e. cb (sym e))) z)
 
   -- and the stores of one record more are these, then those of the others from the words that they leave
   pub chain-next
@@ -135,7 +136,7 @@ gap-look l w o s k hk p hp c hc m q x xs e = sym (look-at w (Gap k p c m) o site
     site =
         rw (
           lt-ltb k (l .lists) hk,
-          lists-sound l w s,
+          lists-sound l (opened-open w l o .2) w s,
           list-sequence l w k hk (s .sequence k) (s .lists k hk),
           le-leb p (length (s .sequence k)) hp,
           node-is l c hc,
@@ -143,13 +144,13 @@ gap-look l w o s k hk p hp c hc m q x xs e = sym (look-at w (Gap k p c m) o site
           free-first (viewOf l w .ident) (around l c (l .nodes)) x xs e,
         )
 
--- the cells of a list are not free
-pub ring-ident : (l : Layout) (w : List ℕ) (s : SoundLists l w) (k : ℕ) → k < l .lists → (x : ℕ) → x ∈ (k ∷ s .sequence k) → getD w (identAt l x) 0 ≡ 0 → ⊥
-ring-ident l w s k h x (List·Memᴰ·head e) z =
-    omega (arith, sym (agrees-holds l w k (s .sequence k) (s .lists k h .agrees) .ident) ∙ ap (λ (y : ℕ). getD w (identAt l y) 0) (sym e) ∙ z)
-ring-ident l w s k h x (List·Memᴰ·tail m) z = omega (arith, sym (member-ident l w k (s .sequence k) x (s .lists k h) m) ∙ z)
+-- the cells of a list are in use
+pub ring-ident : (l : Layout) → InRange l → (w : List ℕ) (s : SoundLists l w) (k : ℕ) → k < l .lists → (x : ℕ) → x ∈ (k ∷ s .sequence k) → Unlisted (getD w (identAt l x) 0) → ⊥
+ring-ident l r w s k h x (List·Memᴰ·head e) =
+    list-used r h (ap (λ (y : ℕ). getD w (identAt l y) 0) e ∙ agrees-holds l w k (s .sequence k) (s .lists k h .agrees) .ident)
+ring-ident l r w s k h x (List·Memᴰ·tail m) = list-used r h (member-ident l w k (s .sequence k) x (s .lists k h) m)
 
--- a gap of a list: its cells are cells of the store, and not free
+-- a gap of a list: its cells are cells of the store, and in use
 module _ (l : Layout) (w : List ℕ) (s : SoundLists l w) (k : ℕ) (hk : k < l .lists) (p : ℕ) (hp : p ≤ length (s .sequence k)) where
   abbrev R : List ℕ
   R = s .sequence k
@@ -190,6 +191,7 @@ module _ (l : Layout) (w : List ℕ) (o : opened w ≡ O.Open l) (exact : length
   pub next-turn : freeCells (viewOf l FirstDone .ident) (around l (nextCell l x) (l .nodes)) ≡ xs ++ ys
   next-turn =
       let R = s .sequence k in
-      insert-free l w exact k hk (gapSite k p x R) (ring-cell l w k hk R (s .lists k hk) _ (before-in l w s k hk p hp))
-      (ring-cell l w k hk R (s .lists k hk) _ (after-in l w s k hk p hp)) (ring-ident l w s k hk _ (before-in l w s k hk p hp))
-      (ring-ident l w s k hk _ (after-in l w s k hk p hp)) (take (l .width) words) size c hc (xs ++ ys) e
+      let range = opened-open w l o .2 in
+      insert-free l range w exact k hk (gapSite k p x R) (ring-cell l w k hk R (s .lists k hk) _ (before-in l w s k hk p hp))
+      (ring-cell l w k hk R (s .lists k hk) _ (after-in l w s k hk p hp)) (ring-ident l range w s k hk _ (before-in l w s k hk p hp))
+      (ring-ident l range w s k hk _ (after-in l w s k hk p hp)) (take (l .width) words) size c hc (xs ++ ys) e

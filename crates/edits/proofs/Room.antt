@@ -9,8 +9,10 @@ use Rattle.stores.specs.Stores.{run}
 use Rattle.stores.proofs.Laws.{length-run}
 use Rattle.layout.specs.declared.Layout.{Layout}
 use Rattle.layout.specs.Words.{tailWords, Node, Laid, identAt}
+use Rattle.lists.specs.Lists.{SoundLists}
 use Rattle.lists.specs.Decide.{viewOf}
 use Rattle.lists.proofs.Unique.{list-sequence}
+use Rattle.lists.proofs.Decided.{sound-lists}
 use Rattle.lists.proofs.Same.{ring-cell}
 use Rattle.requests.specs.declared.Site.{Site}
 use Rattle.requests.specs.declared.Sited.the-variants.{At}
@@ -51,14 +53,14 @@ module _ (l : Layout) (w : List ℕ) (k : ℕ) (t : Site) (r : ℕ) (h : Room l 
 
   left : freeCells (viewOf l Done .ident) (around l (nextCell l (t .cell)) (l .nodes)) ≡ others
   left =
-      O.insert-free l w (h .exact) k (h .placed .list) t (h .placed .before) (h .placed .after) (h .before) (h .after) words size (t .cell)
+      O.insert-free l (h .placed .inRange) w (h .exact) k (h .placed .list) t (h .placed .before) (h .placed .after) (h .before) (h .after) words size (t .cell)
       (h .placed .cell) others first
 
   -- the stores: those of this record, and of the others from where the search goes on
   pub room-parted : (ws : List ℕ) → words ≡ take (l .width) ws
       → chainFrom l w k t (suc r) ws ≡ insertWrites l k t words ++ chain l k (t .cell) (t .after) (t .count + 1) (take r others) (drop (l .width) ws)
   room-parted ws q =
-      O.chain-next l w (h .exact) k (h .placed .list) t (h .placed .before) (h .placed .after) (h .before) (h .after) words size (t .cell)
+      O.chain-next l (h .placed .inRange) w (h .exact) k (h .placed .list) t (h .placed .before) (h .placed .after) (h .before) (h .after) words size (t .cell)
       (h .placed .cell) others first ws q r
       ∙ ap (λ (cells : List ℕ). insertWrites l k t words ++ chain l k (t .cell) (t .after) (t .count + 1) (take r cells) (drop (l .width) ws)) left
 
@@ -118,10 +120,10 @@ module _ (l : Layout) (w : List ℕ) (k : ℕ) (t : Site) (r : ℕ) (h : Room l 
               };
           exact = length-run (insertWrites l k t words) w ∙ h .exact;
           before =
-              O.next-before l w (h .exact) k (h .placed .list) t (h .placed .before) (h .placed .after) (h .before) (h .after) words size (t .cell)
+              O.next-before l (h .placed .inRange) w (h .exact) k (h .placed .list) t (h .placed .before) (h .placed .after) (h .before) (h .after) words size (t .cell)
               (h .placed .cell) others first;
           after =
-              O.next-after l w (h .exact) k (h .placed .list) t (h .placed .before) (h .placed .after) (h .before) (h .after) words size (t .cell)
+              O.next-after l (h .placed .inRange) w (h .exact) k (h .placed .list) t (h .placed .before) (h .placed .after) (h .before) (h .after) words size (t .cell)
               (h .placed .cell) others first;
           free = found .free .0;
           enough = omega (arith, h .enough, ap length first, ap length from);
@@ -156,14 +158,17 @@ several-room w k p c m l t e =
     g : GapsLooked l w k p c m t
     g = gaps-looked l w k p c m t sited
 
+    lists : SoundLists l w
+    lists = sound-lists l (laid .inRange) w (g .sound)
+
     r : ℕ
     r = m / l .width
 
     S : List ℕ
-    S = g .lists .sequence k
+    S = lists .sequence k
 
     position : p ≤ length S
-    position = gaps-position l w (g .lists) k p c m t sited
+    position = gaps-position l w lists k p c m t sited
 
     others : List ℕ
     others = drop 1 (freeCells (viewOf l w .ident) (around l c (l .nodes)))
@@ -178,14 +183,14 @@ several-room w k p c m l t e =
     free = subst (FreeNodes l w) found (O.turn-nodes l w c (g .facts .start))
 
     site : t ≡ gapSite k p (t .cell) S
-    site = g .facts .site ∙ ap (gapSite k p (t .cell)) (list-sequence l w k (g .list) S (g .lists .lists k (g .list)))
+    site = g .facts .site ∙ ap (gapSite k p (t .cell)) (list-sequence l w k (g .list) S (lists .lists k (g .list)))
 
     few : length S + r ≤ l .nodes
     few =
         omega (
           arith,
-          chain-few l w (g .lists) k (g .list) _ (gaps-cells l w (g .lists) k p c m t sited),
-          gaps-number l w (g .lists) k p c m t sited,
+          chain-few l w lists k (g .list) _ (gaps-cells l w lists k p c m t sited),
+          gaps-number l w lists k p c m t sited,
         )
 
     there : Room l w k (gapSite k p (t .cell) S) r
@@ -196,13 +201,13 @@ several-room w k p c m l t e =
                 inRange = laid .inRange;
                 list = g .list;
                 cell = free .nodes .0;
-                before = ring-cell l w k (g .list) S (g .lists .lists k (g .list)) _ (O.before-in l w (g .lists) k (g .list) p position);
-                after = ring-cell l w k (g .list) S (g .lists .lists k (g .list)) _ (O.after-in l w (g .lists) k (g .list) p position);
+                before = ring-cell l w k (g .list) S (lists .lists k (g .list)) _ (O.before-in l w lists k (g .list) p position);
+                after = ring-cell l w k (g .list) S (lists .lists k (g .list)) _ (O.after-in l w lists k (g .list) p position);
                 count = omega (arith, few);
               };
           exact = laid .exact;
-          before = O.ring-ident l w (g .lists) k (g .list) _ (O.before-in l w (g .lists) k (g .list) p position);
-          after = O.ring-ident l w (g .lists) k (g .list) _ (O.after-in l w (g .lists) k (g .list) p position);
+          before = O.ring-ident l (laid .inRange) w lists k (g .list) _ (O.before-in l w lists k (g .list) p position);
+          after = O.ring-ident l (laid .inRange) w lists k (g .list) _ (O.after-in l w lists k (g .list) p position);
           free = free .free .0;
           enough = omega (arith, g .facts .enough, ap length found, ap length from);
           count = few;

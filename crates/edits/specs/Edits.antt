@@ -5,7 +5,7 @@ use mathlib.Core.List.{List, [], _∷_, _++_}
 use lib.ListN.{length, getD, take, drop}
 use Rattle.stores.specs.Stores.{Write, write, inRow}
 use Rattle.layout.specs.declared.Layout.{Layout}
-use Rattle.layout.specs.Words.{tailWords, InRange, Node, cellCount, identAt, forwardAt, backAt, countAt, recordAt, identOf, sizeOf}
+use Rattle.layout.specs.Words.{tailWords, InRange, Node, cellCount, identAt, forwardAt, backAt, countAt, recordAt, identOf, wornIdent, Unlisted, sizeOf}
 use Rattle.lists.specs.Decide.{viewOf}
 use Rattle.requests.specs.declared.Site.{Site}
 use Rattle.requests.specs.Requests.{around, freeCells}
@@ -53,6 +53,13 @@ deleteWrites l k t =
 abbrev pub deleteCentral : ℕ
 deleteCentral = 2
 
+-- Marking cell c worn: "marks a free node with one store".
+abbrev pub markWrites : Layout → ℕ → List Write
+markWrites l c = write (identAt l c) wornIdent ∷ []
+
+abbrev pub markStores : ℕ
+markStores = 1
+
 -- a site in a store of this layout
 pub record Placed (l : Layout) (k : ℕ) (t : Site) : Type 0 where
   pub inRange : InRange l
@@ -67,12 +74,12 @@ abbrev pub chainFrom : Layout → List ℕ → ℕ → Site → ℕ → List ℕ
 chainFrom l w k t r words =
     chain l k (t .before) (t .after) (t .count) (take r (freeCells (viewOf l w .ident) (around l (t .cell) (l .nodes)))) words
 
--- a site with room for r records: a gap between cells that are used, and a cell that is free, with enough others
+-- a site with room for r records: a gap between cells that are in use, and a cell that is free, with enough others
 pub record Room (l : Layout) (w : List ℕ) (k : ℕ) (t : Site) (r : ℕ) : Type 0 where
   pub placed : Placed l k t
   pub exact : length w ≡ sizeOf l
-  pub before : getD w (identAt l (t .before)) 0 ≡ 0 → ⊥
-  pub after : getD w (identAt l (t .after)) 0 ≡ 0 → ⊥
+  pub before : Unlisted (getD w (identAt l (t .before)) 0) → ⊥
+  pub after : Unlisted (getD w (identAt l (t .after)) 0) → ⊥
   pub free : getD w (identAt l (t .cell)) 0 ≡ 0
   pub enough : r ≤ length (freeCells (viewOf l w .ident) (around l (t .cell) (l .nodes)))
   pub count : t .count + r ≤ l .nodes

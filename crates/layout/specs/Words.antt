@@ -2,7 +2,7 @@
 use Prim.Native.Nat.{ℕ, zero, suc, _+_, _*_, _-_, _≤_, _<_}
 use mathlib.Core.Path.{_≡_}
 use mathlib.Core.List.{List, [], _∷_, _++_}
-use mathlib.Core.Bool.{Bool, cond, not, _&&_}
+use mathlib.Core.Bool.{Bool, cond, not, _&&_, _||_}
 use lib.Dec.{eqb, leb, ltb}
 use lib.ListN.{length, getD, replicate}
 use Rattle.layout.specs.declared.Layout.{Layout}
@@ -111,12 +111,23 @@ sizeOf l = nodesAt l + nodeWords l * l .nodes
 abbrev pub identOf : ℕ → ℕ
 identOf k = 42400 + k
 
--- "Every node in no list has identifier 0": a node with this identifier is free, or it is in use.
+-- "Every node in no list has identifier 0", and "Identifier 65,535 on a node in no list marks it worn."
+abbrev pub wornIdent : ℕ
+wornIdent = 65535
+
+pub data Unlisted (x : ℕ) : Type 0 where
+  free : x ≡ 0 → Unlisted x
+  worn : x ≡ wornIdent → Unlisted x
+
+-- a node with this identifier is free or worn, and else it is in use
 abbrev pub isFree : ℕ → Bool
 isFree x = eqb x 0
 
+abbrev pub isWorn : ℕ → Bool
+isWorn x = eqb x wornIdent
+
 abbrev pub inUse : ℕ → Bool
-inUse x = not (isFree x)
+inUse x = not (isFree x || isWorn x)
 
 -- "Words 0 to 2: the mark RBS as letter codes 82, 66, 83. Word 3: version, 1. .. Word 7: 0."
 abbrev pub newest : ℕ

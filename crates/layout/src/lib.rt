@@ -77,10 +77,12 @@ impl Layout {
 
     pub const COUNT: usize = 3;
 
-    // The identifier of list 0, and of a node that is free.
+    // The identifier of list 0, of a node that is free, and of one that is worn.
     pub const IDENT: u16 = 42400;
 
     pub const FREE: u16 = 0;
+
+    pub const WORN: u16 = 65535;
 
     // Are the version, L, N and P in range?
     pub fn in_range(self) -> bool
@@ -139,11 +141,11 @@ impl Layout {
         ident == Layout::FREE
     }
 
-    // Is it in use?
+    // Is it neither free nor worn, and so in use?
     pub fn in_use(ident: u16) -> bool
         ensures { λ r. ⌜ r ≡ inUse ident ⌝ }
     {
-        !Layout::is_free(ident)
+        !(Layout::is_free(ident) | (ident == Layout::WORN))
     }
 
     // The first word of the header of list k.

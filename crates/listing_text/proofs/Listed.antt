@@ -16,7 +16,7 @@ use Rattle.layout.specs.declared.Opened.the-variants as O
 use Rattle.layout.specs.Words.{mostWidth, InRange, firstNode, isNode, recordAt, opened, inUse}
 use Rattle.layout.proofs.Laws.{is-node}
 use Rattle.lists.specs.Decide.{viewOf, countIn, soundIn, allHold, members, used, sequenceOf, soundOf}
-use Rattle.lists.proofs.Decided.{cells-few}
+use Rattle.lists.proofs.Nodes.{cells-few}
 use Rattle.lists.proofs.Stepwise.{members-more}
 use Rattle.requests.specs.Requests.{siteIn, lookOf}
 use Rattle.edits.specs.Edited.{recordIn}

@@ -2,22 +2,23 @@
 use Prim.Native.Nat.{ℕ, zero, suc, _+_, _<_, _≤_}
 use mathlib.Core.Path.{_≡_, refl, ap, _∙_, sym, subst}
 use mathlib.Core.List.{List, List·Memᴰ·append-cases, Memᴰ·append-left, Memᴰ·append-right}
-use mathlib.Core.Bool.{Bool, true, false, not, and-eq-true-iff, true≢false}
+use mathlib.Core.Bool.{Bool, true, false, and-eq-true-iff}
 use mathlib.Core.Logic.{_⊎_, inl, inr, ⊎-elim}
 use native.Mathlib.Omega.{arith}
 use native.Mathlib.Nat.{eq-or-lt-of-le, le-of-suc-le-suc}
 use lib.ListN.{length, getD}
 use lib.Dec.{eqb}
-use borrow.Author.Tests.{eq-eqb, ne-eqb, eqb-true}
-use Rattle.sequences.specs.Sequence.{_∈_, Different, range}
+use borrow.Author.Tests.{eq-eqb, eqb-true}
+use Rattle.sequences.specs.Sequence.{_∈_, Different}
 use Rattle.sequences.proofs.Members.{all-in, member?, different-append}
 use Rattle.sequences.proofs.Pigeonhole.{pigeonhole, pigeonhole-less}
-use Rattle.sequences.proofs.Range.{length-range, in-range, range-between, range-different}
-use Rattle.sequences.proofs.Filter.{filter-in, in-filter, filter-different, filter-length}
+use Rattle.sequences.proofs.Range.{range-different}
+use Rattle.sequences.proofs.Filter.{filter-different}
 use Rattle.layout.specs.declared.Layout.{Layout}
-use Rattle.layout.specs.Words.{firstNode, Node, identAt, inUse}
+use Rattle.layout.specs.Words.{firstNode, Node, InRange, identAt, Unlisted, inUse}
 use Rattle.lists.specs.Lists.{IsList, SoundLists}
-use Rattle.lists.specs.Decide.{View, viewOf, countIn, sequenceIn, sequenceOf, holds, allHold, members, cellsWith, used, soundIn, soundOf}
+use Rattle.lists.specs.Decide.{View, viewOf, countIn, sequenceIn, sequenceOf, holds, allHold, members, used, soundIn, soundOf}
+use Rattle.lists.proofs.Nodes.{in-use, unused, list-used, used-is, is-used}
 use Rattle.lists.proofs.Unique.{list-sequence, holds-list, list-holds, member-ident, lists-disjoint}
 
 -- below n + 1: n, or below n
@@ -59,35 +60,7 @@ one-members l v (suc n) k x h m =
     ⊎-elim (λ q. Memᴰ·append-right (members l v n) (subst (λ (j : ℕ). x ∈ sequenceIn l v j) q m))
     (λ q. Memᴰ·append-left (sequenceIn l v n) (one-members l v n k x q m)) (below-suc k n h)
 
--- what the identifier of a node says
-pub in-use : (x : ℕ) → inUse x ≡ true → x ≡ 0 → ⊥
-in-use x e z = true≢false (sym e ∙ rw (eq-eqb x 0 z))
-
-pub use-in : (x : ℕ) → (x ≡ 0 → ⊥) → inUse x ≡ true
-use-in x n = rw (ne-eqb x 0 n)
-
-pub unused : (x : ℕ) → inUse x ≡ false → x ≡ 0
-unused x e = by (eqb x 0) refl e
-  where
-    by : (b : Bool) → eqb x 0 ≡ b → not b ≡ false → x ≡ 0
-    by true q z = eqb-true x 0 q
-    by false q z = absurd (true≢false z)
-
--- they are as many at most as there are cells
-pub cells-few : (test : ℕ → Bool) (v : View) (a n : ℕ) → length (cellsWith test v a n) ≤ n
-cells-few test v a n = omega (arith, filter-length (λ c. test (v .ident c)) (range a n), length-range a n)
-
--- the nodes in use: those between the ends whose identifier says so, each once
-pub used-is : (v : View) (a n x : ℕ) → x ∈ used v a n → (a ≤ x) × (x < a + n) × (v .ident x ≡ 0 → ⊥)
-used-is v a n x m =
-    let r = filter-in (λ c. inUse (v .ident c)) (range a n) x m in
-    let b = range-between a n x (r .0) in
-    (b .0, b .1, in-use (v .ident x) (r .1))
-
-pub is-used : (v : View) (a n x : ℕ) → a ≤ x → x < a + n → (v .ident x ≡ 0 → ⊥) → x ∈ used v a n
-is-used v a n x h k z = in-filter (λ c. inUse (v .ident c)) (range a n) x (in-range a n x h k) (use-in (v .ident x) z)
-
-module _ (l : Layout) (w : List ℕ) where
+module _ (l : Layout) (range : InRange l) (w : List ℕ) where
   abbrev Listed : ℕ → Type 0
   Listed n = (k : ℕ) → k < n → IsList l w k (sequenceOf l w k)
 
@@ -122,7 +95,7 @@ module _ (l : Layout) (w : List ℕ) where
       let i = h (r .0) (r .1) in
       let n = all-in (Node l) (sequenceOf l w (r .0)) (i .nodes) (r .2) in
       is-used (viewOf l w) (firstNode l) (l .nodes) x (n .low) (n .high)
-      (λ z. omega (arith, z, member-ident l w (r .0) (sequenceOf l w (r .0)) x i (r .2)))
+      (list-used range (r .1) (member-ident l w (r .0) (sequenceOf l w (r .0)) x i (r .2)))
 
   -- decided true: the lists are sound
   pub sound-lists : soundOf l w ≡ true → SoundLists l w
@@ -135,13 +108,13 @@ module _ (l : Layout) (w : List ℕ) where
       listed : (k : ℕ) → k < l .lists → IsList l w k (sequenceOf l w k)
       listed k h = holds-list l w k h (all-hold-at l (viewOf l w) (countIn l w) (l .lists) k (parts .0) h)
 
-      unlisted : (i : ℕ) → Node l i → ((k : ℕ) → k < l .lists → i ∈ sequenceOf l w k → ⊥) → getD w (identAt l i) 0 ≡ 0
+      unlisted : (i : ℕ) → Node l i → ((k : ℕ) → k < l .lists → i ∈ sequenceOf l w k → ⊥) → Unlisted (getD w (identAt l i) 0)
       unlisted i n h = by (inUse (getD w (identAt l i) 0)) refl
         where
           apart : i ∈ All-members → ⊥
           apart m = let r = members-one l (viewOf l w) (l .lists) i m in h (r .0) (r .1) (r .2)
 
-          by : (b : Bool) → inUse (getD w (identAt l i) 0) ≡ b → getD w (identAt l i) 0 ≡ 0
+          by : (b : Bool) → inUse (getD w (identAt l i) 0) ≡ b → Unlisted (getD w (identAt l i) 0)
           by false q = unused _ q
           by true q =
               absurd (omega (
@@ -173,7 +146,7 @@ module _ (l : Layout) (w : List ℕ) where
       used-member : (x : ℕ) → x ∈ Used → x ∈ All-members
       used-member x m = by (member? x All-members)
         where
-          u : (firstNode l ≤ x) × (x < firstNode l + l .nodes) × (getD w (identAt l x) 0 ≡ 0 → ⊥)
+          u : (firstNode l ≤ x) × (x < firstNode l + l .nodes) × (Unlisted (getD w (identAt l x) 0) → ⊥)
           u = used-is (viewOf l w) (firstNode l) (l .nodes) x m
 
           by : (x ∈ All-members) ⊎ (x ∈ All-members → ⊥) → x ∈ All-members

@@ -7,7 +7,7 @@ use native.Mathlib.Nat.{add-zero}
 use lib.ListN.{getD}
 use Rattle.sequences.specs.Sequence.{steps}
 use Rattle.layout.specs.declared.Layout.{Layout}
-use Rattle.layout.specs.Words.{headerWords, forwardWord, backWord, countWord, nodesAt, nodeAt, cellAt, InRange, layoutOf, emptyHeader, formatted}
+use Rattle.layout.specs.Words.{headerWords, forwardWord, backWord, countWord, nodesAt, nodeAt, cellAt, InRange, layoutOf, emptyHeader, formatted, free}
 use Rattle.layout.proofs.Laws.{cell-header, cell-node, length-formatted, formatted-header, formatted-node, formatted-marked}
 use Rattle.lists.specs.Lists.{IsList, SoundLists, Sound}
 use Rattle.lists.proofs.Agree.{holds-agrees}
@@ -44,7 +44,7 @@ formatted-lists l =
     record {
       sequence = λ _. [];
       lists = formatted-list l;
-      outside = λ i n _. formatted-node l (cellAt l i) (omega (arith, cell-node l i (n .low), node-behind l i));
+      outside = λ i n _. free (formatted-node l (cellAt l i) (omega (arith, cell-node l i (n .low), node-behind l i)));
     }
 
 pub formatted-sound : (l : Layout) → InRange l → Sound (formatted l)

@@ -1,5 +1,6 @@
 pub mod Agree
 pub mod Unique
+pub mod Nodes
 pub mod Decided
 pub mod Empty
 pub mod Same

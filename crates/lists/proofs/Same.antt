@@ -9,7 +9,7 @@ use Rattle.sequences.specs.Sequence.{_∈_, All, Different}
 use Rattle.sequences.proofs.Members.{all-in, in-all, different-append, in-front}
 use Rattle.sequences.proofs.Splice.{forward-same, backward-same}
 use Rattle.layout.specs.declared.Layout.{Layout}
-use Rattle.layout.specs.Words.{headWords, forwardWord, backWord, countWord, cellCount, Node, InRange, marked, layoutOf, sizeOf, openedBy, opened, cellAt, identAt, countAt, identOf}
+use Rattle.layout.specs.Words.{headWords, forwardWord, backWord, countWord, cellCount, Node, InRange, marked, layoutOf, sizeOf, openedBy, opened, cellAt, identAt, countAt, identOf, Unlisted}
 use Rattle.layout.proofs.Laws.{cell-header}
 use Rattle.layout.proofs.Apart.{links-words, words-header}
 use Rattle.lists.specs.Lists.{IsList, SoundLists, Sound, SameCells}
@@ -128,7 +128,7 @@ same-sound w w′ s h e x = (
           lists = λ k g. subst (λ (m : Layout). IsList m w′ k (x .sequence k)) back (x .lists k (subst⁻¹ (λ (m : Layout). k < m .lists) back g));
           outside =
               λ i n q.
-              subst (λ (m : Layout). getD w′ (identAt m i) 0 ≡ 0) back
+              subst (λ (m : Layout). Unlisted (getD w′ (identAt m i) 0)) back
               (x .outside i (subst⁻¹ (λ (m : Layout). Node m i) back n) (λ k g. q k (subst (λ (m : Layout). k < m .lists) back g)));
         };
   },

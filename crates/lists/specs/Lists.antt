@@ -7,7 +7,7 @@ use lib.ListN.{length, getD}
 use Rattle.sequences.specs.Sequence.{_∈_, All, Different, steps}
 use Rattle.stores.specs.Stores.{Write, write}
 use Rattle.layout.specs.declared.Layout.{Layout}
-use Rattle.layout.specs.Words.{cellAt, cellWords, Node, InRange, marked, layoutOf, sizeOf, identAt, forwardAt, backAt, countAt, identOf}
+use Rattle.layout.specs.Words.{cellAt, cellWords, Node, InRange, marked, layoutOf, sizeOf, identAt, forwardAt, backAt, countAt, identOf, wornIdent, Unlisted}
 
 -- What a sequence s asks of list k, as the stores that would make it so. "header and members carry identifier 42,400 + k;
 abbrev pub identsAsked : Layout → ℕ → List ℕ → List Write
@@ -40,17 +40,21 @@ Agrees w = All (λ p. getD w (p .at) 0 ≡ p .value)
 abbrev pub SameCells : Layout → List ℕ → List ℕ → List ℕ → Type 0
 SameCells l w w′ cells = (c f : ℕ) → c ∈ cells → f < cellWords l c → getD w′ (cellAt l c + f) 0 ≡ getD w (cellAt l c + f) 0
 
+-- every node with identifier 65,535 has all its words in w′ as in w
+abbrev pub KeepsWorn : Layout → List ℕ → List ℕ → Type 0
+KeepsWorn l w w′ = (c : ℕ) → Node l c → getD w (identAt l c) 0 ≡ wornIdent → SameCells l w w′ (c ∷ [])
+
 -- "some sequence of different node cells exists such that .."
 pub record IsList (l : Layout) (w : List ℕ) (k : ℕ) (s : List ℕ) : Type 0 where
   pub nodes : All (Node l) s
   pub different : Different s
   pub agrees : Agrees w (asked l k s)
 
--- "For each list k some sequence .. Every node in no list has identifier 0; its links and record words are free."
+-- "For each list k some sequence .. Every node in no list has identifier 0" or is worn; "its links and record words are free."
 pub record SoundLists (l : Layout) (w : List ℕ) : Type 0 where
   pub sequence : ℕ → List ℕ
   pub lists : (k : ℕ) → k < l .lists → IsList l w k (sequence k)
-  pub outside : (i : ℕ) → Node l i → ((k : ℕ) → k < l .lists → i ∈ sequence k → ⊥) → getD w (identAt l i) 0 ≡ 0
+  pub outside : (i : ℕ) → Node l i → ((k : ℕ) → k < l .lists → i ∈ sequence k → ⊥) → Unlisted (getD w (identAt l i) 0)
 
 -- "A sound store: words 0 to 7 are as above", the length is exact, and the lists are sound
 pub record Sound (w : List ℕ) : Type 0 where

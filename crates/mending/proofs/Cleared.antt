@@ -2,23 +2,24 @@
 use Prim.Native.Nat.{ℕ, zero, suc, _+_, _<_, _≤_}
 use mathlib.Core.Path.{_≡_, refl, ap, ap₂, _∙_, sym, subst}
 use mathlib.Core.List.{List, [], _∷_, map, List·Memᴰ·head, List·Memᴰ·tail}
-use mathlib.Core.Bool.{Bool, true, false, not, cond}
+use mathlib.Core.Bool.{Bool, true, false, not, cond, _||_, or-true}
 use mathlib.Core.Logic.{⊎-elim}
 use native.Mathlib.Decide.{ℕ-discrete}
 use native.Mathlib.Omega.{arith}
 use native.Mathlib.Nat.{eq-or-lt-of-le}
-use lib.Dec.{eqb}
 use lib.ListN.{getD, set}
 use lib.Seq.{getD-set-other}
+use borrow.Author.Tests.{eqb-true, eqb-false}
 use Rattle.sequences.specs.Sequence.{_∈_, range, filter}
 use Rattle.sequences.proofs.Members.{member?}
 use Rattle.stores.specs.Stores.{Write, write}
 use Rattle.layout.specs.declared.Layout.{Layout}
-use Rattle.layout.specs.Words.{Node, firstNode, identAt, inUse}
-use Rattle.lists.specs.Decide.{View}
+use Rattle.layout.specs.Words.{Node, firstNode, identAt, wornIdent, isFree, isWorn, inUse}
+use Rattle.lists.specs.Decide.{View, viewOf}
 use Rattle.recovery.specs.Fits.{wrong}
 use Rattle.recovery.specs.Plan.{joined, outOf, clearsAsked}
-use Rattle.recovery.proofs.Joined.{one-joined, joined-one, out-member, out-other}
+use Rattle.recovery.proofs.Required.{wrong-right, wrong-wrong}
+use Rattle.recovery.proofs.Joined.{one-joined, joined-one, out-member, out-worn, out-other}
 use Rattle.fitting.specs.Fitting.{membersBy}
 use Rattle.mending.specs.Mending.{erased, erasedFrom, clearsIn, clears}
 
@@ -90,31 +91,43 @@ module _ (l : Layout) (v : View) (back : ℕ → Bool) where
 -- an entry is 0 at a member, and elsewhere as in the words: the clears are what is wrong of those required
 clears-told : (l : Layout) (w idents ms : List ℕ) (a n : ℕ)
     → ((c : ℕ) → a ≤ c → c < a + n → (c ∈ ms → getD idents c 0 ≡ 0) × ((c ∈ ms → ⊥) → getD idents c 0 ≡ getD w (identAt l c) 0))
-    → clearsIn l idents a n ≡ wrong w (map (λ c. write (identAt l c) 0) (outOf ms a n))
+    → clearsIn l idents a n ≡ wrong w (map (λ c. write (identAt l c) 0) (outOf (viewOf l w .ident) ms a n))
 unfolding clearsIn range filter wrong
 clears-told l w idents ms a zero h = refl
 clears-told l w idents ms a (suc n) h =
     let p = write (identAt l a) 0 in
     let step : ℕ → List Write → List Write = λ v t. cond (inUse v) (p ∷ t) t in
-    let required : List ℕ → List Write = λ cs. map (λ c. write (identAt l c) 0) cs in
     let here = h a (omega arith) (omega arith) in
     let below = clears-told l w idents ms (suc a) n (λ c p q. h c (omega arith) (omega arith)) in
     ⊎-elim
-    (λ m. ap₂ step (here .0 m) below ∙ ap (λ (cs : List ℕ). wrong w (required cs)) (sym (out-member ms a n m)))
-    (λ o.
-    ap₂ step (here .1 o) below ∙ tested (eqb (getD w (identAt l a) 0) 0) (wrong w (required (outOf ms (suc a) n)))
-    ∙ ap (λ (cs : List ℕ). wrong w (required cs)) (sym (out-other ms a n o)))
+    (λ m. ap₂ step (here .0 m) below ∙ ap required (sym (out-member (viewOf l w .ident) ms a n m)))
+    (λ o. ap₂ step (here .1 o) below ∙ outside o (isFree (getD w (identAt l a) 0)) (isWorn (getD w (identAt l a) 0)) refl refl)
     (member? a ms)
   where
-    tested : (b : Bool) (t : List Write) → cond (not b) (write (identAt l a) 0 ∷ t) t ≡ (elim b as (λ _. List Write) [ true ↦ t | false ↦ write (identAt l a) 0 ∷ t ])
-    tested true t = refl
-    tested false t = refl
+    required : List ℕ → List Write
+    required cs = wrong w (map (λ c. write (identAt l c) 0) cs)
+
+    rest : List ℕ
+    rest = outOf (viewOf l w .ident) ms (suc a) n
+
+    -- a node in no list: free, worn, or to be cleared
+    outside : (a ∈ ms → ⊥) → (b d : Bool) → isFree (getD w (identAt l a) 0) ≡ b → isWorn (getD w (identAt l a) 0) ≡ d
+        → cond (not (b || d)) (write (identAt l a) 0 ∷ required rest) (required rest) ≡ required (outOf (viewOf l w .ident) ms a (suc n))
+    outside o b true p q =
+        ap (λ (x : Bool). cond (not x) (write (identAt l a) 0 ∷ required rest) (required rest)) (or-true b)
+        ∙ ap required (sym (out-worn (viewOf l w .ident) ms a n (eqb-true _ wornIdent q)))
+    outside o true false p q =
+        sym (wrong-right w (write (identAt l a) 0) (map (λ c. write (identAt l c) 0) rest) (eqb-true _ 0 p))
+        ∙ ap required (sym (out-other (viewOf l w .ident) ms a n o (eqb-false _ wornIdent q)))
+    outside o false false p q =
+        sym (wrong-wrong w (write (identAt l a) 0) (map (λ c. write (identAt l c) 0) rest) (eqb-false _ 0 p))
+        ∙ ap required (sym (out-other (viewOf l w .ident) ms a n o (eqb-false _ wornIdent q)))
 
 -- the clears of the identifiers without the members of the lists are those of the plan
 pub cleared-told : (l : Layout) (w idents : List ℕ) (v : View) (back : ℕ → Bool) (s : ℕ → List ℕ)
     → ((c : ℕ) → Node l c → getD idents c 0 ≡ getD w (identAt l c) 0)
     → ((k : ℕ) → k < l .lists → (c : ℕ) → (c ∈ membersBy l v (back k) k → c ∈ s k) × (c ∈ s k → c ∈ membersBy l v (back k) k))
-    → clears l (erasedFrom l v back 0 (l .lists) idents) ≡ wrong w (clearsAsked l s)
+    → clears l (erasedFrom l v back 0 (l .lists) idents) ≡ wrong w (clearsAsked l w s)
 cleared-told l w idents v back s same members =
     clears-told l w (erasedFrom l v back 0 (l .lists) idents) (joined s (l .lists)) (firstNode l) (l .nodes)
     (λ c p q. (

@@ -1,20 +1,19 @@
--- Who is left over. The members of the sequences that fit are different nodes. If all of them carry an identifier and they are as
--- many as the nodes that carry one, no other node does, and recovery clears nothing.
+-- Who is left over. The members of the sequences that fit are different nodes. If all of them carry an identifier that says in use and
+-- they are as many as the nodes that do, no other node does, and recovery clears nothing.
 use Prim.Native.Nat.{ℕ, zero, suc, _+_, _<_, _≤_}
 use mathlib.Core.Path.{_≡_, refl, ap, ap₂, _∙_, sym}
 use mathlib.Core.List.{List, []}
-use mathlib.Core.Bool.{true}
-use native.Mathlib.Decide.{ℕ-discrete}
+use mathlib.Core.Bool.{Bool, true, false}
 use native.Mathlib.Omega.{arith}
 use lib.ListN.{length, getD, length-append}
 use Rattle.sequences.specs.Sequence.{_∈_, Different}
 use Rattle.sequences.proofs.Members.{all-in, different-append}
 use Rattle.sequences.proofs.Pigeonhole.{pigeonhole-less}
 use Rattle.layout.specs.declared.Layout.{Layout}
-use Rattle.layout.specs.Words.{Node, firstNode, identAt}
+use Rattle.layout.specs.Words.{Node, InRange, firstNode, identAt, Unlisted, inUse}
 use Rattle.lists.specs.Lists.{asked}
 use Rattle.lists.specs.Decide.{viewOf, countIn, used}
-use Rattle.lists.proofs.Decided.{is-used}
+use Rattle.lists.proofs.Nodes.{in-use, unused, is-used}
 use Rattle.recovery.specs.Fits.{wrong, Fits}
 use Rattle.recovery.specs.Plan.{joined, clearsAsked, fittingOf}
 use Rattle.recovery.proofs.Required.{agrees-wrong}
@@ -40,7 +39,7 @@ total-same f g zero h = refl
 total-same f g (suc n) h = ap₂ _+_ (total-same f g n (λ k q. h k (omega arith))) (h n (omega arith))
 
 module _ (l : Layout) (w : List ℕ) (s : ℕ → List ℕ) (fits : (k : ℕ) → k < l .lists → Fits l w k (s k))
-    (carry : (k : ℕ) → k < l .lists → (x : ℕ) → x ∈ s k → getD w (identAt l x) 0 ≡ 0 → ⊥) where
+    (carry : (k : ℕ) → k < l .lists → (x : ℕ) → x ∈ s k → Unlisted (getD w (identAt l x) 0) → ⊥) where
   -- .. different, ..
   joined-different : (n : ℕ) → n ≤ l .lists → Different (joined s n)
   unfolding joined
@@ -61,40 +60,40 @@ module _ (l : Layout) (w : List ℕ) (s : ℕ → List ℕ) (fits : (k : ℕ) �
   abbrev Used : List ℕ
   Used = used (viewOf l w) (firstNode l) (l .nodes)
 
-  -- .. and nodes that carry an identifier
+  -- .. and nodes in use
   member-used : (x : ℕ) → x ∈ Members → x ∈ Used
   member-used x m =
       let r = joined-one s (l .lists) x m in
       let n = all-in (Node l) (s (r .0)) (fits (r .0) (r .1) .nodes) (r .2) in
       is-used (viewOf l w) (firstNode l) (l .nodes) x (n .low) (n .high) (carry (r .0) (r .1) x (r .2))
 
-  -- so if no more nodes do, all others have identifier 0
-  none-else : length Members ≡ length Used → wrong w (clearsAsked l s) ≡ []
+  -- so if no more nodes are, all others are free or worn
+  none-else : length Members ≡ length Used → wrong w (clearsAsked l w s) ≡ []
   none-else e =
-      agrees-wrong w (clearsAsked l s) (clear-none l w s (λ c n o. by c n o (ℕ-discrete (getD w (identAt l c) 0) 0)))
+      agrees-wrong w (clearsAsked l w s) (clear-none l w s (λ c n o. by c n o (inUse (getD w (identAt l c) 0)) refl))
     where
-      by : (c : ℕ) → Node l c → (c ∈ Members → ⊥) → Dec (getD w (identAt l c) 0 ≡ 0) → getD w (identAt l c) 0 ≡ 0
-      by c n o (yes z) = z
-      by c n o (no z) =
+      by : (c : ℕ) → Node l c → (c ∈ Members → ⊥) → (b : Bool) → inUse (getD w (identAt l c) 0) ≡ b → Unlisted (getD w (identAt l c) 0)
+      by c n o false z = unused _ z
+      by c n o true z =
           absurd (omega (
             arith,
             e,
             pigeonhole-less Members Used c (joined-different (l .lists) (omega arith)) member-used
-                (is-used (viewOf l w) (firstNode l) (l .nodes) c (n .low) (n .high) z) o,
+                (is-used (viewOf l w) (firstNode l) (l .nodes) c (n .low) (n .high) (in-use _ z)) o,
           ))
 
--- As it is told by the faults: no list is refused, all members carry an identifier, and they are as many as the nodes that do. Then
--- nothing is to be cleared.
-pub nothing-left : (l : Layout) (w : List ℕ)
+-- As it is told by the faults: no list is refused, all members carry an identifier that says in use, and they are as many as the nodes
+-- that do. Then nothing is to be cleared.
+pub nothing-left : (l : Layout) → InRange l → (w : List ℕ)
     → ((k : ℕ) → k < l .lists → numberOf (fitIn l (viewOf l w) k (countIn l w k)) ≡ 0)
     → ((k : ℕ) → k < l .lists → carries (viewOf l w .ident) (faultAt l (viewOf l w) (countIn l w) k) ≡ true)
     → total (λ k. lengthBy (faultAt l (viewOf l w) (countIn l w) k) (countIn l w k)) (l .lists)
     ≡ length (used (viewOf l w) (firstNode l) (l .nodes))
-    → wrong w (clearsAsked l (fittingOf l w)) ≡ []
-nothing-left l w fitted carried number =
+    → wrong w (clearsAsked l w (fittingOf l w)) ≡ []
+nothing-left l r w fitted carried number =
     none-else l w s fits
     (λ k h. members-carry (viewOf l w) k (countIn l w k) (s k) (few k h)
-    (ap (carries (viewOf l w .ident)) (sym (chosen-told l w k h (fitted k h) .1)) ∙ carried k h))
+    (ap (carries (viewOf l w .ident)) (sym (chosen-told l w k h (fitted k h) .1)) ∙ carried k h) (omega (arith, h, r .lists)))
     (length-joined s (l .lists)
     ∙ total-same (λ k. length (s k)) (λ k. lengthBy (faultAt l (viewOf l w) (countIn l w) k) (countIn l w k)) (l .lists)
     (λ k h.

@@ -12,7 +12,7 @@ use borrow.Author.Tests.{eq-eqb, ne-eqb, eqb-true}
 use Rattle.sequences.specs.Sequence.{_∈_}
 use Rattle.stores.specs.Stores.{Write, refuse, stores, writesIn}
 use Rattle.layout.specs.declared.Layout.{Layout}
-use Rattle.layout.specs.Words.{firstNode, Node}
+use Rattle.layout.specs.Words.{firstNode, Node, InRange}
 use Rattle.lists.specs.Lists.{asked}
 use Rattle.lists.specs.Decide.{View, viewOf, countIn, used}
 use Rattle.recovery.specs.Fits.{wrong}
@@ -108,14 +108,14 @@ module _ (l : Layout) (w : List ℕ) (m : Mends) (told : MendsOf l (viewOf l w) 
 
     -- the stores: the mends, and the clears ..
     abbrev Left : List Write
-    Left = wrong w (clearsAsked l (fittingOf l w))
+    Left = wrong w (clearsAsked l w (fittingOf l w))
 
     stores-told : recoverOf l w ≡ stores (writesIn (m .rows) ++ Left)
     unfolding recoverOf
     stores-told =
         rw (eq-eqb _ _ (sym refusal ∙ z))
         (ap stores
-        (wrong-append w (listsAsked l (fittingOf l w)) (clearsAsked l (fittingOf l w))
+        (wrong-append w (listsAsked l (fittingOf l w)) (clearsAsked l w (fittingOf l w))
         ∙ ap (λ (ps : List Write). ps ++ Left) (sym (told .rows z ∙ mends-told l w fitted (l .lists) (omega arith)))))
 
     -- .. by what is left of the nodes' identifiers
@@ -130,10 +130,10 @@ module _ (l : Layout) (w : List ℕ) (m : Mends) (told : MendsOf l (viewOf l w) 
         (sym (told .back z k h)) (members-told l w k h (fitted k h)))))
 
     -- .. or none, if nobody is left over
-    pub recover-mends : (m .carried && eqb (m .members) (length (used v (firstNode l) (l .nodes)))) ≡ true → recoverOf l w ≡ stores (writesIn (m .rows))
-    recover-mends e =
+    pub recover-mends : InRange l → (m .carried && eqb (m .members) (length (used v (firstNode l) (l .nodes)))) ≡ true → recoverOf l w ≡ stores (writesIn (m .rows))
+    recover-mends r e =
         let both = and-eq-true-iff _ _ .0 e in
         stores-told
         ∙ ap (λ (ps : List Write). stores (writesIn (m .rows) ++ ps))
-        (nothing-left l w fitted (told .carried z (both .0)) (sym (told .members z) ∙ eqb-true _ _ (both .1)))
+        (nothing-left l r w fitted (told .carried z (both .0)) (sym (told .members z) ∙ eqb-true _ _ (both .1)))
         ∙ ap stores (append-nil (writesIn (m .rows)))

@@ -10,9 +10,10 @@ use Rattle.sequences.specs.Sequence.{_∈_, All, Different}
 use Rattle.sequences.proofs.Members.{all-in, in-all, all-append}
 use Rattle.stores.specs.Stores.{Write, write, run}
 use Rattle.layout.specs.declared.Layout.{Layout}
-use Rattle.layout.specs.Words.{firstNode, Node, cellCount, sizeOf, identAt}
+use Rattle.layout.specs.Words.{firstNode, Node, cellCount, sizeOf, identAt, wornIdent, Unlisted, free, worn}
 use Rattle.layout.proofs.Apart.{cells-apart, links-words, word-fits}
 use Rattle.lists.specs.Lists.{asked}
+use Rattle.lists.specs.Decide.{viewOf}
 use Rattle.lists.proofs.Same.{ident-word}
 use Rattle.recovery.specs.Fits.{Fits}
 use Rattle.recovery.specs.Plan.{joined, nodesOut, listsAsked, clearsAsked, required, recoverStores, Accepted, differing, Kind, mend, clear}
@@ -21,28 +22,33 @@ use Rattle.recovery.proofs.Required.{wrong-in, in-wrong, Once, once-app
 use Rattle.recovery.proofs.Slots.{slot, ident-cell, cells-once, asked-once}
 use Rattle.recovery.proofs.Joined.{one-joined, joined-one, out-is, out-different}
 
--- the requirements, one by one: the words asked of a list, and the identifiers of nodes in none
-module _ (l : Layout) (s : ℕ → List ℕ) {p : Write} where
+-- the requirements, one by one: the words asked of a list, and the identifiers of nodes in none that are not worn
+module _ (l : Layout) (w : List ℕ) (s : ℕ → List ℕ) {p : Write} where
   pub in-lists : List·Memᴰ p (listsAsked l s) → (k : ℕ) × (k < l .lists) × List·Memᴰ p (asked l k (s k))
   in-lists = joined-one (λ k. asked l k (s k)) (l .lists) p
 
-  pub in-clears : List·Memᴰ p (clearsAsked l s) → (c : ℕ) × Node l c × (c ∈ joined s (l .lists) → ⊥) × (write (identAt l c) 0 ≡ p)
+  pub in-clears : List·Memᴰ p (clearsAsked l w s)
+      → (c : ℕ) × Node l c × (c ∈ joined s (l .lists) → ⊥) × (getD w (identAt l c) 0 ≡ wornIdent → ⊥) × (write (identAt l c) 0 ≡ p)
   in-clears m =
-      let r = Memᴰ·of-map (λ c. write (identAt l c) 0) (nodesOut l s) m in
-      let o = out-is (joined s (l .lists)) (firstNode l) (l .nodes) (r .0) (r .1) in
-      (r .0, record { low = o .0; high = o .1 }, o .2, r .2)
+      let r = Memᴰ·of-map (λ c. write (identAt l c) 0) (nodesOut l w s) m in
+      let o = out-is (viewOf l w .ident) (joined s (l .lists)) (firstNode l) (l .nodes) (r .0) (r .1) in
+      (r .0, record { low = o .0; high = o .1 }, o .2, o .3, r .2)
 
 -- the stores of a plan
 pub plan-kinds : (l : Layout) (w : List ℕ) (s : ℕ → List ℕ) → All (Kind l w s) (recoverStores l w s)
 plan-kinds l w s =
     in-all (Kind l w s) (recoverStores l w s)
     (λ p m.
-    let r = wrong-in w (required l s) m in
-    ⊎-elim (λ t. let k = in-lists l s t in mend (k .0) (k .1) (in-wrong w (asked l (k .0) (s (k .0))) (k .2) (r .1)))
+    let r = wrong-in w (required l w s) m in
+    ⊎-elim (λ t. let k = in-lists l w s t in mend (k .0) (k .1) (in-wrong w (asked l (k .0) (s (k .0))) (k .2) (r .1)))
     (λ t.
-    let c = in-clears l s t in
-    clear (c .0) (c .1 .low) (c .2) (λ z. r .1 (subst (λ (q : Write). getD w (q .at) 0 ≡ q .value) (c .3) z)) (sym (c .3)))
+    let c = in-clears l w s t in
+    clear (c .0) (c .1 .low) (c .2) (spare (c .0) (λ z. r .1 (subst (λ (q : Write). getD w (q .at) 0 ≡ q .value) (c .4) z)) (c .3)) (sym (c .4)))
     (List·Memᴰ·append-cases (listsAsked l s) (r .0)))
+  where
+    spare : (c : ℕ) → (getD w (identAt l c) 0 ≡ 0 → ⊥) → (getD w (identAt l c) 0 ≡ wornIdent → ⊥) → Unlisted (getD w (identAt l c) 0) → ⊥
+    spare c a b (free z) = a z
+    spare c a b (worn z) = b z
 
 module _ (l : Layout) (w : List ℕ) (s : ℕ → List ℕ) (fits : (k : ℕ) → k < l .lists → Fits l w k (s k)) where
   -- a cell is of one list
@@ -75,31 +81,31 @@ module _ (l : Layout) (w : List ℕ) (s : ℕ → List ℕ) (fits : (k : ℕ) �
   member-out k c h low out (List·Memᴰ·tail m) = out (one-joined s (l .lists) k c h m)
 
   -- no word is required twice
-  pub required-once : Once (required l s)
+  pub required-once : Once (required l w s)
   required-once =
-      once-append (listsAsked l s) (clearsAsked l s) (lists-once (l .lists) (omega arith))
-      (cells-once (identAt l) (ident-cell l) (λ c. c) (λ c. 0) (nodesOut l s)
-      (subst Different (sym (map-id (nodesOut l s))) (out-different (joined s (l .lists)) (firstNode l) (l .nodes))))
+      once-append (listsAsked l s) (clearsAsked l w s) (lists-once (l .lists) (omega arith))
+      (cells-once (identAt l) (ident-cell l) (λ c. c) (λ c. 0) (nodesOut l w s)
+      (subst Different (sym (map-id (nodesOut l w s))) (out-different (viewOf l w .ident) (joined s (l .lists)) (firstNode l) (l .nodes))))
       (λ p q m m′ e.
-      let i = in-lists l s m in
+      let i = in-lists l w s m in
       let x = slot l (i .0) (s (i .0)) (i .1) (i .2) in
-      let c = in-clears l s m′ in
+      let c = in-clears l w s m′ in
       cells-apart l (x .cell) (c .0) (x .word) 0 (λ z. member-out (i .0) (c .0) (i .1) (c .1 .low) (c .2) (Memᴰ·cast (sym z) (x .within)))
-      (x .fits) (links-words l (c .0) 0 (omega arith)) (sym (x .at) ∙ e ∙ ap (λ (r : Write). r .at) (sym (c .3)) ∙ ident-word l (c .0)))
+      (x .fits) (links-words l (c .0) 0 (omega arith)) (sym (x .at) ∙ e ∙ ap (λ (r : Write). r .at) (sym (c .4)) ∙ ident-word l (c .0)))
 
   -- and all are words of the store
-  pub required-inside : length w ≡ sizeOf l → All (λ (p : Write). p .at < length w) (required l s)
+  pub required-inside : length w ≡ sizeOf l → All (λ (p : Write). p .at < length w) (required l w s)
   required-inside e =
-      all-append (λ (p : Write). p .at < length w) (listsAsked l s) (clearsAsked l s)
+      all-append (λ (p : Write). p .at < length w) (listsAsked l s) (clearsAsked l w s)
       (in-all _ (listsAsked l s)
       (λ p m.
-      let k = in-lists l s m in
+      let k = in-lists l w s m in
       let x = slot l (k .0) (s (k .0)) (k .1) (k .2) in
       omega (arith, x .at, word-fits l (x .cell) (x .word) (cell (k .0) (k .1) (x .cell) (x .within)) (x .fits))))
-      (in-all _ (clearsAsked l s)
+      (in-all _ (clearsAsked l w s)
       (λ p m.
-      let c = in-clears l s m in
-      omega (arith, ap (λ (r : Write). r .at) (c .3), ident-word l (c .0), word-fits l (c .0) 0 (c .1 .high) (links-words l (c .0) 0 (omega arith)))))
+      let c = in-clears l w s m in
+      omega (arith, ap (λ (r : Write). r .at) (c .4), ident-word l (c .0), word-fits l (c .0) 0 (c .1 .high) (links-words l (c .0) 0 (omega arith)))))
     where
       cell : (k : ℕ) → k < l .lists → (c : ℕ) → c ∈ (k ∷ s k) → c < cellCount l
       cell k h c (List·Memᴰ·head d) = omega arith
@@ -109,4 +115,4 @@ module _ (l : Layout) (w : List ℕ) (s : ℕ → List ℕ) (fits : (k : ℕ) �
 pub plan-differs : (l : Layout) (s : ℕ → List ℕ) (ps : List Write) (w : List ℕ) → length w ≡ sizeOf l → Accepted l w s → recoverStores l w s ≡ ps
     → differing w (run ps w) ≡ length ps
 plan-differs l s ps w e a q =
-    wrong-differs (required l s) (required-once l w s (a .fits)) ps w (required-inside l w s (a .fits) e) q
+    wrong-differs (required l w s) (required-once l w s (a .fits)) ps w (required-inside l w s (a .fits) e) q

@@ -2,16 +2,18 @@
 use Prim.Native.Nat.{ℕ, zero, suc, _+_, _<_, _≤_}
 use mathlib.Core.Path.{_≡_, refl, ap, ap₂, _∙_, sym, subst}
 use mathlib.Core.List.{List, [], _∷_, _++_, List·Memᴰ, List·Memᴰ·head, List·Memᴰ·tail, List·Memᴰ·append-cases, Memᴰ·append-left, Memᴰ·append-right}
-use mathlib.Core.Bool.{Bool, true, false, not, _||_, or-true, true≢false}
+use mathlib.Core.Bool.{Bool, true, false, not, _&&_, _||_, and-false, and-eq-true-iff, or-true, true≢false}
 use mathlib.Core.Logic.{⊎-elim}
 use native.Mathlib.Omega.{arith}
 use native.Mathlib.Nat.{eq-or-lt-of-le, le-of-suc-le-suc}
 use lib.Dec.{eqb}
 use lib.ListN.{length}
-use borrow.Author.Tests.{eq-eqb, eqb-true}
+use borrow.Author.Tests.{eq-eqb, ne-eqb, eqb-true}
 use Rattle.sequences.specs.Sequence.{_∈_, Different, range, filter}
+use Rattle.sequences.proofs.Members.{in-all}
 use Rattle.sequences.proofs.Range.{length-range, in-range, range-between, range-different, range-first}
-use Rattle.sequences.proofs.Filter.{filter-yes, filter-no, filter-in, in-filter, filter-different, filter-length}
+use Rattle.sequences.proofs.Filter.{filter-yes, filter-no, filter-in, in-filter, filter-different, filter-length, filter-same}
+use Rattle.layout.specs.Words.{wornIdent, isWorn}
 use Rattle.recovery.specs.Plan.{joined, isIn, outOf}
 
 -- a member of joined sequences is in one of them
@@ -57,28 +59,55 @@ not-isIn x s n = by (isIn x s) refl
     by true e = absurd (n (isIn-in x s e))
     by false e = refl
 
--- the cells that are no members, one by one
-module _ (ms : List ℕ) where
+-- the cells that are no members and not worn, one by one
+module _ (ident : ℕ → ℕ) (ms : List ℕ) where
   abbrev isOut : ℕ → Bool
-  isOut c = not (isIn c ms)
+  isOut c = not (isIn c ms) && not (isWorn (ident c))
 
-  pub out-member : (a n : ℕ) → a ∈ ms → outOf ms a (suc n) ≡ outOf ms (suc a) n
-  out-member a n m = ap (filter isOut) (range-first a n) ∙ filter-no isOut a (range (suc a) n) (ap not (in-isIn a ms m))
+  unworn : (x : ℕ) → (ident x ≡ wornIdent → ⊥) → not (isWorn (ident x)) ≡ true
+  unworn x n = ap not (ne-eqb (ident x) wornIdent n)
 
-  pub out-other : (a n : ℕ) → (a ∈ ms → ⊥) → outOf ms a (suc n) ≡ a ∷ outOf ms (suc a) n
-  out-other a n o = ap (filter isOut) (range-first a n) ∙ filter-yes isOut a (range (suc a) n) (ap not (not-isIn a ms o))
+  pub out-member : (a n : ℕ) → a ∈ ms → outOf ident ms a (suc n) ≡ outOf ident ms (suc a) n
+  out-member a n m =
+      ap (filter isOut) (range-first a n)
+      ∙ filter-no isOut a (range (suc a) n) (ap (λ (b : Bool). not b && not (isWorn (ident a))) (in-isIn a ms m))
 
-  pub out-is : (a n x : ℕ) → x ∈ outOf ms a n → (a ≤ x) × (x < a + n) × (x ∈ ms → ⊥)
+  pub out-worn : (a n : ℕ) → ident a ≡ wornIdent → outOf ident ms a (suc n) ≡ outOf ident ms (suc a) n
+  out-worn a n z =
+      ap (filter isOut) (range-first a n)
+      ∙ filter-no isOut a (range (suc a) n)
+      (ap (λ (b : Bool). not (isIn a ms) && not b) (eq-eqb (ident a) wornIdent z) ∙ and-false (not (isIn a ms)))
+
+  pub out-other : (a n : ℕ) → (a ∈ ms → ⊥) → (ident a ≡ wornIdent → ⊥) → outOf ident ms a (suc n) ≡ a ∷ outOf ident ms (suc a) n
+  out-other a n o z =
+      ap (filter isOut) (range-first a n)
+      ∙ filter-yes isOut a (range (suc a) n) (and-eq-true-iff _ _ .1 (ap not (not-isIn a ms o), unworn a z))
+
+  pub out-is : (a n x : ℕ) → x ∈ outOf ident ms a n → (a ≤ x) × (x < a + n) × (x ∈ ms → ⊥) × (ident x ≡ wornIdent → ⊥)
   out-is a n x m =
       let r = filter-in isOut (range a n) x m in
       let b = range-between a n x (r .0) in
-      (b .0, b .1, λ q. true≢false (sym (r .1) ∙ ap not (in-isIn x ms q)))
+      let t = and-eq-true-iff (not (isIn x ms)) (not (isWorn (ident x))) .0 (r .1) in
+      (b .0, b .1, (λ q. true≢false (sym (t .0) ∙ ap not (in-isIn x ms q))), λ z. true≢false (sym (t .1) ∙ ap not (eq-eqb (ident x) wornIdent z)))
 
-  pub is-out : (a n x : ℕ) → a ≤ x → x < a + n → (x ∈ ms → ⊥) → x ∈ outOf ms a n
-  is-out a n x p q o = in-filter isOut (range a n) x (in-range a n x p q) (ap not (not-isIn x ms o))
+  pub is-out : (a n x : ℕ) → a ≤ x → x < a + n → (x ∈ ms → ⊥) → (ident x ≡ wornIdent → ⊥) → x ∈ outOf ident ms a n
+  is-out a n x p q o z =
+      in-filter isOut (range a n) x (in-range a n x p q) (and-eq-true-iff _ _ .1 (ap not (not-isIn x ms o), unworn x z))
 
-  pub out-different : (a n : ℕ) → Different (outOf ms a n)
+  pub out-different : (a n : ℕ) → Different (outOf ident ms a n)
   out-different a n = filter-different isOut (range a n) (range-different a n)
 
-  pub out-few : (a n : ℕ) → length (outOf ms a n) ≤ n
+  pub out-few : (a n : ℕ) → length (outOf ident ms a n) ≤ n
   out-few a n = omega (arith, filter-length isOut (range a n), length-range a n)
+
+-- with the same of them worn
+pub out-same : (ident ident′ : ℕ → ℕ) (ms : List ℕ) (a n : ℕ)
+    → ((x : ℕ) → a ≤ x → x < a + n → (x ∈ ms → ⊥) → isWorn (ident′ x) ≡ isWorn (ident x)) → outOf ident′ ms a n ≡ outOf ident ms a n
+out-same ident ident′ ms a n h =
+    filter-same (isOut ident ms) (isOut ident′ ms) (range a n)
+    (in-all _ (range a n) (λ x m. let b = range-between a n x m in by x (isIn x ms) refl (h x (b .0) (b .1))))
+  where
+    by : (x : ℕ) (b : Bool) → isIn x ms ≡ b → ((x ∈ ms → ⊥) → isWorn (ident′ x) ≡ isWorn (ident x))
+        → (not b && not (isWorn (ident′ x))) ≡ (not b && not (isWorn (ident x)))
+    by x true e k = refl
+    by x false e k = ap not (k (λ m. true≢false (sym (in-isIn x ms m) ∙ e)))

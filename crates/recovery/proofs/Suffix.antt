@@ -1,25 +1,27 @@
 -- The suffix law: after the first stores of its plan every list still has its only sequence, so the plan is the rest.
 use Prim.Native.Nat.{ℕ, _+_, _<_, _≤_}
 use mathlib.Core.Path.{_≡_, ap, _∙_, sym, subst}
-use mathlib.Core.List.{List, [], _∷_, List·Memᴰ, List·Memᴰ·eq-of-singleton, Memᴰ·append-left, Memᴰ·cast}
+use mathlib.Core.List.{List, [], _∷_, _++_, map, List·Memᴰ, List·Memᴰ·head, List·Memᴰ·tail, List·Memᴰ·eq-of-singleton, Memᴰ·append-left, Memᴰ·cast}
 use mathlib.Core.Logic.{_⊎_, inl, inr, ⊎-elim}
 use native.Mathlib.Omega.{arith}
 use lib.ListN.{length, getD, take, drop, take-append-drop}
+use borrow.Author.Tests.{ne-eqb}
 use Rattle.sequences.specs.Sequence.{_∈_, All}
 use Rattle.sequences.proofs.Members.{all-in, in-all, one-image}
-use Rattle.stores.specs.Stores.{Write, applied}
+use Rattle.stores.specs.Stores.{Write, write, applied}
 use Rattle.stores.proofs.Laws.{run-word}
 use Rattle.layout.specs.declared.Layout.{Layout}
-use Rattle.layout.specs.Words.{sizeOf, cellAt, cellWords, identAt, identOf}
+use Rattle.layout.specs.Words.{firstNode, Node, sizeOf, cellAt, cellWords, identAt, identOf, wornIdent, worn, isWorn}
 use Rattle.layout.proofs.Apart.{links-words}
 use Rattle.lists.specs.Lists.{asked, SameCells}
+use Rattle.lists.specs.Decide.{viewOf}
 use Rattle.lists.proofs.Same.{ident-word}
 use Rattle.recovery.specs.Fits.{wrong, Fits}
-use Rattle.recovery.specs.Plan.{clearsAsked, required, recoverStores, Accepted, Kind, mend, clear}
+use Rattle.recovery.specs.Plan.{joined, listsAsked, clearsAsked, required, recoverStores, Accepted, Kind, mend, clear}
 use Rattle.recovery.proofs.Candidates.{sequence-dec, wrong-parts, right-idents, forward-candidate, back-candidate, candidates, rivals}
 use Rattle.recovery.proofs.Required.{Right, right?, agrees-wrong, wrong-in, in-wrong, wrong-same, wrong-fewer, wrong-rest}
 use Rattle.recovery.proofs.Slots.{slot, same-cell}
-use Rattle.recovery.proofs.Joined.{one-joined}
+use Rattle.recovery.proofs.Joined.{one-joined, out-same}
 use Rattle.recovery.proofs.Count.{plan-kinds, required-once, required-inside}
 
 -- the same words in all cells of a sequence: it fits alike
@@ -62,8 +64,8 @@ module _ (l : Layout) (w : List ℕ) (s : ℕ → List ℕ) (a : Accepted l w s)
       (λ q.
       q .3
       ∙ ap (λ (t : Write). t .value)
-      (one-image (λ (t : Write). t .at) (required l s) (required-once l w s (a .fits)) (wrong-in w (required l s) (q .1) .0)
-      (Memᴰ·append-left (clearsAsked l s) (one-joined (λ j. asked l j (s j)) (l .lists) k p h m)) (q .2)))
+      (one-image (λ (t : Write). t .at) (required l w s) (required-once l w s (a .fits)) (wrong-in w (required l w s) (q .1) .0)
+      (Memᴰ·append-left (clearsAsked l w s) (one-joined (λ j. asked l j (s j)) (l .lists) k p h m)) (q .2)))
       (made (p .at))
 
   -- so every sequence fits
@@ -85,6 +87,37 @@ module _ (l : Layout) (w : List ℕ) (s : ℕ → List ℕ) (a : Accepted l w s)
         | yes r ↦ kept k h q t r
         | no n ↦ subst (Right x) (one-of (wrong w (asked l k (s k))) (a .fits k h .few) m (in-wrong w (asked l k (s k)) t n)) e
       ]))
+
+  -- the same nodes in no list are worn: no store goes to one that is, or writes what makes one so
+  pub worn-kept : (c : ℕ) → Node l c → (c ∈ joined s (l .lists) → ⊥) → isWorn (getD x (identAt l c) 0) ≡ isWorn (getD w (identAt l c) 0)
+  worn-kept c n o =
+      ⊎-elim (λ e. ap isWorn e)
+      (λ q. stored (q .0) (all-in (Kind l w s) (recoverStores l w s) (plan-kinds l w s) (q .1)) (q .2) (q .3)) (made (identAt l c))
+    where
+      words : (d : ℕ) → 0 < cellWords l d
+      words d = links-words l d 0 (omega arith)
+
+      member : (k d : ℕ) → k < l .lists → d ∈ (k ∷ s k) → c ≡ d → ⊥
+      member k d h (List·Memᴰ·head e) i = omega (arith, n .low)
+      member k d h (List·Memᴰ·tail m) i = o (one-joined s (l .lists) k c h (Memᴰ·cast i m))
+
+      stored : (p : Write) → Kind l w s p → p .at ≡ identAt l c → getD x (identAt l c) 0 ≡ p .value
+          → isWorn (getD x (identAt l c) 0) ≡ isWorn (getD w (identAt l c) 0)
+      stored p (mend k h t) e v =
+          let y = slot l k (s k) h (wrong-in w (asked l k (s k)) t .0) in
+          absurd (member k (y .cell) h (y .within) (same-cell l c (y .cell) 0 (y .word) (words c) (y .fits) (sym (ident-word l c) ∙ sym e ∙ y .at)))
+      stored p (clear d low out nz z) e v =
+          let there : identAt l c ≡ identAt l d = sym e ∙ ap (λ (t : Write). t .at) z in
+          let now : getD x (identAt l c) 0 ≡ 0 = v ∙ ap (λ (t : Write). t .value) z in
+          ne-eqb _ wornIdent (λ q. omega (arith, sym now ∙ q))
+          ∙ sym (ne-eqb _ wornIdent (λ q. nz (worn (ap (λ (b : ℕ). getD w b 0) (sym there) ∙ q))))
+
+  -- so the same is required
+  pub required-kept : required l x s ≡ required l w s
+  required-kept =
+      ap (λ (cs : List ℕ). listsAsked l s ++ map (λ c. write (identAt l c) 0) cs)
+      (out-same (viewOf l w .ident) (viewOf l x .ident) (joined s (l .lists)) (firstNode l) (l .nodes)
+      (λ c p q o. worn-kept c (record { low = p; high = q }) o))
 
   -- Another sequence that fits list j has all identifiers right. So no store went to one of its cells: the cells of a list that was
   -- stored to carry that list's identifier, a cleared node carries none.
@@ -129,16 +162,21 @@ module _ (l : Layout) (w : List ℕ) (s : ℕ → List ℕ) (a : Accepted l w s)
             elim (sequence-dec r (s j)) [ yes e ↦ e | no n ↦ a .unique j h r (same-fits l w x j h r (same-cells j h r g n) g) ];
       }
 
--- after the first t stores, the plan is the rest of it, and every list still has its only sequence
+-- as the words are after the first t stores
+pub first-made : (ps : List Write) (t : ℕ) (w : List ℕ) (b : ℕ)
+    → (getD (applied ps t w) b 0 ≡ getD w b 0) ⊎ ((p : Write) × List·Memᴰ p ps × (p .at ≡ b) × (getD (applied ps t w) b 0 ≡ p .value))
+first-made ps t w b =
+    ⊎-elim inl (λ r. inr (r .0, subst (List·Memᴰ (r .0)) (take-append-drop t ps) (Memᴰ·append-left (drop t ps) (r .1)), r .2, r .3)) (run-word (take t ps) w b)
+
+-- after them the plan is the rest of it, and every list still has its only sequence
 pub suffix
     : (l : Layout) (s : ℕ → List ℕ) (t : ℕ) (w : List ℕ) → length w ≡ sizeOf l → Accepted l w s
     → Accepted l (applied (recoverStores l w s) t w) s
     × (recoverStores l (applied (recoverStores l w s) t w) s ≡ drop t (recoverStores l w s))
-suffix l s t w e a = (
-  still-accepted l w s a (applied ps t w)
-      (λ b. ⊎-elim inl (λ r. inr (r .0, subst (List·Memᴰ (r .0)) (take-append-drop t ps) (Memᴰ·append-left (drop t ps) (r .1)), r .2, r .3)) (run-word (take t ps) w b)),
-  wrong-rest (required l s) (required-once l w s (a .fits)) w t (required-inside l w s (a .fits) e),
-)
-  where
-    ps : List Write
-    ps = recoverStores l w s
+suffix l s t w e a =
+    let y = applied (recoverStores l w s) t w in
+    let made = first-made (recoverStores l w s) t w in (
+      still-accepted l w s a y made,
+      ap (wrong y) (required-kept l w s a y made)
+          ∙ wrong-rest (required l w s) (required-once l w s (a .fits)) w t (required-inside l w s (a .fits) e),
+    )

@@ -3,23 +3,27 @@ use Prim.Native.Nat.{ℕ, zero, suc, _+_, _<_, _≤_}
 use mathlib.Core.Path.{_≡_, refl, ap, ap₂, _∙_, sym, subst}
 use mathlib.Core.List.{List, [], _++_, map, Memᴰ·map}
 use mathlib.Core.Logic.{⊎-elim}
+use native.Mathlib.Decide.{ℕ-discrete}
 use native.Mathlib.Omega.{arith}
 use native.Mathlib.Nat.{eq-or-lt-of-le}
 use lib.ListN.{length, getD, length-map}
+use borrow.Author.Tests.{eq-eqb, eqb-true}
 use Rattle.sequences.specs.Sequence.{_∈_, All}
 use Rattle.sequences.proofs.Members.{all-in, in-all, all-append, append-all}
 use Rattle.stores.specs.Stores.{Write, write, run, stores}
+use Rattle.stores.proofs.Laws.{run-word}
 use Rattle.layout.specs.declared.Layout.{Layout}
 use Rattle.layout.specs.declared.Opened.the-variants as O
-use Rattle.layout.specs.Words.{firstNode, Node, sizeOf, identAt, opened}
+use Rattle.layout.specs.Words.{firstNode, Node, sizeOf, identAt, wornIdent, Unlisted, free, worn, isWorn, opened}
 use Rattle.lists.specs.Lists.{asked, Agrees, IsList, SoundLists}
+use Rattle.lists.specs.Decide.{viewOf}
 use Rattle.recovery.specs.Fits.{wrong, Fits, Fit, none, only, several, fitOf}
 use Rattle.recovery.specs.Plan.{joined, outOf, nodesOut, listsAsked, clearsAsked, required, recoverStores, onlyOf, fittingOf, fitNumber, refusalFrom, recoverOf, recoverPlan, Accepted}
 use Rattle.recovery.proofs.Candidates.{Decided, decided}
 use Rattle.recovery.proofs.Required.{Right, wrong-length, agrees-wrong, wrong-in, wrong-most, wrong-agreed}
 use Rattle.recovery.proofs.Joined.{one-joined, joined-one, joined-same, is-out, out-few}
 use Rattle.recovery.proofs.Count.{in-lists, in-clears, required-once, required-inside}
-use Rattle.recovery.proofs.Suffix.{right-unique}
+use Rattle.recovery.proofs.Suffix.{right-unique, worn-kept}
 
 -- an accepted list's decision
 pub accepted-fit : (l : Layout) (w : List ℕ) (s : ℕ → List ℕ) → Accepted l w s → (k : ℕ) → k < l .lists → fitOf l w k ≡ only (s k)
@@ -62,13 +66,13 @@ pub number-accepted : (l : Layout) (w : List ℕ) → refusalFrom l w 0 (l .list
 number-accepted l w e = fit-accepted l w (fittingOf l w) (λ k h. all-only l w 0 (l .lists) e k (omega arith) (omega arith))
 
 -- sequences that agree below L require the same words, and give one plan
-pub required-same : (l : Layout) (s t : ℕ → List ℕ) → ((k : ℕ) → k < l .lists → s k ≡ t k) → required l s ≡ required l t
-required-same l s t h =
+pub required-same : (l : Layout) (w : List ℕ) (s t : ℕ → List ℕ) → ((k : ℕ) → k < l .lists → s k ≡ t k) → required l w s ≡ required l w t
+required-same l w s t h =
     ap₂ _++_ (joined-same (λ k. asked l k (s k)) (λ k. asked l k (t k)) (l .lists) (λ k q. ap (asked l k) (h k q)))
-    (ap (λ (ms : List ℕ). map (λ c. write (identAt l c) 0) (outOf ms (firstNode l) (l .nodes))) (joined-same s t (l .lists) h))
+    (ap (λ (ms : List ℕ). map (λ c. write (identAt l c) 0) (outOf (viewOf l w .ident) ms (firstNode l) (l .nodes))) (joined-same s t (l .lists) h))
 
 pub plan-same : (l : Layout) (w : List ℕ) (s t : ℕ → List ℕ) → ((k : ℕ) → k < l .lists → s k ≡ t k) → recoverStores l w s ≡ recoverStores l w t
-plan-same l w s t h = ap (wrong w) (required-same l s t h)
+plan-same l w s t h = ap (wrong w) (required-same l w s t h)
 
 -- the plan of an accepted store
 accepted-stores : (l : Layout) (w : List ℕ) (s : ℕ → List ℕ) → Accepted l w s → recoverOf l w ≡ stores (recoverStores l w s)
@@ -81,25 +85,32 @@ pub accepted-plan : (l : Layout) (w : List ℕ) (s : ℕ → List ℕ) → opene
 unfolding recoverPlan
 accepted-plan l w s o a = rw o (accepted-stores l w s a)
 
--- nothing is to be cleared where every node in no sequence has identifier 0
-pub clear-none : (l : Layout) (w : List ℕ) (s : ℕ → List ℕ) → ((c : ℕ) → Node l c → (c ∈ joined s (l .lists) → ⊥) → getD w (identAt l c) 0 ≡ 0)
-    → Agrees w (clearsAsked l s)
+-- nothing is to be cleared where every node in no sequence is free or worn
+pub clear-none : (l : Layout) (w : List ℕ) (s : ℕ → List ℕ) → ((c : ℕ) → Node l c → (c ∈ joined s (l .lists) → ⊥) → Unlisted (getD w (identAt l c) 0))
+    → Agrees w (clearsAsked l w s)
 clear-none l w s h =
-    in-all (Right w) (clearsAsked l s) (λ p m. let c = in-clears l s m in subst (Right w) (c .3) (h (c .0) (c .1) (c .2)))
+    in-all (Right w) (clearsAsked l w s)
+    (λ p m. let c = in-clears l w s m in subst (Right w) (c .4) (unworn (c .0) (c .3) (h (c .0) (c .1) (c .2))))
+  where
+    unworn : (c : ℕ) → (getD w (identAt l c) 0 ≡ wornIdent → ⊥) → Unlisted (getD w (identAt l c) 0) → getD w (identAt l c) 0 ≡ 0
+    unworn c n (free z) = z
+    unworn c n (worn z) = absurd (n z)
 
 -- a sound store holds all that its sequences require
-pub sound-agrees : (l : Layout) (w : List ℕ) (x : SoundLists l w) → Agrees w (required l (x .sequence))
+pub sound-agrees : (l : Layout) (w : List ℕ) (x : SoundLists l w) → Agrees w (required l w (x .sequence))
 sound-agrees l w x =
-    all-append (Right w) (listsAsked l (x .sequence)) (clearsAsked l (x .sequence))
+    all-append (Right w) (listsAsked l (x .sequence)) (clearsAsked l w (x .sequence))
     (in-all (Right w) (listsAsked l (x .sequence))
-    (λ p m. let k = in-lists l (x .sequence) m in all-in (Right w) (asked l (k .0) (x .sequence (k .0))) (x .lists (k .0) (k .1) .agrees) (k .2)))
+    (λ p m. let k = in-lists l w (x .sequence) m in all-in (Right w) (asked l (k .0) (x .sequence (k .0))) (x .lists (k .0) (k .1) .agrees) (k .2)))
     (clear-none l w (x .sequence)
     (λ c n o. x .outside c n (λ k h m. o (one-joined (x .sequence) (l .lists) k c h m))))
 
--- and a store that does so is sound
-agrees-sound : (l : Layout) (w y : List ℕ) (s : ℕ → List ℕ) → Accepted l w s → Agrees y (required l s) → (x : SoundLists l y) × (x .sequence ≡ s)
-agrees-sound l w y s a h =
-    let r = append-all (Right y) (listsAsked l s) (clearsAsked l s) h in (
+-- and a store that holds them, in which the same nodes are worn, is sound
+agrees-sound : (l : Layout) (w y : List ℕ) (s : ℕ → List ℕ) → Accepted l w s → Agrees y (required l w s)
+    → ((c : ℕ) → Node l c → (c ∈ joined s (l .lists) → ⊥) → isWorn (getD y (identAt l c) 0) ≡ isWorn (getD w (identAt l c) 0))
+    → (x : SoundLists l y) × (x .sequence ≡ s)
+agrees-sound l w y s a h same =
+    let r = append-all (Right y) (listsAsked l s) (clearsAsked l w s) h in (
       record {
         sequence = s;
         lists =
@@ -111,22 +122,26 @@ agrees-sound l w y s a h =
                   in-all (Right y) (asked l k (s k))
                   (λ p m. all-in (Right y) (listsAsked l s) (r .0) (one-joined (λ j. asked l j (s j)) (l .lists) k p q m));
             };
-        outside =
-            λ c n o.
-            all-in (Right y) (clearsAsked l s) (r .1)
-            (Memᴰ·map (λ c. write (identAt l c) 0)
-            (is-out (joined s (l .lists)) (firstNode l) (l .nodes) c (n .low) (n .high)
-            (λ m. let k = joined-one s (l .lists) c m in o (k .0) (k .1) (k .2))));
+        outside = λ c n o. by (r .1) c n (λ m. let k = joined-one s (l .lists) c m in o (k .0) (k .1) (k .2)) (ℕ-discrete (getD w (identAt l c) 0) wornIdent);
       },
       refl,
     )
+  where
+    by : Agrees y (clearsAsked l w s) → (c : ℕ) → Node l c → (c ∈ joined s (l .lists) → ⊥) → Dec (getD w (identAt l c) 0 ≡ wornIdent)
+        → Unlisted (getD y (identAt l c) 0)
+    by q c n o (yes z) = worn (eqb-true _ wornIdent (same c n o ∙ eq-eqb _ wornIdent z))
+    by q c n o (no z) =
+        free (all-in (Right y) (clearsAsked l w s) q
+        (Memᴰ·map (λ c. write (identAt l c) 0)
+        (is-out (viewOf l w .ident) (joined s (l .lists)) (firstNode l) (l .nodes) c (n .low) (n .high) o z)))
 
 -- so a whole run leaves an accepted store sound
 pub whole-sound : (l : Layout) (w : List ℕ) (s : ℕ → List ℕ) → length w ≡ sizeOf l → Accepted l w s
     → (x : SoundLists l (run (recoverStores l w s) w)) × (x .sequence ≡ s)
 whole-sound l w s e a =
     agrees-sound l w (run (recoverStores l w s) w) s a
-    (wrong-agreed (required l s) (required-once l w s (a .fits)) w (required-inside l w s (a .fits) e))
+    (wrong-agreed (required l w s) (required-once l w s (a .fits)) w (required-inside l w s (a .fits) e))
+    (worn-kept l w s a (run (recoverStores l w s) w) (run-word (recoverStores l w s) w))
 
 -- where every list has all its words, each has only one sequence that fits
 pub lists-accepted : (l : Layout) (w : List ℕ) (s : ℕ → List ℕ) → ((k : ℕ) → k < l .lists → IsList l w k (s k)) → Accepted l w s
@@ -146,7 +161,7 @@ pub sound-accepted : (l : Layout) (w : List ℕ) (x : SoundLists l w) → Accept
 sound-accepted l w x = lists-accepted l w (x .sequence) (x .lists)
 
 pub sound-settled : (l : Layout) (w : List ℕ) (x : SoundLists l w) → recoverStores l w (x .sequence) ≡ []
-sound-settled l w x = agrees-wrong w (required l (x .sequence)) (sound-agrees l w x)
+sound-settled l w x = agrees-wrong w (required l w (x .sequence)) (sound-agrees l w x)
 
 -- "so recovery makes at most L + N stores"
 module _ (l : Layout) (w : List ℕ) (s : ℕ → List ℕ) (a : Accepted l w s) where
@@ -165,15 +180,15 @@ module _ (l : Layout) (w : List ℕ) (s : ℕ → List ℕ) (a : Accepted l w s)
   few-stores =
       omega (
         arith,
-        wrong-length w (listsAsked l s) (clearsAsked l s),
+        wrong-length w (listsAsked l s) (clearsAsked l w s),
         lists-few (l .lists) (omega arith),
-        wrong-most w (clearsAsked l s),
-        length-map (nodesOut l s) (λ c. write (identAt l c) 0),
-        out-few (joined s (l .lists)) (firstNode l) (l .nodes),
+        wrong-most w (clearsAsked l w s),
+        length-map (nodesOut l w s) (λ c. write (identAt l c) 0),
+        out-few (viewOf l w .ident) (joined s (l .lists)) (firstNode l) (l .nodes),
       )
 
   -- every store of the plan goes to a word of the store
   pub stores-inside : length w ≡ sizeOf l → All (λ (p : Write). p .at < length w) (recoverStores l w s)
   stores-inside e =
       in-all (λ (p : Write). p .at < length w) (recoverStores l w s)
-      (λ p m. all-in (λ (q : Write). q .at < length w) (required l s) (required-inside l w s (a .fits) e) (wrong-in w (required l s) m .0))
+      (λ p m. all-in (λ (q : Write). q .at < length w) (required l w s) (required-inside l w s (a .fits) e) (wrong-in w (required l w s) m .0))

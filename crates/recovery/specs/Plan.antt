@@ -2,14 +2,15 @@
 use Prim.Native.Nat.{ℕ, zero, suc, _+_, _<_, _≤_}
 use mathlib.Core.Path.{_≡_}
 use mathlib.Core.List.{List, [], _∷_, _++_, map, List·Memᴰ}
-use mathlib.Core.Bool.{Bool, false, not, _||_, cond}
+use mathlib.Core.Bool.{Bool, false, not, _&&_, _||_, cond}
 use lib.Dec.{eqb}
 use lib.ListN.{getD}
 use Rattle.sequences.specs.Sequence.{_∈_, range, filter}
 use Rattle.stores.specs.Stores.{Write, write, Plan, refuse, stores}
 use Rattle.layout.specs.declared.Layout.{Layout}
-use Rattle.layout.specs.Words.{firstNode, identAt, opened, afterOpen, ask}
+use Rattle.layout.specs.Words.{firstNode, identAt, Unlisted, isWorn, opened, afterOpen, ask}
 use Rattle.lists.specs.Lists.{asked}
+use Rattle.lists.specs.Decide.{viewOf}
 use Rattle.recovery.specs.Fits.{wrong, Fit, none, only, several, fitOf, Fits}
 
 -- the sequences below n, one behind the other
@@ -21,29 +22,30 @@ unfoldable pub isIn : ℕ → List ℕ → Bool
 isIn x [] = false
 isIn x (y ∷ s) = eqb x y || isIn x s
 
--- of the n cells from a on, those that are no members
-abbrev pub outOf : List ℕ → ℕ → ℕ → List ℕ
-outOf members a n = filter (λ c. not (isIn c members)) (range a n)
+-- of the n cells from a on, those that are no members and not worn: "Identifier 65,535 on a node in no list marks it worn", so a member
+-- that carries it is a member
+abbrev pub outOf : (ℕ → ℕ) → List ℕ → ℕ → ℕ → List ℕ
+outOf ident members a n = filter (λ c. not (isIn c members) && not (isWorn (ident c))) (range a n)
 
--- the nodes in no sequence, lowest cell first
-abbrev pub nodesOut : Layout → (ℕ → List ℕ) → List ℕ
-nodesOut l s = outOf (joined s (l .lists)) (firstNode l) (l .nodes)
+-- the nodes in no sequence that are not worn, lowest cell first
+abbrev pub nodesOut : Layout → List ℕ → (ℕ → List ℕ) → List ℕ
+nodesOut l w s = outOf (viewOf l w .ident) (joined s (l .lists)) (firstNode l) (l .nodes)
 
--- What recovery requires of the words with these sequences, as the stores that would make it so: no word is required twice.
+-- What recovery requires of the words w with these sequences, as the stores that would make it so: no word is required twice.
 -- "recovery stores the differing words, list 0 first,
 abbrev pub listsAsked : Layout → (ℕ → List ℕ) → List Write
 listsAsked l s = joined (λ k. asked l k (s k)) (l .lists)
 
--- then writes 0 to every nonzero identifier of a node in no fitting sequence, lowest cell first."
-abbrev pub clearsAsked : Layout → (ℕ → List ℕ) → List Write
-clearsAsked l s = map (λ c. write (identAt l c) 0) (nodesOut l s)
+-- then writes 0 to every nonzero identifier of a node in no fitting sequence, lowest cell first." A worn node is let be.
+abbrev pub clearsAsked : Layout → List ℕ → (ℕ → List ℕ) → List Write
+clearsAsked l w s = map (λ c. write (identAt l c) 0) (nodesOut l w s)
 
-abbrev pub required : Layout → (ℕ → List ℕ) → List Write
-required l s = listsAsked l s ++ clearsAsked l s
+abbrev pub required : Layout → List ℕ → (ℕ → List ℕ) → List Write
+required l w s = listsAsked l s ++ clearsAsked l w s
 
 -- "Words already right aren't stored"
 abbrev pub recoverStores : Layout → List ℕ → (ℕ → List ℕ) → List Write
-recoverStores l w s = wrong w (required l s)
+recoverStores l w s = wrong w (required l w s)
 
 -- "If for every list exactly one sequence fits": that sequence
 abbrev pub onlyOf : Fit → List ℕ
@@ -84,7 +86,7 @@ differing [] x = 0
 differing (a ∷ w) [] = 0
 differing (a ∷ w) (b ∷ x) = cond (eqb a b) 0 1 + differing w x
 
--- where a store of the plan goes: to a wrong word of a list, or to the identifier of a node in none that is not 0
+-- where a store of the plan goes: to a wrong word of a list, or to the identifier of a node in none that is neither 0 nor worn
 pub data Kind (l : Layout) (w : List ℕ) (s : ℕ → List ℕ) (p : Write) : Type 0 where
   mend : (k : ℕ) → k < l .lists → List·Memᴰ p (wrong w (asked l k (s k))) → Kind l w s p
-  clear : (c : ℕ) → firstNode l ≤ c → (c ∈ joined s (l .lists) → ⊥) → (getD w (identAt l c) 0 ≡ 0 → ⊥) → p ≡ write (identAt l c) 0 → Kind l w s p
+  clear : (c : ℕ) → firstNode l ≤ c → (c ∈ joined s (l .lists) → ⊥) → (Unlisted (getD w (identAt l c) 0) → ⊥) → p ≡ write (identAt l c) 0 → Kind l w s p

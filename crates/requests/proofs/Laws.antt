@@ -16,10 +16,10 @@ use Rattle.lists.proofs.Stepwise.{sound-count, sound-same}
 use Rattle.requests.specs.declared.Free.the-variants.{Cell, Full}
 use Rattle.requests.specs.declared.Site.{Site}
 use Rattle.requests.specs.declared.Request.{Request}
-use Rattle.requests.specs.declared.Request.the-variants.{Check, Whole, Member, Gap, Gaps}
+use Rattle.requests.specs.declared.Request.the-variants.{Check, Whole, Member, Gap, Gaps, Mark}
 use Rattle.requests.specs.declared.Sited.the-variants.{At, Refused}
 use Rattle.requests.specs.declared.Looked.the-variants as K
-use Rattle.requests.specs.Requests.{nextCell, around, firstFree, memberAt, askGap, askGaps, gapAt, gapsAt, siteIn, listOf, siteOf, lookOf}
+use Rattle.requests.specs.Requests.{nextCell, around, firstFree, memberAt, askGap, askGaps, gapAt, gapsAt, markAt, siteIn, listOf, siteOf, lookOf}
 
 -- the node after a node: the first after the last, else the next
 module _ (l : Layout) (c : ℕ) where
@@ -93,7 +93,7 @@ module _ (l : Layout) (n p c m : ℕ) {r : ℕ} (e : r ≡ askGaps l n p c m (λ
       three-number (leb p n) (isNode l c) (ltb 0 m && eqb (m % l .width) 0) refuse rest ∙ ap (λ (x : ℕ). ask (eqb x 0) (refuse x) rest) (sym e)
 
 module _ (l : Layout) (v : View) (count : ℕ → ℕ) where
-  -- question 5 of a request that names a list beyond the last; a check names none
+  -- question 5 of a request that names a list beyond the last; a check and a mark name none
   pub site-unlisted : (q : Request) → InRange l → l .lists ≤ listOf q → Refused 5 ≡ siteIn l v count q
   unfolding siteIn
   site-unlisted Check r h = absurd (omega arith)
@@ -101,6 +101,7 @@ module _ (l : Layout) (v : View) (count : ℕ → ℕ) where
   site-unlisted (Member k p) r h = rw (le-ltb k (l .lists) h)
   site-unlisted (Gap k p c m) r h = rw (le-ltb k (l .lists) h)
   site-unlisted (Gaps k p c m) r h = rw (le-ltb k (l .lists) h)
+  site-unlisted (Mark c) r h = absurd (omega arith)
 
   -- question 6
   pub site-unsound : (q : Request) → listOf q < l .lists → soundIn l v count ≡ false → Refused 6 ≡ siteIn l v count q
@@ -110,6 +111,7 @@ module _ (l : Layout) (v : View) (count : ℕ → ℕ) where
   site-unsound (Member k p) h e = rw (lt-ltb k (l .lists) h, e)
   site-unsound (Gap k p c m) h e = rw (lt-ltb k (l .lists) h, e)
   site-unsound (Gaps k p c m) h e = rw (lt-ltb k (l .lists) h, e)
+  site-unsound (Mark c) h e = rw e
 
   -- and what follows them
   module _ (q : Request) (h : listOf q < l .lists) (e : soundIn l v count ≡ true) where
@@ -133,6 +135,10 @@ module _ (l : Layout) (v : View) (count : ℕ → ℕ) where
     unfolding siteIn
     site-gaps {k} z = rw (z, lt-ltb k (l .lists) (rw z at h), e)
 
+    pub site-mark : {c : ℕ} → q ≡ Mark c → markAt l (v .ident) c ≡ siteIn l v count q
+    unfolding siteIn
+    site-mark z = rw (z, e)
+
   -- of the counts only soundness asks, and only of the lists'
   pub site-same : (other : ℕ → ℕ) (q : Request) → ((k : ℕ) → k < l .lists → count k ≡ other k) → siteIn l v count q ≡ siteIn l v other q
   unfolding siteIn
@@ -141,6 +147,7 @@ module _ (l : Layout) (v : View) (count : ℕ → ℕ) where
   site-same other (Member k p) h = rw (sound-same l v count other h)
   site-same other (Gap k p c m) h = rw (sound-same l v count other h)
   site-same other (Gaps k p c m) h = rw (sound-same l v count other h)
+  site-same other (Mark c) h = rw (sound-same l v count other h)
 
 -- an opened store is laid out
 pub opened-laid : (w : List ℕ) (l : Layout) → opened w ≡ O.Open l → Laid l w

@@ -1,18 +1,19 @@
--- Questions 5 to 10: what a call asks for, and the site in the lists that it gets.
+-- Questions 5 to 10 and 13: what a call asks for, and the site in the lists that it gets.
 use Prim.Native.Nat.{ℕ, zero, suc, _+_, _/_, _%_}
+use mathlib.Core.Path.{_≡_}
 use mathlib.Core.List.{List, [], _∷_, _++_}
 use mathlib.Core.Bool.{cond, _&&_}
 use lib.Dec.{eqb, leb, ltb}
 use lib.ListN.{length, getD}
 use Rattle.sequences.specs.Sequence.{filter}
 use Rattle.layout.specs.declared.Layout.{Layout}
-use Rattle.layout.specs.Words.{ask, firstNode, cellCount, isNode, isFree, opened, afterOpen}
+use Rattle.layout.specs.Words.{ask, firstNode, cellCount, isNode, wornIdent, isFree, opened, afterOpen}
 use Rattle.lists.specs.Decide.{View, viewOf, countIn, sequenceIn, soundIn}
 use Rattle.requests.specs.declared.Free.{Free}
 use Rattle.requests.specs.declared.Free.the-variants.{Cell, Full}
 use Rattle.requests.specs.declared.Site.{Site}
 use Rattle.requests.specs.declared.Request.{Request}
-use Rattle.requests.specs.declared.Request.the-variants.{Check, Whole, Member, Gap, Gaps}
+use Rattle.requests.specs.declared.Request.the-variants.{Check, Whole, Member, Gap, Gaps, Mark}
 use Rattle.requests.specs.declared.Sited.{Sited}
 use Rattle.requests.specs.declared.Sited.the-variants.{At, Refused}
 use Rattle.requests.specs.declared.Looked.{Looked}
@@ -77,6 +78,13 @@ gapsAt l ident k p c m s =
     (ask (leb (m / l .width) (length (freeCells ident (around l c (l .nodes))))) (Refused 10)
     (freeGap l ident k p c s))
 
+-- of the cell c to mark: question 8, and "13, the node to mark isn't free, asked after 6 and 8, where 8 is asked of the cell to mark"
+abbrev pub markAt : Layout → (ℕ → ℕ) → ℕ → Sited
+markAt l ident c =
+    ask (isNode l c) (Refused 8)
+    (ask (isFree (ident c)) (Refused 13)
+    (At (record { before = 0; cell = c; after = 0; count = 0 })))
+
 -- questions 5 and 6, before those of the sequence of list k
 abbrev pub ofList : Layout → View → (ℕ → ℕ) → ℕ → (List ℕ → Sited) → Sited
 ofList l v count k rest =
@@ -91,14 +99,16 @@ siteIn l v count (Whole k) = ofList l v count k (λ s. At (record { before = k; 
 siteIn l v count (Member k p) = ofList l v count k (memberAt k p)
 siteIn l v count (Gap k p c m) = ofList l v count k (gapAt l (v .ident) k p c m)
 siteIn l v count (Gaps k p c m) = ofList l v count k (gapsAt l (v .ident) k p c m)
+siteIn l v count (Mark c) = ask (soundIn l v count) (Refused 6) (markAt l (v .ident) c)
 
--- the list that a request names; a check asks nothing of list 0 that every store does not answer
+-- the list that a request names; a check and a mark ask nothing of list 0 that every store does not answer
 abbrev pub listOf : Request → ℕ
 listOf Check = 0
 listOf (Whole k) = k
 listOf (Member k p) = k
 listOf (Gap k p c m) = k
 listOf (Gaps k p c m) = k
+listOf (Mark c) = 0
 
 -- the same of the words of a store
 abbrev pub siteOf : Layout → List ℕ → Request → Sited
@@ -116,3 +126,17 @@ lookOf w q = afterOpen (opened w) K.Refused (λ l. withSite (siteOf l w q) K.Ref
 abbrev pub withLook {ℓ} : {A : Type ℓ} → Looked → (ℕ → A) → (Layout → Site → A) → A
 withLook (K.Refused n) refuse rest = refuse n
 withLook (K.At l t) refuse rest = rest l t
+
+-- "the search for a free cell passes over [worn nodes]; every caller of that search must say so": what is found, and where a call works, is
+-- no worn node
+abbrev pub foundUnworn : (ℕ → ℕ) → Free → Type 0
+foundUnworn ident Full = Unit {0}
+foundUnworn ident (Cell c) = ident c ≡ wornIdent → ⊥
+
+abbrev pub sitedUnworn : (ℕ → ℕ) → Sited → Type 0
+sitedUnworn ident (Refused n) = Unit {0}
+sitedUnworn ident (At t) = ident (t .cell) ≡ wornIdent → ⊥
+
+abbrev pub lookedUnworn : List ℕ → Looked → Type 0
+lookedUnworn w (K.Refused n) = Unit {0}
+lookedUnworn w (K.At l t) = viewOf l w .ident (t .cell) ≡ wornIdent → ⊥

@@ -1,4 +1,4 @@
-// Questions 5 to 10. A request says what a call asks of the lists, and the site is what it gets: a cell with the cells before
+// Questions 5 to 10 and 13. A request says what a call asks of the lists, and the site is what it gets: a cell with the cells before
 // and after it, and the list's length. All is decided before the first store. Crate word_requests finds the site in lent words, crate
 // byte_requests in lent bytes.
 use layout::Layout;
@@ -19,6 +19,8 @@ pub enum Request {
     Gap(u16, u16, u16, usize),
     // The same with free cells for several records, of so many words in all.
     Gaps(u16, u16, u16, usize),
+    // A free node, to be marked.
+    Mark(u16),
 }
 
 // Where a call works.
@@ -56,7 +58,7 @@ pub fn next_cell(l: Layout, c: u16) -> u16
     c + 1
 }
 
-// The list that a request names; a check names none, and asks nothing of list 0 that every store does not answer.
+// The list that a request names; a check and a mark name none, and ask nothing of list 0 that every store does not answer.
 pub fn list_of(q: Request) -> u16
     ensures { λ r. ⌜ r ≡ listOf q ⌝ }
 {
@@ -66,6 +68,7 @@ pub fn list_of(q: Request) -> u16
         Request::Member(k, _) => k,
         Request::Gap(k, _, _, _) => k,
         Request::Gaps(k, _, _, _) => k,
+        Request::Mark(_) => 0,
     }
 }
 

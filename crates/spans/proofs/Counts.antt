@@ -13,7 +13,7 @@ use Rattle.layout.specs.declared.Layout.{Layout}
 use Rattle.layout.specs.Words.{firstNode, isFree, inUse}
 use Rattle.lists.specs.Decide.{View, sequenceIn, holds, allHold, members, cellsWith, used, soundIn}
 use Rattle.lists.proofs.Agree.{holds-true}
-use Rattle.lists.proofs.Decided.{cells-few}
+use Rattle.lists.proofs.Nodes.{cells-few}
 use Rattle.lists.proofs.Stepwise.{all-hold-more, sound-by, sound-hold}
 use Rattle.spans.specs.declared.Tally.{Tally}
 use Rattle.spans.specs.Spans.{tallyOf, tallied, Held, countSum, Decides}

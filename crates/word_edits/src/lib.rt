@@ -7,6 +7,7 @@ ghost use Prim.Native.Nat.{_*_, _/_, _<_};
 ghost use lib.ListN.{length};
 ghost use Rattle.stores.specs.Stores.{stores, applied, answerOf};
 ghost use Rattle.layout.specs.Words.{tailWords, sizeOf};
+ghost use Rattle.lists.specs.Lists.{KeepsWorn};
 ghost use Rattle.edits.specs.Edits.{insertWrites, chainFrom, deleteWrites, Placed, Room};
 
 // Makes the stores of an insert, the record and then the links, up to the allowance.
@@ -35,7 +36,8 @@ pub fn insert_at(
     Answer::Done(n + m)
 }
 
-// Makes the stores of several inserts, one record after another from the first site on, up to the allowance.
+// Makes the stores of several inserts, one record after another from the first site on, up to the allowance. Worn nodes
+// are passed over.
 pub fn insert_all(
     words: &mut [u16],
     l: Layout,
@@ -47,6 +49,7 @@ pub fn insert_all(
     requires { ⌜ Room l (now words) list first (length (now records) / l .width) × (0 < length (now records)) × (length (now records) ≡ length (now records) / l .width * l .width) ⌝ }
     ensures answer { λ r. ⌜ r ≡ answerOf (stores (chainFrom l (now (words .entry)) list first (length (now (records .entry)) / l .width) (now (records .entry)))) allowance ⌝ }
     ensures words { λ _. ⌜ now (words .exit) ≡ applied (chainFrom l (now (words .entry)) list first (length (now (records .entry)) / l .width) (now (records .entry))) allowance (now (words .entry)) ⌝ }
+    ensures worn { λ _. ⌜ KeepsWorn l (now (words .entry)) (now (words .exit)) ⌝ }
 {
     let width = l.width as usize;
     let mut t = first;

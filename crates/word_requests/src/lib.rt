@@ -1,4 +1,4 @@
-// Questions 1 to 10, put to the lent words. A position is found by links, from the nearer end of its list; a free cell by a search of
+// Questions 1 to 10 and 13, put to the lent words. A position is found by links, from the nearer end of its list; a free cell by a search of
 // the identifiers. Nothing is copied.
 use layout::Layout;
 use layout::Opened;
@@ -10,10 +10,10 @@ use requests::Sited;
 use spans::Grid;
 ghost use mathlib.Core.Path.{_≡_};
 ghost use Prim.Native.Nat.{_≤_};
-ghost use Rattle.layout.specs.Words.{Laid, Node};
+ghost use Rattle.layout.specs.Words.{Laid, Node, wornIdent};
 ghost use Rattle.lists.specs.Decide.{viewOf, sequenceOf, HeldList};
 ghost use Rattle.spans.specs.Spans.{Gridded};
-ghost use Rattle.requests.specs.Requests.{around, firstFree, memberAt, freeGap, gapAt, gapsAt, siteOf, lookOf};
+ghost use Rattle.requests.specs.Requests.{around, firstFree, memberAt, freeGap, gapAt, gapsAt, markAt, siteOf, lookOf, foundUnworn, sitedUnworn, lookedUnworn};
 ghost use Rattle.requests.specs.Sites.{gapSite, nextSite};
 
 // The member of list k, which has n members, at position p.
@@ -34,10 +34,11 @@ fn member(words: &[u16], l: Layout, g: Grid, k: u16, n: u16, p: u16) -> Sited
     })
 }
 
-// The first free one of n nodes: from the starting cell on, and on from the first node after the last.
+// The first free one of n nodes: from the starting cell on, and on from the first node after the last. Worn nodes are passed over.
 fn free_cell(words: &[u16], l: Layout, g: Grid, start: u16, n: u16) -> Free
     requires { ⌜ Gridded l g × Laid l (now words) × Node l start ⌝ }
-    ensures { λ r. ⌜ r ≡ firstFree (viewOf l (now (words .entry)) .ident) (around l start n) ⌝ }
+    ensures found { λ r. ⌜ r ≡ firstFree (viewOf l (now (words .entry)) .ident) (around l start n) ⌝ }
+    ensures worn { λ r. ⌜ foundUnworn (viewOf l (now (words .entry)) .ident) r ⌝ }
 {
     let mut c = start;
     let mut rest = n;
@@ -69,7 +70,8 @@ fn gap_site(words: &[u16], l: Layout, g: Grid, k: u16, n: u16, p: u16, cell: u16
 // Question 10: the gap of list k, which has n members, at position p, and a free cell.
 fn free_gap(words: &[u16], l: Layout, g: Grid, k: u16, n: u16, p: u16, start: u16) -> Sited
     requires { ⌜ Gridded l g × Laid l (now words) × HeldList l (viewOf l (now words)) k n × (p ≤ n) × Node l start ⌝ }
-    ensures { λ r. ⌜ r ≡ freeGap l (viewOf l (now (words .entry)) .ident) k p start (sequenceOf l (now (words .entry)) k) ⌝ }
+    ensures site { λ r. ⌜ r ≡ freeGap l (viewOf l (now (words .entry)) .ident) k p start (sequenceOf l (now (words .entry)) k) ⌝ }
+    ensures worn { λ r. ⌜ sitedUnworn (viewOf l (now (words .entry)) .ident) r ⌝ }
 {
     match free_cell(words, l, g, start, l.nodes) {
         Free::Full => Sited::Refused(10),
@@ -80,7 +82,8 @@ fn free_gap(words: &[u16], l: Layout, g: Grid, k: u16, n: u16, p: u16, start: u1
 // The gap of list k, which has n members, at position p, and a free cell for a record of so many words.
 fn gap(words: &[u16], l: Layout, g: Grid, k: u16, n: u16, p: u16, start: u16, size: usize) -> Sited
     requires { ⌜ Gridded l g × Laid l (now words) × HeldList l (viewOf l (now words)) k n ⌝ }
-    ensures { λ r. ⌜ r ≡ gapAt l (viewOf l (now (words .entry)) .ident) k p start size (sequenceOf l (now (words .entry)) k) ⌝ }
+    ensures site { λ r. ⌜ r ≡ gapAt l (viewOf l (now (words .entry)) .ident) k p start size (sequenceOf l (now (words .entry)) k) ⌝ }
+    ensures worn { λ r. ⌜ sitedUnworn (viewOf l (now (words .entry)) .ident) r ⌝ }
 {
     let refusal = requests::gap_number(l, n, p, start, size);
     if refusal != 0 {
@@ -92,7 +95,8 @@ fn gap(words: &[u16], l: Layout, g: Grid, k: u16, n: u16, p: u16, start: u16, si
 // The same for several records, of so many words in all: question 10 is then of the number of free nodes.
 fn gaps(words: &[u16], l: Layout, g: Grid, k: u16, n: u16, p: u16, start: u16, size: usize) -> Sited
     requires { ⌜ Gridded l g × Laid l (now words) × HeldList l (viewOf l (now words)) k n ⌝ }
-    ensures { λ r. ⌜ r ≡ gapsAt l (viewOf l (now (words .entry)) .ident) k p start size (sequenceOf l (now (words .entry)) k) ⌝ }
+    ensures site { λ r. ⌜ r ≡ gapsAt l (viewOf l (now (words .entry)) .ident) k p start size (sequenceOf l (now (words .entry)) k) ⌝ }
+    ensures worn { λ r. ⌜ sitedUnworn (viewOf l (now (words .entry)) .ident) r ⌝ }
 {
     let refusal = requests::gaps_number(l, n, p, start, size);
     if refusal != 0 {
@@ -110,7 +114,8 @@ fn gaps(words: &[u16], l: Layout, g: Grid, k: u16, n: u16, p: u16, start: u16, s
 // searches together are one turn.
 pub fn next_site(words: &[u16], l: Layout, t: Site) -> Site
     requires { ⌜ Laid l (now words) × Node l (t .cell) × (t .count ≤ l .nodes) ⌝ }
-    ensures { λ r. ⌜ r ≡ nextSite l (viewOf l (now (words .entry)) .ident) t ⌝ }
+    ensures site { λ r. ⌜ r ≡ nextSite l (viewOf l (now (words .entry)) .ident) t ⌝ }
+    ensures worn { λ r. ⌜ ((viewOf l (now (words .entry)) .ident (t .cell) ≡ wornIdent → ⊥) → viewOf l (now (words .entry)) .ident (r .cell) ≡ wornIdent → ⊥) ⌝ }
 {
     let g = Grid::of(l);
     let from = requests::next_cell(l, t.cell);
@@ -125,10 +130,30 @@ pub fn next_site(words: &[u16], l: Layout, t: Site) -> Site
     }
 }
 
+// The node to mark: is it one, and free?
+fn mark(words: &[u16], l: Layout, g: Grid, cell: u16) -> Sited
+    requires { ⌜ Gridded l g × Laid l (now words) ⌝ }
+    ensures { λ r. ⌜ r ≡ markAt l (viewOf l (now (words .entry)) .ident) cell ⌝ }
+{
+    if !l.is_node(cell) {
+        return Sited::Refused(8);
+    }
+    if !Layout::is_free(word_walks::node(words, l, g, cell as usize).ident) {
+        return Sited::Refused(13);
+    }
+    Sited::At(Site {
+        before: 0,
+        cell,
+        after: 0,
+        count: 0,
+    })
+}
+
 // The site that a request gets.
 fn site_of(words: &[u16], l: Layout, q: Request) -> Sited
     requires { ⌜ Laid l (now words) ⌝ }
-    ensures { λ r. ⌜ r ≡ siteOf l (now (words .entry)) q ⌝ }
+    ensures site { λ r. ⌜ r ≡ siteOf l (now (words .entry)) q ⌝ }
+    ensures worn { λ r. ⌜ sitedUnworn (viewOf l (now (words .entry)) .ident) r ⌝ }
 {
     let k = requests::list_of(q);
     if l.lists <= k {
@@ -155,12 +180,14 @@ fn site_of(words: &[u16], l: Layout, q: Request) -> Sited
         Request::Member(k, p) => member(words, l, g, k, n, p),
         Request::Gap(k, p, start, size) => gap(words, l, g, k, n, p, start, size),
         Request::Gaps(k, p, start, size) => gaps(words, l, g, k, n, p, start, size),
+        Request::Mark(cell) => mark(words, l, g, cell),
     }
 }
 
 // All questions of a call.
 pub fn look(words: &[u16], q: Request) -> Looked
-    ensures { λ r. ⌜ r ≡ lookOf (now (words .entry)) q ⌝ }
+    ensures outcome { λ r. ⌜ r ≡ lookOf (now (words .entry)) q ⌝ }
+    ensures worn { λ r. ⌜ lookedUnworn (now (words .entry)) r ⌝ }
 {
     match layout::open(words) {
         Opened::Refused(n) => Looked::Refused(n),

@@ -31,13 +31,13 @@ returns-2 : tie.Need-returns-2
 unfolding checkCode
 returns-2 c =
     rw (eq-eqb (length (c .before .before .before .before .before .before .args .store .now) % 2) 0 (c .before .before .before .before .if1 .left))
-    (ap checkedNumber (check-refused (wordsIn (c .before .before .before .before .before .before .args .store .now)) (sym (c .before .before .before .look .ensures) ∙ c .before .n .given .1)))
+    (ap checkedNumber (check-refused (wordsIn (c .before .before .before .before .before .before .args .store .now)) (sym (c .before .before .before .look .ensures .0) ∙ c .before .n .given .1)))
 
 returns-3 : tie.Need-returns-3
 unfolding checkCode
 returns-3 c =
     rw (eq-eqb (length (c .before .before .before .before .before .args .store .now) % 2) 0 (c .before .before .before .if1 .left))
-    (ap checkedNumber (check-at (wordsIn (c .before .before .before .before .before .args .store .now)) (sym (c .before .before .look .ensures) ∙ c .enum-told .given .1)))
+    (ap checkedNumber (check-at (wordsIn (c .before .before .before .before .before .args .store .now)) (sym (c .before .before .look .ensures .0) ∙ c .enum-told .given .1)))
 
 pub axle-check-spec : {M : Type 1} → statement M
 axle-check-spec =

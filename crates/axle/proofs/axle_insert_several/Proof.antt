@@ -10,7 +10,7 @@ use Rattle.axle.proofs.axle_insert_several.Tie as tie
 
 returns : tie.Need-returns
 unfolding byteSeveral
-returns c = rw (ne-eqb (length (c .before .before .before .args .store .now) % 2) 0 (c .if1 .taken)) (refl, refl)
+returns c = rw (ne-eqb (length (c .before .before .before .args .store .now) % 2) 0 (c .if1 .taken)) (refl, (refl, λ d n z i f m g. refl))
 
 insert-several-requires : tie.Need-insert-several-requires
 insert-several-requires c κs = search needs

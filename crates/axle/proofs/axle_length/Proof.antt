@@ -37,14 +37,14 @@ unfolding lengthCode
 returns-2 c =
     let a = c .before .before .before .before .before .before .args in
     rw (eq-eqb (length (a .store .now) % 2) 0 (c .before .before .before .before .if1 .left))
-    (ap countedCode (length-refused (wordsIn (a .store .now)) (a .list) (sym (c .before .before .before .look .ensures) ∙ c .before .n .given .1)))
+    (ap countedCode (length-refused (wordsIn (a .store .now)) (a .list) (sym (c .before .before .before .look .ensures .0) ∙ c .before .n .given .1)))
 
 returns-3 : tie.Need-returns-3
 unfolding lengthCode
 returns-3 c =
     let a = c .before .before .before .before .before .before .before .args in
     rw (eq-eqb (length (a .store .now) % 2) 0 (c .before .before .before .before .before .if1 .left))
-    (ap countedCode (length-at (wordsIn (a .store .now)) (a .list) (sym (c .before .before .before .before .look .ensures) ∙ c .before .before .t .given .1)))
+    (ap countedCode (length-at (wordsIn (a .store .now)) (a .list) (sym (c .before .before .before .before .look .ensures .0) ∙ c .before .before .t .given .1)))
 
 pub axle-length-spec : {M : Type 1} → statement M
 axle-length-spec =

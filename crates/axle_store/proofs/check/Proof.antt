@@ -17,12 +17,12 @@ enum-told c = search needs
 
 returns : tie.Need-returns
 returns c =
-    let e = check-refused _ (sym (c .before .before .before .look .ensures) ∙ c .before .n .given .1) in
+    let e = check-refused _ (sym (c .before .before .before .look .ensures .0) ∙ c .before .n .given .1) in
     (e, checked-number _ e)
 
 returns-2 : tie.Need-returns-2
 returns-2 c =
-    let e = check-at _ (sym (c .before .before .look .ensures) ∙ c .enum-told .given .1) in
+    let e = check-at _ (sym (c .before .before .look .ensures .0) ∙ c .enum-told .given .1) in
     (e, checked-number _ e)
 
 pub check-spec : {M : Type 1} → statement M

@@ -22,7 +22,7 @@ enum-known-l c = search needs
 -- what the look found
 at : (c : tie.After-delete-at-arg) → let a = c .before .before .before .before .before .before .before .args in
     lookOf (a .words .now) (Member (a .list) (a .position)) ≡ K.At (c .before .before .l .given .0 .0) (c .before .before .l .given .0 .1 .0)
-at c = sym (c .before .before .before .before .look .ensures) ∙ c .before .before .l .given .1
+at c = sym (c .before .before .before .before .look .ensures .0) ∙ c .before .before .l .given .1
 
 delete-at-requires : tie.Need-delete-at-requires
 delete-at-requires c κs =
@@ -36,7 +36,7 @@ returns : tie.Need-returns
 returns c =
     let a = c .before .before .before .before .before .before .args in
     plan-refused (a .allowance) (a .words .now)
-    (delete-refused (a .words .now) (a .list) (a .position) (sym (c .before .before .before .look .ensures) ∙ c .before .n .given .1))
+    (delete-refused (a .words .now) (a .list) (a .position) (sym (c .before .before .before .look .ensures .0) ∙ c .before .n .given .1))
 
 same-length-2 : tie.Need-same-length-2
 same-length-2 c = search needs

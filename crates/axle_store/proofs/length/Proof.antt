@@ -17,12 +17,12 @@ enum-known-t c = search needs
 
 returns : tie.Need-returns
 returns c =
-    let e = length-refused _ _ (sym (c .before .before .before .look .ensures) ∙ c .before .n .given .1) in
+    let e = length-refused _ _ (sym (c .before .before .before .look .ensures .0) ∙ c .before .n .given .1) in
     (e, counted-number _ _ e)
 
 returns-2 : tie.Need-returns-2
 returns-2 c =
-    let e = length-at _ _ (sym (c .before .before .before .look .ensures) ∙ c .before .t .given .1) in
+    let e = length-at _ _ (sym (c .before .before .before .look .ensures .0) ∙ c .before .t .given .1) in
     (e, counted-number _ _ e)
 
 pub length-spec : {M : Type 1} → statement M

@@ -37,7 +37,7 @@ at : (c : tie.After-known-told)
     → lookOf (c .before .before .before .before .before .args .words .now)
     (Member (c .before .before .before .before .before .args .list) (c .before .before .before .before .before .args .position))
     ≡ K.At (c .before .l .given .0 .0) (c .before .l .given .0 .1 .0)
-at c = sym (c .before .before .before .look .ensures) ∙ c .before .l .given .1
+at c = sym (c .before .before .before .look .ensures .0) ∙ c .before .l .given .1
 
 inside : (c : tie.After-known-told)
     → recordAt (c .before .l .given .0 .0) (c .before .l .given .0 .1 .0 .cell) + c .before .l .given .0 .0 .width
@@ -75,7 +75,7 @@ part-result-end-2 c = omega (arith, inside (c .before .before), c .before .node 
 
 returns : tie.Need-returns
 returns c =
-    let r = read-refused _ _ _ (sym (c .before .before .before .look .ensures) ∙ c .before .enum-told .given .1) in
+    let r = read-refused _ _ _ (sym (c .before .before .before .look .ensures .0) ∙ c .before .enum-told .given .1) in
     (r .0, (refl, ap (λ (n : ℕ). n * 2 + c .before .before .before .before .before .args .words .ptr .1) (r .1)))
 
 returns-2 : tie.Need-returns-2

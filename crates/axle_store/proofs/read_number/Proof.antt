@@ -15,10 +15,10 @@ enum-told : tie.Need-enum-told
 enum-told c = search needs
 
 returns : tie.Need-returns
-returns c = number-refused _ _ _ (sym (c .before .before .before .look .ensures) ∙ c .before .n .given .1)
+returns c = number-refused _ _ _ (sym (c .before .before .before .look .ensures .0) ∙ c .before .n .given .1)
 
 returns-2 : tie.Need-returns-2
-returns-2 c = number-at _ _ _ (sym (c .before .before .look .ensures) ∙ c .enum-told .given .1)
+returns-2 c = number-at _ _ _ (sym (c .before .before .look .ensures .0) ∙ c .enum-told .given .1)
 
 pub read-number-spec : {M : Type 1} → statement M
 read-number-spec = tie.close (tie.spec look-requires enum-known-n enum-told returns returns-2)

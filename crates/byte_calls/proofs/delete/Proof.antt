@@ -29,7 +29,7 @@ start c = c .before .before .before .before .before
 
 found : (c : tie.After-t) → let a = start c .args in let w = wordsIn (a .bytes .now) in
     (headWords ≤ length w) × (lookOf w (Member (a .list) (a .position)) ≡ K.At (layoutOf w) (c .t .given .0 .1 .0))
-found c = let a = start c .args in look-again (wordsIn (a .bytes .now)) _ (sym (c .before .before .look .ensures) ∙ c .t .given .1)
+found c = let a = start c .args in look-again (wordsIn (a .bytes .now)) _ (sym (c .before .before .look .ensures .0) ∙ c .t .given .1)
 
 layout-of-requires : tie.Need-layout-of-requires
 layout-of-requires c κs = found (c .before .before .before) .0
@@ -47,7 +47,7 @@ returns : tie.Need-returns
 returns c =
     let a = c .before .before .before .before .before .before .args in
     byte-refused (a .allowance) (a .bytes .now)
-    (delete-refused (wordsIn (a .bytes .now)) (a .list) (a .position) (sym (c .before .before .before .look .ensures) ∙ c .before .n .given .1))
+    (delete-refused (wordsIn (a .bytes .now)) (a .list) (a .position) (sym (c .before .before .before .look .ensures .0) ∙ c .before .n .given .1))
 
 same-length-2 : tie.Need-same-length-2
 same-length-2 c = search needs

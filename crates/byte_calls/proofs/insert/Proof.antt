@@ -12,10 +12,12 @@ use Rattle.requests.specs.declared.Looked.the-variants as K
 use Rattle.requests.specs.declared.Request.the-variants.{Gap}
 use Rattle.requests.specs.Requests.{lookOf}
 use Rattle.edits.specs.Edits.{insertWrites, Placed}
+use Rattle.axle_store.specs.Calls.{insertPlan}
+use Rattle.axle_store.proofs.Worn.{insert-worn}
 use Rattle.axle_store.proofs.Cases.{insert-refused, insert-at}
 use Rattle.axle_store.proofs.Sites.{gap-placed}
 use Rattle.byte_calls.specs.Records.{recordWords}
-use Rattle.byte_calls.proofs.Laws.{byte-refused, byte-run, look-again, record-words}
+use Rattle.byte_calls.proofs.Laws.{byte-refused, byte-run, byte-kept, look-again, record-words}
 use Rattle.byte_calls.proofs.insert.Statement.{statement}
 use Rattle.byte_calls.proofs.insert.Tie as tie
 
@@ -37,7 +39,7 @@ looked : (c : tie.After-look) → let a = c .before .before .before .before .bef
 looked c =
     let a = c .before .before .before .before .before .args in
     ap (λ (n : ℕ). lookOf (wordsIn (a .bytes .now)) (Gap (a .list) (a .position) (a .start) n)) (sym (c .before .before .record-size .ensures))
-    ∙ sym (c .look .ensures)
+    ∙ sym (c .look .ensures .0)
 
 -- the start, by the place where a site is found; what was found, where it lies, and the record's words
 abbrev start : tie.After-t → tie.Start
@@ -74,8 +76,10 @@ returns : tie.Need-returns
 returns c =
     let k = c .before .before .before in
     let a = k .before .before .before .before .before .args in
-    byte-refused (a .allowance) (a .bytes .now)
-    (insert-refused (wordsIn (a .bytes .now)) (a .list) (a .position) (a .start) (recordWords (a .rec .now)) (looked k ∙ c .before .r .given .1))
+    byte-kept (insertPlan (wordsIn (a .bytes .now)) (a .list) (a .position) (a .start) (recordWords (a .rec .now))) (a .allowance) (a .bytes .now) (k .before .before .before .before .before .pre)
+    (insert-worn (wordsIn (a .bytes .now)) (a .list) (a .position) (a .start) (recordWords (a .rec .now)) (a .allowance))
+    (byte-refused (a .allowance) (a .bytes .now)
+    (insert-refused (wordsIn (a .bytes .now)) (a .list) (a .position) (a .start) (recordWords (a .rec .now)) (looked k ∙ c .before .r .given .1)))
 
 same-length-2 : tie.Need-same-length-2
 same-length-2 c = search needs
@@ -87,10 +91,12 @@ returns-2 c =
     let a = start t .args in
     let w = wordsIn (a .bytes .now) in
     let e = rw (r .before .layout-of .ensures) at (r .insert-at .ensures) in
-    byte-run (a .allowance) (a .bytes .now)
+    byte-kept (insertPlan (wordsIn (a .bytes .now)) (a .list) (a .position) (a .start) (recordWords (a .rec .now))) (a .allowance) (a .bytes .now) (start t .pre)
+    (insert-worn (wordsIn (a .bytes .now)) (a .list) (a .position) (a .start) (recordWords (a .rec .now)) (a .allowance))
+    (byte-run (a .allowance) (a .bytes .now)
     (insert-at w (a .list) (a .position) (a .start) (recordWords (a .rec .now)) (found t .1)
     ∙ ap (λ (x : List ℕ). stores (insertWrites (layoutOf w) (a .list) (t .t .given .0 .1 .0) x)) (words t))
-    (e .0) (e .1)
+    (e .0) (e .1))
 
 pub insert-spec : {M : Type 1} → statement M
 insert-spec =

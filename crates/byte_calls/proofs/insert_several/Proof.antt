@@ -12,9 +12,11 @@ use Rattle.requests.specs.declared.Request.the-variants.{Gaps}
 use Rattle.requests.specs.Requests.{lookOf}
 use Rattle.edits.specs.Edits.{chain, chainFrom, Room}
 use Rattle.edits.proofs.Room.{SeveralRoom, several-room}
+use Rattle.axle_store.specs.Calls.{severalPlan}
+use Rattle.axle_store.proofs.Worn.{several-worn}
 use Rattle.axle_store.proofs.Cases.{several-refused, several-at}
 use Rattle.byte_calls.specs.Records.{recordWords}
-use Rattle.byte_calls.proofs.Laws.{byte-refused, byte-run, look-again, record-words, record-pairs}
+use Rattle.byte_calls.proofs.Laws.{byte-refused, byte-run, byte-kept, look-again, record-words, record-pairs}
 use Rattle.byte_calls.proofs.insert_several.Statement.{statement}
 use Rattle.byte_calls.proofs.insert_several.Tie as tie
 
@@ -36,7 +38,7 @@ looked : (c : tie.After-look) → let a = c .before .before .before .before .bef
 looked c =
     let a = c .before .before .before .before .before .args in
     ap (λ (n : ℕ). lookOf (wordsIn (a .bytes .now)) (Gaps (a .list) (a .position) (a .start) n)) (sym (c .before .before .record-size .ensures))
-    ∙ sym (c .look .ensures)
+    ∙ sym (c .look .ensures .0)
 
 -- the start, by the place where a site is found; what was found, the room there, and the records' words
 abbrev start : tie.After-t → tie.Start
@@ -78,8 +80,10 @@ returns : tie.Need-returns
 returns c =
     let k = c .before .before .before in
     let a = k .before .before .before .before .before .args in
-    byte-refused (a .allowance) (a .bytes .now)
-    (several-refused (wordsIn (a .bytes .now)) (a .list) (a .position) (a .start) (recordWords (a .records .now)) (looked k ∙ c .before .r .given .1))
+    byte-kept (severalPlan (wordsIn (a .bytes .now)) (a .list) (a .position) (a .start) (recordWords (a .records .now))) (a .allowance) (a .bytes .now) (k .before .before .before .before .before .pre)
+    (several-worn (wordsIn (a .bytes .now)) (a .list) (a .position) (a .start) (recordWords (a .records .now)) (a .allowance))
+    (byte-refused (a .allowance) (a .bytes .now)
+    (several-refused (wordsIn (a .bytes .now)) (a .list) (a .position) (a .start) (recordWords (a .records .now)) (looked k ∙ c .before .r .given .1)))
 
 same-length-2 : tie.Need-same-length-2
 same-length-2 c = search needs
@@ -94,11 +98,13 @@ returns-2 c =
     let u = t .t .given .0 .1 .0 in
     let n = length (recordWords (a .records .now)) / l .width in
     let e = rw (r .before .layout-of .ensures) at (r .insert-all .ensures) in
-    byte-run (a .allowance) (a .bytes .now)
+    byte-kept (severalPlan (wordsIn (a .bytes .now)) (a .list) (a .position) (a .start) (recordWords (a .records .now))) (a .allowance) (a .bytes .now) (start t .pre)
+    (several-worn (wordsIn (a .bytes .now)) (a .list) (a .position) (a .start) (recordWords (a .records .now)) (a .allowance))
+    (byte-run (a .allowance) (a .bytes .now)
     (several-at w (a .list) (a .position) (a .start) (recordWords (a .records .now)) (found t .1)
     ∙ ap (λ (cs : List ℕ). stores (chain l (a .list) (u .before) (u .after) (u .count) (take n cs) (recordWords (a .records .now)))) (room t .cells)
     ∙ ap (λ (x : List ℕ). stores (chainFrom l w (a .list) u (length x / l .width) x)) (words t))
-    (e .0) (e .1)
+    (e .0) (e .1 .0))
 
 pub insert-several-spec : {M : Type 1} → statement M
 insert-several-spec =

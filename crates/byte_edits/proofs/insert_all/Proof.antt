@@ -12,8 +12,10 @@ use Rattle.stores.specs.Stores.{Write, run, stores, answerOf}
 use Rattle.stores.proofs.Laws.{length-run}
 use Rattle.stores.proofs.Segments.{undone-short, done-whole}
 use Rattle.byte_form.specs.Bytes.{wordsIn, byteWrites, appliedBytes}
-use Rattle.byte_form.proofs.Laws.{length-words, same-words}
+use Rattle.byte_form.proofs.Laws.{length-words, same-words, words-after}
+use Rattle.lists.specs.Lists.{KeepsWorn}
 use Rattle.edits.specs.Edits.{insertWrites, chainFrom}
+use Rattle.edits.proofs.Worn.{room-keeps}
 use Rattle.edits.proofs.Underway.{Underway, underway-start, underway-fits, underway-words, underway-stopped, underway-done, underway-next}
 use Rattle.byte_edits.proofs.Several.{words-take, words-drop, bytes-stopped, bytes-done, bytes-next}
 use Rattle.byte_edits.proofs.insert_all.Statement.{statement}
@@ -122,6 +124,18 @@ tried x =
 kept : (h : At) → length (h .loop .bytes) ≡ length (start h .args .bytes .now)
 kept h = ap length (h .loop .inv .1 .3) ∙ length-run (byteWrites (h .loop .inv .0)) (start h .args .bytes .now)
 
+-- the worn nodes are kept
+worn : (s : tie.Start Inv-loop μ-loop) {b : List ℕ} → let a = s .args in let w = wordsIn (a .bytes .now) in let ws = wordsIn (a .records .now) in
+    b ≡ appliedBytes (chainFrom (a .l) w (a .list) (a .first) (length ws / a .l .width) ws) (a .allowance) (a .bytes .now)
+    → KeepsWorn (a .l) w (wordsIn b)
+worn s e =
+    let a = s .args in
+    let w = wordsIn (a .bytes .now) in
+    let ws = wordsIn (a .records .now) in
+    let ps = chainFrom (a .l) w (a .list) (a .first) (length ws / a .l .width) ws in
+    subst (KeepsWorn (a .l) w) (sym (ap wordsIn e ∙ words-after (stores ps) (a .allowance) (a .bytes .now) (s .pre .4)))
+    (room-keeps (a .l) w (a .list) (a .first) (length ws / a .l .width) (s .pre .0) ws (sym (s .pre .2)) (a .allowance))
+
 enum-known-n : tie.Need-enum-known-n Inv-loop μ-loop
 enum-known-n c = search needs
 
@@ -135,7 +149,8 @@ returns c =
     let s = undone-short (first h) _ (λ n q. ⊎-elim (λ z. absurd (omega arith)) (λ z. absurd (omega arith)) (rw (tried x .0 ∙ q) at (c .match .keys2))) in
     let i = h .loop .inv .1 in
     let a = start h .args in
-    (underway-stopped (i .0) (a .allowance) (i .1) (i .2) s, tried x .1 ∙ bytes-stopped (i .0) (a .allowance) (i .1) (i .2) (a .bytes .now) (i .3) s)
+    let e = tried x .1 ∙ bytes-stopped (i .0) (a .allowance) (i .1) (i .2) (a .bytes .now) (i .3) s in
+    (underway-stopped (i .0) (a .allowance) (i .1) (i .2) s, (e, worn (start h) e))
 
 -- all of its stores are made
 abbrev stored : tie.After-n Inv-loop μ-loop → tie.After-insert-at Inv-loop μ-loop
@@ -158,9 +173,10 @@ returns-2 c =
     let h = at x in
     let i = h .loop .inv .1 in
     let a = start h .args in
-    let z : length (left h) ≡ a .l .width = omega (arith, left-length h, c .if1 .taken) in (
+    let z : length (left h) ≡ a .l .width = omega (arith, left-length h, c .if1 .taken) in
+    let e = tried x .1 ∙ bytes-done (i .0) (a .allowance) (i .1) (i .2) (a .bytes .now) (i .3) z in (
       ap (λ (n : ℕ). A.Done (h .loop .made + n)) (whole n .1) ∙ underway-done (i .0) (a .allowance) (i .1) (i .2) (whole n .0) z,
-      tried x .1 ∙ bytes-done (i .0) (a .allowance) (i .1) (i .2) (a .bytes .now) (i .3) z,
+      (e, worn (start h) e),
     )
 
 next-site-requires : tie.Need-next-site-requires Inv-loop μ-loop
@@ -186,7 +202,7 @@ loop-again c =
       h .loop .inv .0 ++ first h,
       (
         underway-next (i .0) (λ z. c .before .before .if1 .left (omega (arith, z, left-length h, record-in h, i .4, start h .pre .3)))
-            (b .0) (c .next-site .ensures)
+            (b .0) (c .next-site .ensures .0)
             (ap wordsIn (sym (drop-drop (2 * a .l .width) (h .loop .at) (a .records .now))) ∙ words-drop (a .l .width) (drop (h .loop .at) (a .records .now))),
         omega (arith, i .1, whole n, length-append (h .loop .inv .0) (first h)),
         omega (arith, i .2, whole n),

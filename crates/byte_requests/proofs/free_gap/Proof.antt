@@ -7,6 +7,7 @@ use Rattle.byte_form.specs.Bytes.{wordsIn}
 use Rattle.lists.specs.Decide.{viewOf, sequenceOf}
 use Rattle.requests.specs.declared.Sited.the-variants.{At}
 use Rattle.requests.proofs.Sites.{gap-full, gap-free}
+use Rattle.requests.proofs.Worn.{free-gap-said}
 use Rattle.byte_requests.proofs.free_gap.Statement.{statement}
 use Rattle.byte_requests.proofs.free_gap.Tie as tie
 
@@ -34,7 +35,9 @@ returns c =
     let f = c .before .before in
     let s = f .before .before in
     let a = s .args in
-    gap-full (a .l) (ident s) (a .k) (a .p) (a .start) (members s) (sym (c .enum-told .given .1) ∙ f .free-cell .ensures)
+    free-gap-said (a .l) (ident s) (a .k) (a .p) (a .start) (members s) (
+    gap-full (a .l) (ident s) (a .k) (a .p) (a .start) (members s) (sym (c .enum-told .given .1) ∙ f .free-cell .ensures .0)
+    )
 
 returns-2 : tie.Need-returns-2
 returns-2 c =
@@ -42,8 +45,10 @@ returns-2 c =
     let f = x .before .before in
     let s = f .before .before in
     let a = s .args in
+    free-gap-said (a .l) (ident s) (a .k) (a .p) (a .start) (members s) (
     ap At (c .gap-site .ensures)
-    ∙ gap-free (a .l) (ident s) (a .k) (a .p) (a .start) (members s) (sym (x .cell .given .1) ∙ f .free-cell .ensures)
+    ∙ gap-free (a .l) (ident s) (a .k) (a .p) (a .start) (members s) (sym (x .cell .given .1) ∙ f .free-cell .ensures .0)
+    )
 
 pub free-gap-spec : {M : Type 1} → statement M
 free-gap-spec = tie.close (tie.spec free-cell-requires enum-told enum-known-cell gap-site-requires returns returns-2)

@@ -14,6 +14,7 @@ use Rattle.requests.specs.Requests.{around, freeCells}
 use Rattle.requests.proofs.Laws.{gaps-asked}
 use Rattle.requests.proofs.Sites.{gaps-shut, gaps-few, gaps-open}
 use Rattle.requests.proofs.Turn.{free-count}
+use Rattle.requests.proofs.Worn.{gaps-said}
 use Rattle.byte_requests.proofs.gaps.Statement.{statement}
 use Rattle.byte_requests.proofs.gaps.Tie as tie
 
@@ -31,7 +32,9 @@ returns : tie.Need-returns
 returns c =
     let s = c .before .before .before in
     let a = s .args in
+    gaps-said (a .l) (view s .ident) (a .k) (a .p) (a .start) (a .size) (members s) (
     gaps-shut (a .l) (view s .ident) (a .k) (a .p) (a .start) (members s) (held-count (s .pre .2)) (a .size) (c .before .gaps-number .ensures) (c .if1 .taken)
+    )
 
 tally-requires : tie.Need-tally-requires
 tally-requires c κs = search needs
@@ -68,8 +71,10 @@ returns-2 c =
     let u = c .before .before .before in
     let s = start u in
     let a = s .args in
+    gaps-said (a .l) (view s .ident) (a .k) (a .p) (a .start) (a .size) (members s) (
     gaps-few (a .l) (view s .ident) (a .k) (a .p) (a .start) (members s) (held-count (s .pre .2)) (a .size)
     (asked u .before .gaps-number .ensures) (asked u .if1 .left) (omega (arith, free u))
+    )
 
 free-gap-requires : tie.Need-free-gap-requires
 free-gap-requires c κs =
@@ -84,9 +89,11 @@ returns-3 c =
     let u = e .before .before .before in
     let s = start u in
     let a = s .args in
-    c .free-gap .ensures
+    gaps-said (a .l) (view s .ident) (a .k) (a .p) (a .start) (a .size) (members s) (
+    c .free-gap .ensures .0
     ∙ gaps-open (a .l) (view s .ident) (a .k) (a .p) (a .start) (members s) (held-count (s .pre .2)) (a .size)
     (asked u .before .gaps-number .ensures) (asked u .if1 .left) (omega (arith, free u))
+    )
 
 pub gaps-spec : {M : Type 1} → statement M
 gaps-spec =

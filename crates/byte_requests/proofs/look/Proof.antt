@@ -5,6 +5,7 @@ use Rattle.byte_form.specs.Bytes.{wordsIn}
 use Rattle.layout.specs.declared.Opened.the-variants.{Open}
 use Rattle.layout.specs.Words.{opened}
 use Rattle.requests.proofs.Laws.{opened-laid, look-shut, look-refused, look-at}
+use Rattle.requests.proofs.Worn.{look-said}
 use Rattle.byte_requests.proofs.look.Statement.{statement}
 use Rattle.byte_requests.proofs.look.Tie as tie
 
@@ -35,21 +36,27 @@ returns : tie.Need-returns
 returns c =
     let n = c .before in
     let s = n .before .before .before .before .args in
+    look-said (wordsIn (s .bytes .now)) (s .q) (
     look-shut (wordsIn (s .bytes .now)) (s .q) (sym (n .before .before .«open» .ensures) ∙ n .n .given .1)
+    )
 
 returns-2 : tie.Need-returns-2
 returns-2 c =
     let n = c .before in
     let l = n .before .before .before .before in
     let s = l .before .before .before .before .args in
-    look-refused (wordsIn (s .bytes .now)) (s .q) (is-open l) (sym (n .before .before .site-of .ensures) ∙ n .n2 .given .1)
+    look-said (wordsIn (s .bytes .now)) (s .q) (
+    look-refused (wordsIn (s .bytes .now)) (s .q) (is-open l) (sym (n .before .before .site-of .ensures .0) ∙ n .n2 .given .1)
+    )
 
 returns-3 : tie.Need-returns-3
 returns-3 c =
     let t = c .before in
     let l = t .before .before .before .before in
     let s = l .before .before .before .before .args in
-    look-at (wordsIn (s .bytes .now)) (s .q) (is-open l) (sym (t .before .before .site-of .ensures) ∙ t .t .given .1)
+    look-said (wordsIn (s .bytes .now)) (s .q) (
+    look-at (wordsIn (s .bytes .now)) (s .q) (is-open l) (sym (t .before .before .site-of .ensures .0) ∙ t .t .given .1)
+    )
 
 pub look-spec : {M : Type 1} → statement M
 look-spec =

@@ -10,7 +10,9 @@ use borrow.Author.Needs.{needs}
 use Rattle.stores.specs.declared.Answer.the-variants as A
 use Rattle.stores.specs.Stores.{Write, run, stores, applied, answerOf}
 use Rattle.stores.proofs.Segments.{undone-short, done-whole}
+use Rattle.lists.specs.Lists.{KeepsWorn}
 use Rattle.edits.specs.Edits.{insertWrites, chainFrom}
+use Rattle.edits.proofs.Worn.{room-keeps}
 use Rattle.edits.proofs.Underway.{Underway, underway-start, underway-fits, underway-words, underway-stopped, underway-done, underway-next, words-stopped, words-done, words-next}
 use Rattle.word_edits.proofs.insert_all.Statement.{statement}
 use Rattle.word_edits.proofs.insert_all.Tie as tie
@@ -101,6 +103,15 @@ tried x =
     (x .insert-at .result ≡ answerOf (stores ps) m) × (x .insert-at .last .0 ≡ applied ps m (h .loop .words)))
     (part h) (x .insert-at .ensures)
 
+-- the worn nodes are kept
+kept : (s : tie.Start Inv-loop μ-loop) {w : List ℕ} → let a = s .args in
+    w ≡ applied (chainFrom (a .l) (a .words .now) (a .list) (a .first) (length (a .records .now) / a .l .width) (a .records .now)) (a .allowance) (a .words .now)
+    → KeepsWorn (a .l) (a .words .now) w
+kept s e =
+    let a = s .args in
+    subst (KeepsWorn (a .l) (a .words .now)) (sym e)
+    (room-keeps (a .l) (a .words .now) (a .list) (a .first) (length (a .records .now) / a .l .width) (s .pre .0) (a .records .now) (sym (s .pre .2)) (a .allowance))
+
 enum-known-n : tie.Need-enum-known-n Inv-loop μ-loop
 enum-known-n c = search needs
 
@@ -114,7 +125,8 @@ returns c =
     let s = undone-short (first h) _ (λ n q. ⊎-elim (λ z. absurd (omega arith)) (λ z. absurd (omega arith)) (rw (tried x .0 ∙ q) at (c .match .keys2))) in
     let i = h .loop .inv .1 in
     let a = start h .args in
-    (underway-stopped (i .0) (a .allowance) (i .1) (i .2) s, tried x .1 ∙ words-stopped (i .0) (a .allowance) (i .1) (i .2) (a .words .now) (i .3) s)
+    let e = tried x .1 ∙ words-stopped (i .0) (a .allowance) (i .1) (i .2) (a .words .now) (i .3) s in
+    (underway-stopped (i .0) (a .allowance) (i .1) (i .2) s, (e, kept (start h) e))
 
 -- all of its stores are made
 abbrev stored : tie.After-n Inv-loop μ-loop → tie.After-insert-at Inv-loop μ-loop
@@ -137,9 +149,10 @@ returns-2 c =
     let h = at x in
     let i = h .loop .inv .1 in
     let a = start h .args in
-    let z : length (left h) ≡ a .l .width = omega (arith, length-drop (h .loop .at) (a .records .now), c .if1 .taken) in (
+    let z : length (left h) ≡ a .l .width = omega (arith, length-drop (h .loop .at) (a .records .now), c .if1 .taken) in
+    let e = tried x .1 ∙ words-done (i .0) (a .allowance) (i .1) (i .2) (a .words .now) (i .3) z in (
       ap (λ (n : ℕ). A.Done (h .loop .made + n)) (whole n .1) ∙ underway-done (i .0) (a .allowance) (i .1) (i .2) (whole n .0) z,
-      tried x .1 ∙ words-done (i .0) (a .allowance) (i .1) (i .2) (a .words .now) (i .3) z,
+      (e, kept (start h) e),
     )
 
 next-site-requires : tie.Need-next-site-requires Inv-loop μ-loop
@@ -164,7 +177,7 @@ loop-again c =
       h .loop .inv .0 ++ first h,
       (
         underway-next (i .0) (λ z. c .before .before .if1 .left (omega (arith, length-drop (h .loop .at) (a .records .now), record-in h)))
-            (w .0) (c .next-site .ensures) (sym (drop-drop (a .l .width) (h .loop .at) (a .records .now))),
+            (w .0) (c .next-site .ensures .0) (sym (drop-drop (a .l .width) (h .loop .at) (a .records .now))),
         omega (arith, i .1, whole n, length-append (h .loop .inv .0) (first h)),
         omega (arith, i .2, whole n),
         w .1,

@@ -13,6 +13,7 @@ use Rattle.requests.specs.Requests.{around, freeCells}
 use Rattle.requests.proofs.Laws.{gaps-asked}
 use Rattle.requests.proofs.Sites.{gaps-shut, gaps-few, gaps-open}
 use Rattle.requests.proofs.Turn.{free-count}
+use Rattle.requests.proofs.Worn.{gaps-said}
 use Rattle.word_requests.proofs.gaps.Statement.{statement}
 use Rattle.word_requests.proofs.gaps.Tie as tie
 
@@ -34,7 +35,9 @@ returns : tie.Need-returns
 returns c =
     let s = c .before .before .before in
     let a = s .args in
+    gaps-said (a .l) (ident s) (a .k) (a .p) (a .start) (a .size) (members s) (
     gaps-shut (a .l) (ident s) (a .k) (a .p) (a .start) (members s) (held-count (s .pre .2)) (a .size) (c .before .gaps-number .ensures) (c .if1 .taken)
+    )
 
 tally-requires : tie.Need-tally-requires
 tally-requires c κs = search needs
@@ -70,8 +73,10 @@ returns-2 c =
     let u = c .before .before .before in
     let s = start u in
     let a = s .args in
+    gaps-said (a .l) (ident s) (a .k) (a .p) (a .start) (a .size) (members s) (
     gaps-few (a .l) (ident s) (a .k) (a .p) (a .start) (members s) (held-count (s .pre .2)) (a .size)
     (u .before .before .gaps-number .ensures) (u .before .if1 .left) (omega (arith, counted u, c .if2 .taken))
+    )
 
 free-gap-requires : tie.Need-free-gap-requires
 free-gap-requires c κs =
@@ -85,9 +90,11 @@ returns-3 c =
     let u = g .before .before .before in
     let s = start u in
     let a = s .args in
-    c .free-gap .ensures
+    gaps-said (a .l) (ident s) (a .k) (a .p) (a .start) (a .size) (members s) (
+    c .free-gap .ensures .0
     ∙ gaps-open (a .l) (ident s) (a .k) (a .p) (a .start) (members s) (held-count (s .pre .2)) (a .size)
     (u .before .before .gaps-number .ensures) (u .before .if1 .left) (omega (arith, counted u, g .if2 .left))
+    )
 
 pub gaps-spec : {M : Type 1} → statement M
 gaps-spec =

@@ -4,6 +4,7 @@ use borrow.Author.Needs.{needs}
 use Rattle.layout.specs.declared.Opened.the-variants.{Open}
 use Rattle.layout.specs.Words.{opened}
 use Rattle.requests.proofs.Laws.{opened-laid, look-shut, look-refused, look-at}
+use Rattle.requests.proofs.Worn.{look-said}
 use Rattle.word_requests.proofs.look.Statement.{statement}
 use Rattle.word_requests.proofs.look.Tie as tie
 
@@ -34,21 +35,27 @@ returns : tie.Need-returns
 returns c =
     let n = c .before in
     let s = n .before .before .before .before .args in
+    look-said (s .words .now) (s .q) (
     look-shut (s .words .now) (s .q) (sym (n .before .before .«open» .ensures) ∙ n .n .given .1)
+    )
 
 returns-2 : tie.Need-returns-2
 returns-2 c =
     let n = c .before in
     let l = n .before .before .before .before in
     let s = l .before .before .before .before .args in
-    look-refused (s .words .now) (s .q) (is-open l) (sym (n .before .before .site-of .ensures) ∙ n .n2 .given .1)
+    look-said (s .words .now) (s .q) (
+    look-refused (s .words .now) (s .q) (is-open l) (sym (n .before .before .site-of .ensures .0) ∙ n .n2 .given .1)
+    )
 
 returns-3 : tie.Need-returns-3
 returns-3 c =
     let t = c .before in
     let l = t .before .before .before .before in
     let s = l .before .before .before .before .args in
-    look-at (s .words .now) (s .q) (is-open l) (sym (t .before .before .site-of .ensures) ∙ t .t .given .1)
+    look-said (s .words .now) (s .q) (
+    look-at (s .words .now) (s .q) (is-open l) (sym (t .before .before .site-of .ensures .0) ∙ t .t .given .1)
+    )
 
 pub look-spec : {M : Type 1} → statement M
 look-spec =
