@@ -12,8 +12,9 @@
 #define LONGEST_RECORD 40
 #define ROOM 32 /* canary bytes on each side */
 
-enum call { FORMAT, CHECK, LENGTH, INSERT, INSERT_SEVERAL, DELETE, RECOVER, CALLS };
-static const char *const call_names[CALLS] = {"format", "check", "length", "insert", "insert several", "delete", "recover"};
+enum call { FORMAT, CHECK, LENGTH, INSERT, INSERT_SEVERAL, DELETE, RECOVER, MARK_WORN, CALLS };
+static const char *const call_names[CALLS] = {"format",         "check",  "length",  "insert",
+                                              "insert several", "delete", "recover", "mark worn"};
 
 static unsigned long passed, failed;
 
@@ -33,7 +34,7 @@ struct bytes {
 
 struct arguments {
     enum call call;
-    uint16_t list, position, start; /* format: lists, nodes, record words */
+    uint16_t list, position, start; /* format: lists, nodes, record words; mark: start is the cell */
     uint8_t record[LONGEST_RECORD];
     size_t record_len;
 };
@@ -78,16 +79,17 @@ static uint32_t make(uint8_t *store, size_t len, const struct arguments *a, cons
     case INSERT_SEVERAL:
         return axle_insert_several(store, len, a->list, a->position, a->start, record, a->record_len, allowance);
     case DELETE: return axle_delete(store, len, a->list, a->position, allowance);
+    case MARK_WORN: return axle_mark_worn(store, len, a->start);
     default: return axle_recover(store, len, allowance);
     }
 }
 
 /* The answers of each call so far: refusals by their number, then done and stopped. */
-static unsigned char seen[CALLS][15];
+static unsigned char seen[CALLS][16];
 
 static void note(enum call call, uint32_t answer)
 {
-    size_t kind = axle_is_done(answer) ? 13 : axle_is_stopped(answer) ? 14 : answer < 13 ? answer : 0;
+    size_t kind = axle_is_done(answer) ? 14 : axle_is_stopped(answer) ? 15 : answer < 14 ? answer : 0;
     seen[call][kind] = 1;
 }
 
@@ -228,6 +230,21 @@ static struct arguments delete_of(uint16_t list, uint16_t position)
     return a;
 }
 
+static struct arguments mark_of(uint16_t cell)
+{
+    struct arguments a = plain(MARK_WORN);
+    a.start = cell;
+    return a;
+}
+
+/* The mark answers done with one store, the identifier at this word. Returns the bytes then. */
+static struct bytes marks(struct bytes before, uint16_t cell, size_t at)
+{
+    struct bytes after = WITH(before, {at, AXLE_WORN});
+    gives(before, mark_of(cell), 0, AXLE_DONE + 1, after);
+    return after;
+}
+
 static const uint16_t c1_words[24] = {82, 66, 83, 1, 1, 3, 1, 0, 42400};
 static struct bytes c1, c2, c3;
 
@@ -316,8 +333,102 @@ static void several_records(void)
     refused(c2, several_of(0, 1, 4, 3, words), 8);
 }
 
+/* The marked store with cell 2 worn: the records go past it, to cells 3 and 1, and recovery lets it be. */
+static void worn_nodes(void)
+{
+    static const uint16_t words[] = {700, 512, 9};
+    for (uint16_t cell = 1; cell < 4; cell++) {
+        struct bytes worn = marks(c1, cell, AXLE_NODE_WORD(1, 1, cell));
+        refused(worn, mark_of(cell), AXLE_NOT_FREE);
+    }
+    refused(c1, mark_of(0), AXLE_NO_NODE);
+    refused(c1, mark_of(4), AXLE_NO_NODE);
+    refused(c1, mark_of(65535), AXLE_NO_NODE);
+
+    struct bytes w1 = marks(WITH(c1, {17, 3}, {18, 0x8001}, {19, 77}), 2, 16);
+    gives(w1, plain(CHECK), 0, 0, w1);
+    stores(w1, plain(RECOVER), NULL, 0);
+    gives(w1, length_of(0), 0, AXLE_DONE, w1);
+    struct bytes w2 = STORES(w1, insert_of(0, 0, 2, 700),
+                             {23, 700}, {21, 0}, {22, 0}, {20, 42400}, {11, 1}, {9, 3}, {10, 3});
+    struct bytes w3 = STORES(w2, insert_of(0, 1, 2, 512),
+                             {15, 512}, {13, 0}, {14, 3}, {12, 42400}, {11, 2}, {21, 1}, {10, 1});
+    struct bytes both = STORES(w1, several_of(0, 0, 2, 2, words),
+                               {23, 700}, {21, 0}, {22, 0}, {20, 42400}, {11, 1}, {9, 3}, {10, 3},
+                               {15, 512}, {13, 0}, {14, 3}, {12, 42400}, {11, 2}, {21, 1}, {10, 1});
+    holds(memcmp(both.at, w3.at, w3.len) == 0, "several past a worn node", 0, 0);
+    struct bytes end = marks(c1, 3, 20); /* from the last cell on to the first */
+    STORES(end, insert_of(0, 0, 3, 9), {15, 9}, {13, 0}, {14, 0}, {12, 42400}, {11, 1}, {9, 1}, {10, 1});
+    refused(w1, several_of(0, 0, 2, 3, words), AXLE_FULL);
+    refused(w2, several_of(0, 1, 1, 2, words), AXLE_FULL);
+    refused(w3, insert_of(0, 0, 2, 9), AXLE_FULL);
+    refused(w3, several_of(0, 0, 1, 1, words), AXLE_FULL);
+
+    /* Members and worn nodes are not free; what is deleted is. */
+    for (uint16_t cell = 1; cell < 4; cell++)
+        refused(w3, mark_of(cell), AXLE_NOT_FREE);
+    struct bytes deleted = STORES(w3, delete_of(0, 0), {14, 0}, {9, 1}, {11, 1}, {20, 0});
+    struct bytes last = marks(deleted, 3, 20);
+    refused(last, insert_of(0, 0, 3, 9), AXLE_FULL);
+    gives(last, length_of(0), 0, AXLE_DONE + 1, last);
+
+    /* Cuts: the worn node keeps its words. */
+    STORES(WITH(w2, {15, 512}, {13, 0}, {14, 3}, {12, 42400}), plain(RECOVER), {12, 0});
+    STORES(WITH(w2, {15, 512}, {13, 0}, {14, 3}, {12, 42400}, {11, 2}), plain(RECOVER), {11, 1}, {12, 0});
+    STORES(WITH(w2, {15, 512}, {13, 0}, {14, 3}, {12, 42400}, {11, 2}, {21, 1}), plain(RECOVER), {10, 1});
+    STORES(WITH(w3, {14, 0}, {9, 1}), plain(RECOVER), {11, 1}, {20, 0});
+
+    /* Worn is judged after membership: cells 3 and 1 are members, and the header is one's too. */
+    STORES(WITH(w3, {20, AXLE_WORN}), plain(RECOVER), {20, 42400});
+    STORES(WITH(w3, {8, AXLE_WORN}), plain(RECOVER), {8, 42400});
+    STORES(WITH(w2, {20, AXLE_WORN}, {12, 7}), plain(RECOVER), {20, 42400}, {12, 0});
+    refused(WITH(w3, {20, AXLE_WORN}), plain(CHECK), AXLE_UNSOUND);
+    /* In no list: to 65,535 and from it to 0 the store is sound, from it to another value the mark is lost. */
+    struct bytes two = WITH(w2, {12, AXLE_WORN}), none = WITH(w2, {16, 0});
+    gives(two, plain(CHECK), 0, 0, two);
+    stores(two, plain(RECOVER), NULL, 0);
+    gives(none, plain(CHECK), 0, 0, none);
+    stores(none, plain(RECOVER), NULL, 0);
+    refused(WITH(w2, {16, 65534}), plain(CHECK), AXLE_UNSOUND);
+    STORES(WITH(w2, {16, 65534}), plain(RECOVER), {16, 0});
+
+    /* All nodes worn. */
+    struct bytes all_worn = WITH(c1, {12, AXLE_WORN}, {16, AXLE_WORN}, {20, AXLE_WORN}, {21, AXLE_WORN}, {23, 5});
+    gives(all_worn, plain(CHECK), 0, 0, all_worn);
+    stores(all_worn, plain(RECOVER), NULL, 0);
+    refused(all_worn, delete_of(0, 0), AXLE_NO_POSITION);
+    for (uint16_t cell = 1; cell < 4; cell++) {
+        refused(all_worn, insert_of(0, 0, cell, 9), AXLE_FULL);
+        refused(all_worn, several_of(0, 0, cell, 1, words), AXLE_FULL);
+        refused(all_worn, mark_of(cell), AXLE_NOT_FREE);
+    }
+}
+
+/* The largest store with its nodes worn but for the last: from the first node on it is used. Then it is marked too. */
+static void wear_out(uint8_t *large, size_t len)
+{
+    uint8_t record[AXLE_RECORD_BYTES(13)] = {0};
+    size_t last = 2 * AXLE_NODE_WORD(8, 13, 2007);
+    axle_format(large, len, 8, 2000, 13);
+    for (uint16_t cell = 8; cell < 2007; cell++) {
+        uint32_t answer = axle_mark_worn(large, len, cell);
+        holds(answer == AXLE_DONE + 1, "a mark in the largest store", answer, cell);
+    }
+    holds(axle_check(large, len) == 0 && axle_recover(large, len, 0) == AXLE_DONE, "nearly all nodes worn", 0, 0);
+    uint32_t answer = axle_insert(large, len, 4, 0, 8, record, sizeof record, AXLE_WHOLE);
+    holds(answer == AXLE_DONE + 19 && large[last] == 0xa4 && large[last + 1] == 0xa5, "an insert past them", answer, 0);
+    answer = axle_mark_worn(large, len, 2007);
+    holds(answer == AXLE_NOT_FREE, "a mark of a member", answer, 0);
+    answer = axle_delete(large, len, 4, 0, AXLE_WHOLE);
+    holds(answer == AXLE_DONE + 4, "its delete", answer, 0);
+    answer = axle_mark_worn(large, len, 2007);
+    holds(answer == AXLE_DONE + 1 && large[last] == 0xff && large[last + 1] == 0xff, "a mark of the last node", answer, 0);
+    answer = axle_insert(large, len, 4, 0, 8, record, sizeof record, AXLE_WHOLE);
+    holds(answer == AXLE_FULL && axle_check(large, len) == 0, "all nodes worn", answer, 0);
+}
+
 /* Every call that opens a store. */
-static const size_t OPENING = 6;
+static const size_t OPENING = 7;
 static struct arguments opening(size_t i)
 {
     switch (i) {
@@ -326,6 +437,7 @@ static struct arguments opening(size_t i)
     case 2: return insert_of(0, 0, 1, 5);
     case 3: return delete_of(0, 0);
     case 4: return several_of(0, 0, 1, 2, c1_words);
+    case 5: return mark_of(1);
     default: return plain(RECOVER);
     }
 }
@@ -424,6 +536,7 @@ static void formats(void)
         answer = axle_length(large, len, list);
         holds(answer == AXLE_DONE + 250, "length in the largest store", answer, list);
     }
+    wear_out(large, len);
     fill_at_once(large, len);
     for (uint16_t list = 0; list < 8; list++)
         large[2 * AXLE_HEADER_WORD(list) + 1] ^= 0x10; /* a fault in every header's identifier */
@@ -448,7 +561,7 @@ static void formats(void)
     free(large);
 }
 
-/* Questions 5 to 10, each asked before the next: all reasons at once, then one less at a time. */
+/* Questions 5 to 10 and 13, each asked before the next: all reasons at once, then one less at a time. */
 static void questions(void)
 {
     struct bytes full = STORES(c3, insert_of(0, 2, 1, 9), {15, 9}, {13, 0}, {14, 3}, {12, 42400}, {11, 3}, {21, 1}, {10, 1});
@@ -487,6 +600,19 @@ static void questions(void)
         refused(full, with_record_of(a, len), len % 2 || len == 0 ? 9 : 10);
     gives(full, length_of(0), 0, AXLE_DONE + 3, full);
 
+    /* A mark: of the header and of a member, of what is no cell. */
+    for (size_t i = 0; i < 3; i++) {
+        a = mark_of((uint16_t[]){0, 3, 4}[i]);
+        refused(WITH(damaged, {7, 1}, {6, 0}), a, AXLE_NO_STORE);
+        refused(WITH(damaged, {6, 0}), a, AXLE_RANGE);
+        refused(WITH(damaged, {6, 2}), a, AXLE_SIZE);
+        refused(damaged, a, AXLE_UNSOUND);
+        refused(full, a, i == 1 ? AXLE_NOT_FREE : AXLE_NO_NODE);
+        struct bytes odd = full;
+        odd.len--;
+        refused(odd, a, AXLE_SIZE);
+    }
+
     /* A store of two lists and records of two words. */
     static const uint16_t words[31] = {82, 66, 83, 1, 2, 3, 2, 0, 42400, 0, 0, 0, 42401, 1, 1, 0};
     struct bytes two = of_words(words, 31);
@@ -514,30 +640,32 @@ static void parts_of_answers(void)
               "stopped", n, 0);
         holds(axle_number(AXLE_DONE + n) == n && axle_number(AXLE_STOPPED + n) == n, "a number", n, 0);
     }
-    for (uint32_t n = 1; n <= AXLE_TWO_FIT; n++)
+    for (uint32_t n = 1; n <= AXLE_NOT_FREE; n++)
         holds(axle_is_refused(n) && !axle_is_done(n) && !axle_is_stopped(n) && axle_number(n) == n, "refused", n, 0);
     holds(AXLE_STORE_BYTES(1, 3, 1) == 48 && AXLE_RECORD_BYTES(13) == 26, "sizes", 0, 0);
     holds(AXLE_INSERT_STORES(1) == 7 && AXLE_INSERT_CENTRAL(1) == 6, "stores", 0, 0);
     holds(AXLE_INSERT_SEVERAL_STORES(1 + 1, 2 + 1) == 24, "stores of several records", 0, 0);
+    holds(AXLE_NOT_FREE == 13 && AXLE_WORN == 65535 && AXLE_DONE + 1 == 65537, "the numbers of a mark", 0, 0);
     char version[20];
     sprintf(version, "%d.%d.%d", AXLE_VERSION_MAJOR, AXLE_VERSION_MINOR, AXLE_VERSION_PATCH);
     holds(strcmp(version, AXLE_VERSION) == 0, "the version", 0, 0);
 }
 
-/* Every answer that a call can give was given, and no other. The columns: 0, refusals 1 to 12, done, stopped. */
+/* Every answer that a call can give was given, and no other. The columns: 0, refusals 1 to 13, done, stopped. */
 static void all_seen(void)
 {
-    static const unsigned char answers[CALLS][15] = {
+    static const unsigned char answers[CALLS][16] = {
         {1, 0, 0, 1, 1},
         {1, 1, 1, 1, 1, 0, 1},
-        {0, 1, 1, 1, 1, 1, 1, 0, 0, 0, 0, 0, 0, 1},
-        {0, 1, 1, 1, 1, 1, 1, 1, 1, 1, 1, 0, 0, 1, 1},
-        {0, 1, 1, 1, 1, 1, 1, 1, 1, 1, 1, 0, 0, 1, 1},
-        {0, 1, 1, 1, 1, 1, 1, 1, 0, 0, 0, 0, 0, 1, 1},
-        {0, 1, 1, 1, 1, 0, 0, 0, 0, 0, 0, 1, 1, 1, 1},
+        {0, 1, 1, 1, 1, 1, 1, 0, 0, 0, 0, 0, 0, 0, 1},
+        {0, 1, 1, 1, 1, 1, 1, 1, 1, 1, 1, 0, 0, 0, 1, 1},
+        {0, 1, 1, 1, 1, 1, 1, 1, 1, 1, 1, 0, 0, 0, 1, 1},
+        {0, 1, 1, 1, 1, 1, 1, 1, 0, 0, 0, 0, 0, 0, 1, 1},
+        {0, 1, 1, 1, 1, 0, 0, 0, 0, 0, 0, 1, 1, 0, 1, 1},
+        {0, 1, 1, 1, 1, 0, 1, 0, 1, 0, 0, 0, 0, 1, 1},
     };
     for (size_t call = 0; call < CALLS; call++)
-        for (size_t i = 0; i < 15; i++)
+        for (size_t i = 0; i < 16; i++)
             holds(answers[call][i] == seen[call][i], "the answers of a call", call, i);
 }
 
@@ -545,6 +673,7 @@ int main(void)
 {
     marked_store();
     several_records();
+    worn_nodes();
     lengths_and_heads();
     formats();
     questions();

@@ -24,8 +24,11 @@ fn carried(bytes: &[u8], l: Layout, g: Grid, f: Faults) -> bool
     match f {
         Faults::None => true,
         Faults::One(c, w, _) => {
-            w as usize != Layout::IDENTIFIER
-                || Layout::in_use(byte_walks::cell(bytes, l, g, c as usize).ident)
+            if w as usize != Layout::IDENTIFIER {
+                return true;
+            }
+            let ident = byte_walks::cell(bytes, l, g, c as usize).ident;
+            Layout::in_use(ident)
         }
         Faults::Many => true,
     }

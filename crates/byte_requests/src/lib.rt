@@ -74,7 +74,8 @@ fn free_cell(bytes: &[u8], l: Layout, g: Grid, start: u16, n: u16) -> Free
     let mut c = start;
     let mut rest = n;
     while 0 < rest {
-        if Layout::is_free(byte_walks::node(bytes, l, g, c as usize).ident) {
+        let ident = byte_walks::node(bytes, l, g, c as usize).ident;
+        if Layout::is_free(ident) {
             return Free::Cell(c);
         }
         c = requests::next_cell(l, c);
@@ -168,7 +169,8 @@ fn mark(bytes: &[u8], l: Layout, g: Grid, cell: u16) -> Sited
     if !l.is_node(cell) {
         return Sited::Refused(8);
     }
-    if !Layout::is_free(byte_walks::node(bytes, l, g, cell as usize).ident) {
+    let ident = byte_walks::node(bytes, l, g, cell as usize).ident;
+    if !Layout::is_free(ident) {
         return Sited::Refused(13);
     }
     Sited::At(Site {

@@ -18,6 +18,7 @@
 //     12 k p c m n v1 .. vn a         insert of several records from cell c on, allowance a: m words in all (at most 32,100), which
 //                                     are v1 .. vn over and over (n is not 0)
 //                                     prints 'insert_several k p c m a = ANSWER', then the words or their checksum
+//     13 c            mark_worn       prints 'mark_worn c = ANSWER', then the words or their checksum
 //
 // The courses of operation 11: the delete at position p of list k, if c is 0, else the insert of the record v there from cell c on;
 // cut after 0 to 7 stores; then word b altered to w, and each word from 8 on, one at a time, to each of u1 .. un; then a recovery
@@ -500,6 +501,14 @@ fn several_words(m: u16, n: u16) -> usize {
     }
 }
 
+// Operation 13.
+fn mark_worn(words: &mut [u16], cell: u16) {
+    printing::text(b"mark_worn");
+    printing::spaced(cell);
+    let answer = axle_store::mark_worn(words, cell);
+    print_answer(answer, words);
+}
+
 // The number of words of the entry that the script begins with, 0 for an unknown operation.
 fn entry_words(script: &[u8]) -> usize {
     match word(script, 0) {
@@ -507,7 +516,7 @@ fn entry_words(script: &[u8]) -> usize {
         3 => 3 + word(script, 2) as usize,
         4 => 4,
         5 => 1,
-        6 | 10 => 2,
+        6 | 10 | 13 => 2,
         8 => insert_words(word(script, 4)),
         9 => 4,
         11 => 8 + word(script, 7) as usize,
@@ -543,6 +552,7 @@ fn perform(entry: &[u8], words: &mut [u16]) {
         10 => recover(words, word(entry, 1)),
         11 => courses(words, entry),
         12 => insert_several(words, entry),
+        13 => mark_worn(words, word(entry, 1)),
         _ => {}
     }
 }

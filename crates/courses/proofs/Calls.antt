@@ -25,7 +25,7 @@ use Rattle.courses.specs.Course.{Edit, insert, several, delete, named, e
 use Rattle.courses.specs.Left.{gapOf, memberOf, Left, nothing, inserts, insertsAll, deletes}
 
 -- the first free cell met is a node
-first-node : (l : Layout) (w : List ℕ) (c i : ℕ) → Node l c → FirstFree (viewOf l w .ident) (around l c (l .nodes)) i → Node l i
+pub first-node : (l : Layout) (w : List ℕ) (c i : ℕ) → Node l c → FirstFree (viewOf l w .ident) (around l c (l .nodes)) i → Node l i
 first-node l w c i h f =
     all-in (Node l) (around l c (l .nodes)) (around-nodes l c (l .nodes) h)
     (subst (λ (x : List ℕ). i ∈ x) (sym (f .order)) (Memᴰ·append-right (f .passed) (List·Memᴰ·head refl)))

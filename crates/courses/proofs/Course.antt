@@ -35,15 +35,15 @@ use Rattle.courses.proofs.Standing.{Standing, standing-plan, standing-a
 module _ (w : List ℕ) (s : Sound w) (k : ℕ) (own x y₀ : List ℕ) (cut : Cut (layoutOf w) w (s .lists) k own x y₀)
     (due : KeepsWorn (layoutOf w) w x) (left : KeepsWorn (layoutOf w) w y₀)
     (alts : ℕ → Alteration) (allowed : AllowedBut k (layoutOf w .lists) (s .lists .sequence) alts) where
-  abbrev l : Layout
+  abbrev pub l : Layout
   l = layoutOf w
 
   -- the found store
-  abbrev y : List ℕ
+  abbrev pub y : List ℕ
   y = alteredBelow l k alts (l .lists) y₀
 
   -- the sequences of the found store, and of the final one
-  abbrev t : ℕ → List ℕ
+  abbrev pub t : ℕ → List ℕ
   t = replaced (s .lists .sequence) k own
 
   accepted : Accepted l y t
@@ -55,7 +55,7 @@ module _ (w : List ℕ) (s : Sound w) (k : ℕ) (own x y₀ : List ℕ) (cut : C
   size : length y ≡ length w
   size = length-altered l k alts (l .lists) y₀ ∙ cut .size
 
-  standing : Standing l t y
+  pub standing : Standing l t y
   standing =
       record {
         opens = same-opened w y head size ∙ open-opened w (s .marked) (s .inRange) (s .exact);
@@ -108,7 +108,7 @@ module _ (w : List ℕ) (s : Sound w) (k : ℕ) (own x y₀ : List ℕ) (cut : C
       untouched-record (altered b i v) c f d g (inr a) u = omega (arith, u .1, a .1)
 
   -- a node that is worn in the sound store is in no list, not even in what the one named becomes,
-  worn-out : (c : ℕ) → Node l c → getD w (identAt l c) 0 ≡ wornIdent → c ∈ joined t (l .lists) → ⊥
+  pub worn-out : (c : ℕ) → Node l c → getD w (identAt l c) 0 ≡ wornIdent → c ∈ joined t (l .lists) → ⊥
   worn-out c n z m =
       let r = joined-one t (l .lists) c m in
       by (r .0) (r .1) (r .2) (ℕ-discrete (r .0) k)

@@ -24,12 +24,12 @@ applied-nothing : (m : ℕ) (w : List ℕ) → applied [] m w ≡ w
 unfolding run
 applied-nothing m w = ap (λ (qs : List Write). run qs w) (take-nil m)
 
-after-applied : (p : Plan) (m : ℕ) (w : List ℕ) → wordsAfter p m w ≡ applied (allStores p) m w
+pub after-applied : (p : Plan) (m : ℕ) (w : List ℕ) → wordsAfter p m w ≡ applied (allStores p) m w
 after-applied (refuse n) m w = sym (applied-nothing m w)
 after-applied (stores ps) m w = refl
 
 -- what it leaves, is a cut of the sound store
-left-cut : (w : List ℕ) (s : Sound w) (k : ℕ) (d : ℕ → ℕ) (ps : List Write) → Left w s k d ps → (m : ℕ)
+pub left-cut : (w : List ℕ) (s : Sound w) (k : ℕ) (d : ℕ → ℕ) (ps : List Write) → Left w s k d ps → (m : ℕ)
     → (own : List ℕ) × Cut (layoutOf w) w (s .lists) k own (applied ps (d m) w) (applied ps m w)
 left-cut w s k d ps (nothing _) m = (
   s .lists .sequence k,

@@ -86,9 +86,9 @@ module _ (l : Layout) (y : List ℕ) (exact : length y ≡ sizeOf l) (s : ℕ �
           words-apart l c d f 0 (λ _ q. omega arith) g (links-words l d 0 (omega arith)) (e ∙ ap (λ (q : Write). q .at) r ∙ ident-word l d)
 
   -- nor to any word of a worn one
-  pub final-worn : (c f : ℕ) → Node l c → (c ∈ joined s (l .lists) → ⊥) → getD y (identAt l c) 0 ≡ wornIdent → f < cellWords l c
-      → getD Final (cellAt l c + f) 0 ≡ getD y (cellAt l c + f) 0
-  final-worn c f n o w g = run-out (recoverStores l y s) y (cellAt l c + f) (plan-spares (cellAt l c + f) elsewhere)
+  pub worn-spares : (c f : ℕ) → Node l c → (c ∈ joined s (l .lists) → ⊥) → getD y (identAt l c) 0 ≡ wornIdent → f < cellWords l c
+      → Spares (cellAt l c + f) (recoverStores l y s)
+  worn-spares c f n o w g = plan-spares (cellAt l c + f) elsewhere
     where
       member : (k : ℕ) → k < l .lists → (d : ℕ) → d ∈ (k ∷ s k) → c ≡ d → ⊥
       member k hk d (List·Memᴰ·head e) q = omega (arith, n .low)
@@ -101,6 +101,10 @@ module _ (l : Layout) (y : List ℕ) (exact : length y ≡ sizeOf l) (s : ℕ �
       elsewhere p (clear d lo out nz r) e =
           cells-apart l c d f 0 (λ q. nz (worn (ap (λ (x : ℕ). getD y (identAt l x) 0) (sym q) ∙ w))) g (links-words l d 0 (omega arith))
           (e ∙ ap (λ (q : Write). q .at) r ∙ ident-word l d)
+
+  pub final-worn : (c f : ℕ) → Node l c → (c ∈ joined s (l .lists) → ⊥) → getD y (identAt l c) 0 ≡ wornIdent → f < cellWords l c
+      → getD Final (cellAt l c + f) 0 ≡ getD y (cellAt l c + f) 0
+  final-worn c f n o w g = run-out (recoverStores l y s) y (cellAt l c + f) (worn-spares c f n o w g)
 
   pub final-lists : (x : SoundLists l Final) × (x .sequence ≡ s)
   final-lists = whole-sound l y s exact a

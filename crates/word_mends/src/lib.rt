@@ -23,8 +23,11 @@ fn carried(words: &[u16], l: Layout, g: Grid, f: Faults) -> bool
     match f {
         Faults::None => true,
         Faults::One(c, w, _) => {
-            w as usize != Layout::IDENTIFIER
-                || Layout::in_use(word_walks::cell(words, l, g, c as usize).ident)
+            if w as usize != Layout::IDENTIFIER {
+                return true;
+            }
+            let ident = word_walks::cell(words, l, g, c as usize).ident;
+            Layout::in_use(ident)
         }
         Faults::Many => true,
     }

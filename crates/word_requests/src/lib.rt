@@ -43,7 +43,8 @@ fn free_cell(words: &[u16], l: Layout, g: Grid, start: u16, n: u16) -> Free
     let mut c = start;
     let mut rest = n;
     while 0 < rest {
-        if Layout::is_free(word_walks::node(words, l, g, c as usize).ident) {
+        let ident = word_walks::node(words, l, g, c as usize).ident;
+        if Layout::is_free(ident) {
             return Free::Cell(c);
         }
         c = requests::next_cell(l, c);
@@ -138,7 +139,8 @@ fn mark(words: &[u16], l: Layout, g: Grid, cell: u16) -> Sited
     if !l.is_node(cell) {
         return Sited::Refused(8);
     }
-    if !Layout::is_free(word_walks::node(words, l, g, cell as usize).ident) {
+    let ident = word_walks::node(words, l, g, cell as usize).ident;
+    if !Layout::is_free(ident) {
         return Sited::Refused(13);
     }
     Sited::At(Site {

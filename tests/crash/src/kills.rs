@@ -17,18 +17,19 @@ use std::time::Duration;
 const KILLS: [(usize, usize, usize, usize, usize); 5] =
     [(1, 4, 13, 1000, 300), (2, 3, 1, 300, 200), (3, 40, 13, 300, 300), (8, 300, 2, 200, 500), (8, 2000, 13, 60, 1000)];
 
-/// The child: announces many calls, makes them one after the other, and is killed at a random moment.
-fn work(store: &mut [u8], log: &mut Log, shape: Shape, mut lengths: Vec<usize>, mut random: Random, longest: usize) {
+/// The child: announces many calls, makes them one after the other, and is killed at a random moment. `plain` is what the store holds.
+fn work(store: &mut [u8], log: &mut Log, plain: &Plain, mut random: Random, longest: usize) {
     let pool = pool(&mut random);
+    let (shape, usable, mut lengths) = (plain.shape, plain.usable(), plain.lengths());
     let mut calls = vec![];
     for i in 0..CALLS {
-        let call = random_call(&mut random, shape, &lengths, &pool);
+        let call = random_call(&mut random, shape, usable, &lengths, &pool);
         log.announce(i, &call);
         let (all, number) = (lengths.iter().sum::<usize>(), call.records().len() / 2 / shape.width);
         match call {
             Call::Insert { list, position, .. } | Call::InsertSeveral { list, position, .. } => {
                 let length = &mut lengths[usize::from(list)];
-                if usize::from(position) <= *length && all + number <= shape.nodes {
+                if usize::from(position) <= *length && all + number <= usable {
                     *length += number;
                 }
             }
@@ -53,8 +54,8 @@ fn work(store: &mut [u8], log: &mut Log, shape: Shape, mut lengths: Vec<usize>, 
 fn killed(counts: &mut Counts, store: &mut Mapped, log: &mut Log, plain: &mut Plain, random: &mut Random, longest: usize) {
     log.clear();
     let child = {
-        let (shape, lengths, random) = (plain.shape, plain.lengths(), Random::new(random.bits()));
-        Child::doing(|| work(store.bytes(), log, shape, lengths, random, longest))
+        let random = Random::new(random.bits());
+        Child::doing(|| work(store.bytes(), log, plain, random, longest))
     };
     counts.holds(child.killed(), || "a child was not killed".into());
     let mut calls = log.calls();
@@ -81,7 +82,7 @@ fn killed(counts: &mut Counts, store: &mut Mapped, log: &mut Log, plain: &mut Pl
         }
     };
     if !due {
-        *plain = Plain::formatted(plain.shape);
+        *plain = Plain::empty(plain.shape);
         store.copy_from_slice(&bytes_of(&plain.words));
     }
 }
@@ -89,7 +90,7 @@ fn killed(counts: &mut Counts, store: &mut Mapped, log: &mut Log, plain: &mut Pl
 pub fn kills(counts: &mut Counts, random: &mut Random) {
     let mut log = Log::new();
     for (lists, nodes, width, times, longest) in KILLS {
-        let mut plain = Plain::formatted(Shape::new(lists, nodes, width));
+        let mut plain = Plain::empty(Shape::new(lists, nodes, width));
         let mut store = in_file(&plain);
         let mut here = Counts::default();
         for _ in 0..times {

@@ -1,7 +1,7 @@
 //! A crash test with real processes. A child inserts and deletes in a store in a shared file and is killed at a random moment. Its
-//! parent then finds one of the states that the interrupted call may leave (`states`), recovers, and compares every byte and
-//! every list with plain sequences that follow the log. A second part stops a child after each instruction of a call.
-//! The last line is 'N passed, M failed'.
+//! parent then finds one of the states that the interrupted call may leave (`states`), recovers, and compares every byte, every
+//! list and the worn nodes with plain sequences that follow the log. A second part stops a child after each instruction of a call, a mark
+//! too. The last line is 'N passed, M failed'.
 
 mod counts;
 mod kills;
@@ -29,12 +29,13 @@ pub fn pool(random: &mut Random) -> Vec<u8> {
     record(random, 32 + MOST_RECORDS * 13)
 }
 
-/// A random insert, of one record or several, or delete. A few are refused: beyond the list's end, or with too few nodes free.
-pub fn random_call(random: &mut Random, shape: Shape, lengths: &[usize], pool: &[u8]) -> Call {
+/// A random insert, of one record or several, or delete; so many nodes are not worn. A few are refused: beyond the list's end, or with
+/// too few nodes free.
+pub fn random_call(random: &mut Random, shape: Shape, usable: usize, lengths: &[usize], pool: &[u8]) -> Call {
     let list = random.below(shape.lists);
     let all: usize = lengths.iter().sum();
     let (beyond, list_number) = (usize::from(random.below(50) == 0), list as u16);
-    if lengths[list] == 0 || random.below(shape.nodes + 1) >= all {
+    if lengths[list] == 0 || random.below(usable + 1) >= all {
         let (position, start) = (random.between(0, lengths[list]) + beyond, shape.lists + random.below(shape.nodes));
         let (list, position, start) = (list_number, position as u16, start as u16);
         let (from, number) = (random.below(64), random.between(0, MOST_RECORDS));
@@ -59,7 +60,8 @@ pub fn same_lists(bytes: &[u8], plain: &Plain) -> bool {
     found.as_ref() == Some(&plain.lists)
 }
 
-/// Recovery of a state that a call left, and what is due after it: then `plain` is what the store holds. Is it?
+/// Recovery of a state that a call left, and what is due after it: the lists, and the worn nodes. Then `plain` is what the store holds.
+/// Is it?
 pub fn recovered(counts: &mut Counts, store: &mut [u8], plain: &mut Plain, call: &Call, state: &State) -> bool {
     let (expected, left) = Call::Recover.expected(store, ENOUGH);
     let answer = Call::Recover.make(store, &[], ENOUGH);
@@ -72,10 +74,11 @@ pub fn recovered(counts: &mut Counts, store: &mut [u8], plain: &mut Plain, call:
         Call::Recover.make(store, &[], ENOUGH);
     }
     plain.make_first(call, call.due(plain.shape.width, state.made));
+    let kept = plain.same_worn(&words_of(store));
     plain.words = words_of(store);
     let sound = Call::Check.make(store, &[], 0);
-    let due = sound == 0 && same_lists(store, plain);
-    counts.holds(due, || format!("check {sound}, or the lists; {call:?}, {state:?}"));
+    let due = sound == 0 && same_lists(store, plain) && kept;
+    counts.holds(due, || format!("check {sound}, the lists, or the worn nodes; {call:?}, {state:?}"));
     due
 }
 

@@ -1,7 +1,8 @@
 //! Plain sequences of records, and the words of the store that holds them.
 
 use interface::{words_of, Call, DONE};
-use model::store::{store_of, Shape, WordStore, IDENTIFIER};
+use model::samples::{carriers, with_worn};
+use model::store::{store_of, Shape, WordStore, IDENTIFIER, WORN};
 
 /// Each list's cells and records in their order, and every word of the store.
 #[derive(Clone)]
@@ -12,13 +13,27 @@ pub struct Plain {
 }
 
 impl Plain {
-    pub fn formatted(shape: Shape) -> Plain {
-        let lists = vec![vec![]; shape.lists];
-        Plain { shape, lists, words: store_of(shape, &vec![vec![]; shape.lists], || 0) }
+    /// Empty lists. Every eighth node is worn. The words that are free hold anything.
+    pub fn empty(shape: Shape) -> Plain {
+        let worn: Vec<usize> = shape.node_cells().step_by(8).collect();
+        let words = with_worn(store_of(shape, &vec![vec![]; shape.lists], || 0x1357), &worn);
+        Plain { shape, lists: vec![vec![]; shape.lists], words }
     }
 
     pub fn lengths(&self) -> Vec<usize> {
         self.lists.iter().map(Vec::len).collect()
+    }
+
+    /// The number of nodes that are not worn.
+    pub fn usable(&self) -> usize {
+        self.shape.nodes - carriers(&self.words, WORN).len()
+    }
+
+    /// Are the worn nodes the same in these words?
+    pub fn same_worn(&self, words: &[u16]) -> bool {
+        let worn = carriers(&self.words, WORN);
+        let node = |&cell: &usize| self.shape.node(cell);
+        carriers(words, WORN) == worn && worn.iter().map(node).all(|node| words[node.clone()] == self.words[node])
     }
 
     /// The first free cell from `start` on.
@@ -55,7 +70,8 @@ impl Plain {
                 self.insert_several(list.into(), position.into(), start.into(), words_of(all), records)
             }
             Call::Delete { list, position } => self.delete(list.into(), position.into()),
-            _ => unreachable!("a child inserts and deletes"),
+            Call::MarkWorn { cell } => self.mark(cell.into()),
+            _ => unreachable!("a child inserts, deletes and marks"),
         }
     }
 
@@ -88,7 +104,7 @@ impl Plain {
         if position > self.lists[list].len() {
             return 7;
         }
-        if self.lengths().iter().sum::<usize>() + all.len() / width > self.shape.nodes {
+        if self.lengths().iter().sum::<usize>() + all.len() / width > self.usable() {
             return 10;
         }
         let mut start = start;
@@ -113,5 +129,15 @@ impl Plain {
             (shape.cell(cell), 0),
         ]);
         DONE + 4
+    }
+
+    /// Marks a node.
+    fn mark(&mut self, cell: usize) -> u32 {
+        let at = self.shape.cell(cell);
+        if self.words[at] != 0 {
+            return 13;
+        }
+        self.store(&[(at, WORN)]);
+        DONE + 1
     }
 }

@@ -23,6 +23,8 @@
 //! So a torn word changes nothing but for the central one, where recovery refuses and stores nothing. A link is torn only where cell
 //! numbers go beyond 255, a count only where the length goes past a multiple of 256.
 //!
+//! A mark makes one store, the identifier of a cell in no list. Torn, it is cleared, and the node is free.
+//!
 //! After such a refusal the test puts the low byte back, as if the store had not been made at all; then the old list is due.
 
 use interface::{bytes_of, Call, DONE, ENOUGH};
@@ -59,8 +61,9 @@ pub fn states(before: &[u16], call: &Call) -> Vec<State> {
 }
 
 impl State {
-    /// Does recovery refuse it? The torn store is a central one: with it more of the call counts as made.
+    /// Does recovery refuse it? The torn store is a central one: with it more of an insert or delete counts as made.
     pub fn lost(&self, call: &Call, width: usize) -> bool {
-        self.torn.is_some() && call.due(width, self.made + 1) > call.due(width, self.made)
+        let central = call.due(width, self.made + 1) > call.due(width, self.made);
+        self.torn.is_some() && central && !matches!(call, Call::MarkWorn { .. })
     }
 }

@@ -10,10 +10,11 @@ use interface::memory::Mapped;
 use interface::stores::record;
 use interface::{bytes_of, words_of, Call, ENOUGH};
 use model::random::Random;
+use model::samples::carriers;
 use model::store::Shape;
 
-/// The shapes of the stores whose calls are stepped, and the calls on each.
-const STEPPED: [(usize, usize, usize, usize); 4] = [(1, 4, 13, 20), (2, 3, 1, 20), (3, 40, 3, 8), (1, 400, 1, 3)];
+/// The shapes of the stores whose calls are stepped, and the calls on each. The last is a mark.
+const STEPPED: [(usize, usize, usize, usize); 4] = [(1, 4, 13, 21), (2, 3, 1, 21), (3, 40, 3, 9), (1, 400, 1, 4)];
 
 /// Of the states that a stepped call goes through, the recovery of one in so many is stepped too.
 const STRIDE: usize = 5;
@@ -87,7 +88,14 @@ fn recovered_again(counts: &mut Counts, cut: &State, last: &[u8]) {
 /// A random call on what the store holds.
 fn next_call(random: &mut Random, plain: &Plain) -> Call {
     let pool = pool(random);
-    random_call(random, plain.shape, &plain.lengths(), &pool)
+    random_call(random, plain.shape, plain.usable(), &plain.lengths(), &pool)
+}
+
+/// A mark of a free node. If there is none, of the first node.
+fn next_mark(random: &mut Random, plain: &Plain) -> Call {
+    let free = carriers(&plain.words, 0);
+    let cell = if free.is_empty() { plain.shape.lists } else { random.pick(&free) };
+    Call::MarkWorn { cell: cell as u16 }
 }
 
 /// Inserts records at random until there are so many.
@@ -103,12 +111,13 @@ pub fn steps(counts: &mut Counts, random: &mut Random) {
     let mut log = Log::new();
     for (lists, nodes, width, calls) in STEPPED {
         let shape = Shape::new(lists, nodes, width);
-        let mut plain = Plain::formatted(shape);
+        let mut plain = Plain::empty(shape);
         let mut store = in_file(&plain);
         let (mut here, mut instructions) = (Counts::default(), 0);
-        fill(&mut plain, random, nodes * 7 / 8);
+        let records = plain.usable() * 7 / 8;
+        fill(&mut plain, random, records);
         for turn in 0..calls {
-            let call = next_call(random, &plain);
+            let call = if turn + 1 == calls { next_mark(random, &plain) } else { next_call(random, &plain) };
             match step_call(&mut here, &mut store, &mut log, &plain, &call, turn) {
                 Some(steps) => instructions += steps,
                 None => return println!("calls are not stepped: the system does not allow it"),
@@ -123,11 +132,11 @@ pub fn steps(counts: &mut Counts, random: &mut Random) {
 /// With no process: every state that a kill may leave, of calls on stores where links and counts are torn too.
 pub fn enumerated(counts: &mut Counts, random: &mut Random) {
     for (lists, nodes, width, records, calls) in [(1, 300, 1, 256, 60), (2, 600, 2, 512, 60), (3, 20, 13, 10, 60)] {
-        let mut plain = Plain::formatted(Shape::new(lists, nodes, width));
+        let mut plain = Plain::empty(Shape::new(lists, nodes, width));
         let mut here = Counts::default();
         fill(&mut plain, random, records);
-        for _ in 0..calls {
-            let call = next_call(random, &plain);
+        for turn in 0..calls {
+            let call = if turn % 20 == 19 { next_mark(random, &plain) } else { next_call(random, &plain) };
             let possible = states(&plain.words, &call);
             let whole = possible.last().expect("a state").made;
             for state in &possible {

@@ -1,12 +1,16 @@
 //! Altered words. In a sound store one, two or three altered to other values are noticed, among each header's four, the
 //! identifiers of all nodes and the links of the members; one is put back by recovery. Four can make another sound store. All
 //! other words are free.
+//!
+//! Changes to and from 65,535 on a node in no list are excepted. From 0 to 65,535 and back is not noticed, nothing is stored, and it hides no
+//! other alteration. From 65,535 to another value is noticed, and recovery stores 0.
 
 use crate::checks::Tests;
-use interface::stores::{alteration, deal, edit, sound};
+use interface::stores::{alteration, edit, sound};
 use interface::{bytes_of, words_of, Call::*, DONE, ENOUGH, STOPPED};
-use model::alterations::{adversarial, noticeable};
+use model::alterations::{adversarial, mended, noticeable, noticed};
 use model::random::Random;
+use model::samples::{all_lists_and_worn, deal, with_worn};
 use model::store::{all_lists, check, open, store_of, Shape, WordStore, IDENTIFIER};
 use std::collections::{BTreeMap, BTreeSet};
 
@@ -76,8 +80,8 @@ fn free(words: &[u16]) -> Vec<usize> {
     (8..words.len()).filter(|at| places.binary_search(at).is_err()).collect()
 }
 
-/// All sound stores of one and two lists over one and two nodes. The links of nodes in no list are those of another such store, where
-/// they may be members, or 65,535. A member's record is 7.
+/// All sound stores of one and two lists over one and two nodes, each node in no list free or worn. The links of such nodes are those of
+/// another such store, where they may be members, or 65,535. A member's record is 7.
 fn small_stores() -> BTreeSet<Vec<u16>> {
     let mut all = BTreeSet::new();
     for (lists, nodes) in [(1, 1), (1, 2), (2, 1), (2, 2)] {
@@ -85,11 +89,13 @@ fn small_stores() -> BTreeSet<Vec<u16>> {
         let dealt = all_lists(lists, &shape.node_cells().collect::<Vec<_>>());
         let mut others: Vec<Vec<u16>> = dealt.iter().map(|lists| store_of(shape, lists, || 0)).collect();
         others.push(vec![65_535; shape.size()]);
-        for (lists, other) in dealt.iter().flat_map(|lists| others.iter().map(move |other| (lists, other))) {
-            let mut nodes = other[shape.cell(shape.lists)..].iter();
-            let mut words = store_of(shape, lists, || *nodes.next().expect("a word"));
-            lists.iter().flatten().for_each(|&cell| words[shape.cell(cell) + 3] = 7);
-            all.insert(words);
+        for (lists, worn) in all_lists_and_worn(shape) {
+            for other in &others {
+                let mut nodes = other[shape.cell(shape.lists)..].iter();
+                let mut words = store_of(shape, &lists, || *nodes.next().expect("a word"));
+                lists.iter().flatten().for_each(|&cell| words[shape.cell(cell) + 3] = 7);
+                all.insert(with_worn(words, &worn));
+            }
         }
     }
     all
@@ -111,27 +117,31 @@ impl Tests {
         store.exchange(&right);
     }
 
-    /// Up to so many of the words altered in every way are noticed. They are put back.
-    fn all_noticed(&mut self, store: &mut Store, choices: &[Choice], most: usize) {
+    /// Up to so many of the words altered in every way, beside those that are, are noticed if one of them is. They are put back.
+    fn all_noticed(&mut self, store: &mut Store, sound: &[u16], choices: &[Choice], most: usize, before: bool) {
         for (i, (at, values)) in choices.iter().enumerate() {
-            let right = store.words[*at];
             for &value in values {
                 store.put(*at, value);
-                self.answered(store, 6);
+                let seen = before || noticed(sound, &[(*at, value)]);
+                self.answered(store, if seen { 6 } else { 0 });
                 if most > 1 {
-                    self.all_noticed(store, &choices[i + 1..], most - 1);
+                    self.all_noticed(store, sound, &choices[i + 1..], most - 1, seen);
                 }
             }
-            store.put(*at, right);
+            store.put(*at, sound[*at]);
         }
     }
 
-    /// One altered word is put back by one store, and with no allowance left as it is.
+    /// One altered word is put back, or becomes what it must, by one store, and with no allowance it is left as it is. If it may stay
+    /// nothing is stored.
     fn put_back(&mut self, sound: &[u16], altered: WordStore) {
         let mut store = Store::new(sound);
         store.exchange(&[altered]);
-        let (sound, found) = (bytes_of(sound), store.bytes);
-        for (allowance, answer, left) in [(0, STOPPED, &found), (1, DONE + 1, &sound), (ENOUGH, DONE + 1, &sound)] {
+        let found = store.bytes.clone();
+        store.put(altered.0, mended(sound, altered));
+        let (left, stores) = (store.bytes, u32::from(mended(sound, altered) != altered.1));
+        let cut = if stores == 0 { DONE } else { STOPPED };
+        for (allowance, answer, left) in [(0, cut, &found), (1, DONE + stores, &left), (ENOUGH, DONE + stores, &left)] {
             let recovered = self.call(&found, &Recover, allowance);
             self.holds((recovered.0, &recovered.1) == (answer, left), || {
                 format!("put back with {allowance}: answer {}, or the bytes left; {altered:?} on {sound:?}", recovered.0)
@@ -162,7 +172,7 @@ impl Tests {
 pub fn up_to_three(t: &mut Tests) {
     for words in small_stores() {
         let mut store = Store::new(&words);
-        t.all_noticed(&mut store, &choices(&words, &places(&words)), 3);
+        t.all_noticed(&mut store, &words, &choices(&words, &places(&words)), 3, false);
         t.answered(&mut store, 0);
     }
 }
@@ -184,10 +194,10 @@ pub fn larger_stores(t: &mut Tests) {
         stores.push((t.sound_store(shape).1, 60));
     }
     for (lists, nodes, width, used) in [
-        (8, 300, 2, 299),
+        (8, 300, 2, 290),
         (1, 700, 13, 256),
         (5, 1000, 1, 500),
-        (8, 2000, 1, 1999),
+        (8, 2000, 1, 1990),
         (8, 2000, 13, 1000),
         (1, 2000, 13, 2000),
     ] {
@@ -200,7 +210,7 @@ pub fn larger_stores(t: &mut Tests) {
         for _ in 0..turns {
             let number = t.random.pick(&[1, 2, 2, 3, 3, 3, 3, 3, 3, 3]);
             let altered = alterations(&mut t.random, &words, &places, number);
-            t.answered_with(&mut store, &altered, 6);
+            t.answered_with(&mut store, &altered, if noticed(&words, &altered) { 6 } else { 0 });
             if number == 1 {
                 t.put_back(&words, altered[0]);
             }
@@ -209,8 +219,8 @@ pub fn larger_stores(t: &mut Tests) {
     }
 }
 
-/// Four altered words that are not noticed: a member leaves its list or comes back, or it and a free node with the same links change
-/// places.
+/// Four altered words that are not noticed: a member leaves its list or comes back, or it and a node in no list with the same links
+/// change places. That node is free or worn, and so is the member then.
 pub fn four_words(t: &mut Tests) {
     let smallest = Shape::new(1, 1, 1);
     t.four_apart(&store_of(smallest, &[vec![]], || 0), &store_of(smallest, &[vec![1]], || 0));
@@ -220,16 +230,16 @@ pub fn four_words(t: &mut Tests) {
         let used = t.random.between(1, shape.nodes - 1);
         let lists = deal(&mut t.random, shape, used);
         let mut words = sound(&mut t.random, shape, &lists);
-        let deleted = edit(&mut t.random, shape, &lists, 1).expected(&bytes_of(&words), ENOUGH).1;
+        let deleted = edit(&mut t.random, &words, &lists, 1).expected(&bytes_of(&words), ENOUGH).1;
         t.four_apart(&words, &words_of(&deleted));
         let members = lists.concat();
-        let free = shape.node_cells().find(|cell| !members.contains(cell)).expect("a free node");
-        let (x, y) = (shape.cell(t.random.pick(&members)), shape.cell(free));
+        let node = shape.node_cells().find(|cell| !members.contains(cell)).expect("a node in no list");
+        let (x, y) = (shape.cell(t.random.pick(&members)), shape.cell(node));
         words.copy_within(x + 1..x + 3, y + 1);
         let mut other = words.clone();
         other.swap(x, y);
-        other[shape.cell(words[x + 1].into()) + 2] = free as u16;
-        other[shape.cell(words[x + 2].into()) + 1] = free as u16;
+        other[shape.cell(words[x + 1].into()) + 2] = node as u16;
+        other[shape.cell(words[x + 2].into()) + 1] = node as u16;
         t.four_apart(&words, &other);
     }
 }

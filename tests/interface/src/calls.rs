@@ -1,9 +1,10 @@
 //! The calls on stores of every kind.
 
 use crate::checks::{Tests, MOST_BYTES};
-use interface::stores::{alteration, deal, record, sound};
+use interface::stores::{alteration, record, sound, unworn};
 use interface::{bytes_of, Call::*, ENOUGH, STOPPED};
-use model::store::{store_of, Shape, IDENTIFIER};
+use model::samples::{carriers, deal, wear};
+use model::store::{store_of, Shape, IDENTIFIER, WORN};
 
 /// Every length up to 60 bytes and some around the largest, of a store, of one byte and of random bytes; no bytes as NULL.
 pub fn lengths(t: &mut Tests) {
@@ -65,9 +66,9 @@ pub fn formats(t: &mut Tests) {
 /// All stores of one list and one node whose words hold certain values.
 pub fn smallest_stores(t: &mut Tests) {
     let shape = Shape::new(1, 1, 1);
-    let (identifiers, links) = ([IDENTIFIER, 0], [0, 1, 2]);
+    let (identifiers, links) = ([IDENTIFIER, 0, WORN], [0, 1, 2]);
     let places: [(usize, &[u16]); 7] =
-        [(8, &identifiers), (9, &links), (10, &links), (11, &links), (12, &identifiers), (13, &links), (14, &links)];
+        [(8, &identifiers[..2]), (9, &links), (10, &links), (11, &links), (12, &identifiers), (13, &links), (14, &links)];
     let words = store_of(shape, &[vec![]], || 0);
     for mut choice in 0..places.iter().map(|(_, values)| values.len()).product() {
         let mut words = words.clone();
@@ -80,12 +81,13 @@ pub fn smallest_stores(t: &mut Tests) {
         t.at_each_allowance(&bytes, &Recover);
         t.at_each_allowance(&bytes, &Insert { list: 0, position: 0, start: 1, record: vec![9, 9] });
         t.at_each_allowance(&bytes, &Delete { list: 0, position: 0 });
+        (0..3).for_each(|cell| drop(t.call(&bytes, &MarkWorn { cell }, 0)));
     }
 }
 
 /// Sound stores: every insert and delete in them and just beyond, at every allowance; each cut is recovered.
 pub fn sound_stores(t: &mut Tests) {
-    for turn in 0..150 {
+    for turn in 0..180 {
         let shape = t.shape(if turn % 3 == 0 { 12 } else { 4 });
         let (lists, words) = t.sound_store(shape);
         let bytes = bytes_of(&words);
@@ -124,14 +126,14 @@ pub fn records(t: &mut Tests) {
 /// Sound stores: every number of records up to one more than nodes are free, at every allowance; each cut is recovered. One record as
 /// by insert. Numbers of bytes that are no multiple.
 pub fn several_records(t: &mut Tests) {
-    for turn in 0..40 {
+    for turn in 0..120 {
         let shape = t.shape(if turn % 4 == 0 { 9 } else { 4 });
         let (lists, words) = t.sound_store(shape);
         let bytes = bytes_of(&words);
         let list = t.random.below(shape.lists);
         let (position, start) = (t.random.between(0, lists[list].len()) as u16, t.random.below(shape.nodes));
         let (list, start) = (list as u16, (shape.lists + start) as u16);
-        for number in 1..=shape.nodes - lists.concat().len() + 1 {
+        for number in 1..=carriers(&words, 0).len() + 1 {
             let records = record(&mut t.random, number * shape.width);
             let several = InsertSeveral { list, position, start, records: records.clone() };
             for allowance in 0..several.whole(shape.width) + 2 {
@@ -171,9 +173,10 @@ pub fn damaged_stores(t: &mut Tests) {
 pub fn two_sequences(t: &mut Tests) {
     for turn in 0..1500 {
         let shape = Shape::new(t.random.between(1, 4), t.random.between(2, if turn % 2 == 0 { 4 } else { 12 }), 1);
-        let lists = deal(&mut t.random, shape, shape.nodes - 1);
+        let used = if turn % 3 == 0 { shape.nodes - 1 } else { t.random.between(1, shape.nodes - 1) };
+        let lists = deal(&mut t.random, shape, used);
         let mut words = sound(&mut t.random, shape, &lists);
-        let free = shape.node_cells().find(|cell| !lists.concat().contains(cell)).expect("a free node");
+        let free = carriers(&words, 0)[0];
         let filled: Vec<usize> = (0..shape.lists).filter(|&k| !lists[k].is_empty()).collect();
         let list = t.random.pick(&filled);
         let member = t.random.pick(&lists[list]);
@@ -209,17 +212,18 @@ pub fn garbage(t: &mut Tests) {
     }
 }
 
-/// A fault in every list, and every free node carrying an identifier: recovery cut everywhere.
+/// A fault in every list, and every free node carrying an identifier beside the worn ones: recovery cut everywhere.
 pub fn many_stores(t: &mut Tests) {
-    for shape in [Shape::new(1, 1, 1), Shape::new(3, 6, 8), Shape::new(8, 40, 2), Shape::new(8, 8, 13)] {
+    let shapes = [Shape::new(1, 1, 1), Shape::new(3, 6, 8), Shape::new(8, 40, 2), Shape::new(8, 8, 13)];
+    for shape in shapes.into_iter().cycle().take(5 * shapes.len()) {
         let (lists, mut words) = t.sound_store(shape);
         for (list, sequence) in lists.iter().enumerate() {
             let cell = [&[list][..], sequence].concat()[t.random.below(sequence.len() + 1)];
             let i = t.random.below(if cell == list { 4 } else { 3 });
             words[shape.cell(cell) + i] ^= 0x4000;
         }
-        for cell in shape.node_cells().filter(|cell| !lists.concat().contains(cell)) {
-            words[shape.cell(cell)] = t.random.pick(&[1, 65_535, IDENTIFIER, IDENTIFIER + 7]);
+        for cell in carriers(&words, 0) {
+            words[shape.cell(cell)] = t.random.pick(&[1, WORN - 1, IDENTIFIER, IDENTIFIER + 7]);
         }
         let mut bytes = bytes_of(&words);
         t.at_each_allowance(&bytes, &Recover);
@@ -229,14 +233,14 @@ pub fn many_stores(t: &mut Tests) {
     }
 }
 
-/// The largest store: full and empty, in one list and in eight, and damaged at its ends.
+/// The largest store: full and empty, in one list and in eight, some nodes worn, and damaged at its ends.
 pub fn largest(t: &mut Tests) {
     let shape = Shape::new(8, 2000, 13);
     let mut all: Vec<usize> = shape.node_cells().collect();
     t.random.shuffle(&mut all);
     let eight: Vec<Vec<usize>> = (0..8).map(|k| all[250 * k..250 * (k + 1)].to_vec()).collect();
-    let one: Vec<Vec<usize>> = (0..8).map(|k| if k == 5 { all[1..].to_vec() } else { vec![] }).collect();
-    for lists in [eight, one] {
+    let of_five = |cells: &[usize]| (0..8).map(|k| if k == 5 { cells.to_vec() } else { vec![] }).collect();
+    for lists in [eight, of_five(&all[1..]), of_five(&all[200..])] {
         let words = sound(&mut t.random, shape, &lists);
         let bytes = bytes_of(&words);
         let length = lists[5].len() as u16;
@@ -271,14 +275,16 @@ pub fn largest(t: &mut Tests) {
         let (_, left) = t.call(&empty, &InsertSeveral { list: 2, position: 0, start: 1500, records }, allowance);
         t.call(&left, &Recover, ENOUGH);
     }
-    let mut words = store_of(shape, &vec![vec![]; 8], || 0);
-    for list in 0..8 {
-        words[shape.cell(list) + 3] = 1;
-    }
-    for cell in shape.node_cells() {
-        words[shape.cell(cell)] = IDENTIFIER;
-    }
-    for allowance in [0, 7, 8, 1000, 2007, 2008, ENOUGH] {
-        t.call(&bytes_of(&words), &Recover, allowance);
+    let empty = unworn(&mut t.random, shape, &vec![vec![]; 8]);
+    for mut words in [empty.clone(), wear(&mut t.random, empty, 1)] {
+        for list in 0..8 {
+            words[shape.cell(list) + 3] = 1;
+        }
+        for cell in carriers(&words, 0) {
+            words[shape.cell(cell)] = IDENTIFIER;
+        }
+        for allowance in [0, 7, 8, 1000, 2007, 2008, ENOUGH] {
+            t.call(&bytes_of(&words), &Recover, allowance);
+        }
     }
 }

@@ -1,9 +1,10 @@
 //! Calls held against the model, counted.
 
 use interface::memory::Block;
-use interface::stores::{deal, record, sound};
+use interface::stores::{record, unworn};
 use interface::{read, Call, Call::*, DONE, ENOUGH};
 use model::random::Random;
+use model::samples::{deal, wear};
 use model::store::Shape;
 use std::collections::{BTreeMap, BTreeSet};
 
@@ -94,10 +95,15 @@ impl Tests {
         left
     }
 
-    /// Check, length, the inserts, delete and recover at every allowance: for each list and one beyond, at random and wrong places.
+    /// Check, length, the inserts, delete and recover at every allowance: for each list and one beyond, at random and wrong places. Marks
+    /// of random cells and of those just outside the nodes.
     pub fn all_calls(&mut self, bytes: &[u8], shape: Shape) {
         self.call(bytes, &Check, 0);
         self.at_each_allowance(bytes, &Recover);
+        let (first, end) = (shape.lists, shape.lists + shape.nodes);
+        for cell in [first + self.random.below(shape.nodes), first + self.random.below(shape.nodes), first - 1, end] {
+            self.call(bytes, &MarkWorn { cell: cell as u16 }, 0);
+        }
         for list in 0..=shape.lists as u16 {
             self.call(bytes, &Length { list }, 0);
             let length = self.random.between(0, shape.nodes / shape.lists + 1) as u16;
@@ -128,10 +134,12 @@ impl Tests {
         Shape::new(self.random.between(1, lists), self.random.between(1, nodes), self.random.between(1, width))
     }
 
+    /// A sound store. Of the nodes in no list some are worn, or all.
     pub fn sound_store(&mut self, shape: Shape) -> (Vec<Vec<usize>>, Vec<u16>) {
         let used = self.random.between(0, shape.nodes);
         let lists = deal(&mut self.random, shape, used);
-        let words = sound(&mut self.random, shape, &lists);
+        let words = unworn(&mut self.random, shape, &lists);
+        let words = wear(&mut self.random, words, 0);
         (lists, words)
     }
 }

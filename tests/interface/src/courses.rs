@@ -1,11 +1,12 @@
 //! Courses: an insert, of one record or several, or a delete, alterations in the lists that it does not name, recoveries.
 
 use crate::checks::Tests;
-use interface::stores::{alteration, deal, edit, sound};
+use interface::stores::{alteration, edit, sound};
 use interface::{answer_of, bytes_of, words_of, Call, Call::*, ENOUGH};
 use model::alterations::{adversarial, alterable};
 use model::recovery::Course;
-use model::store::{all_lists, open, store_of, Answer, Shape};
+use model::samples::{all_lists_and_worn, deal, with_worn};
+use model::store::{open, store_of, Answer, Shape};
 use std::panic::{catch_unwind, AssertUnwindSafe};
 
 /// The list of the call that a course begins with.
@@ -63,7 +64,7 @@ impl Tests {
     fn courses(&mut self, shape: Shape, lists: &[Vec<usize>], edits: usize, everywhere: bool) {
         let sound = sound(&mut self.random, shape, lists);
         for turn in 0..edits {
-            let call = edit(&mut self.random, shape, lists, turn);
+            let call = edit(&mut self.random, &sound, lists, turn);
             let whole = usize::from(call.whole(shape.width));
             let some = vec![self.random.below(whole), whole - 1 - turn % 3, self.random.between(0, whole)];
             for allowance in if everywhere { (0..=whole).collect() } else { some } {
@@ -79,8 +80,8 @@ impl Tests {
 pub fn every_course(t: &mut Tests) {
     let shape = Shape::new(2, 2, 1);
     let (nodes, values) = (shape.node_cells().collect::<Vec<_>>(), adversarial(shape));
-    for lists in all_lists(shape.lists, &nodes) {
-        let sound = store_of(shape, &lists, || 7);
+    for (lists, worn) in all_lists_and_worn(shape) {
+        let sound = with_worn(store_of(shape, &lists, || 7), &worn);
         let places = alterable(&sound).expect("a sound store");
         for list in 0..2 {
             let places = &places[1 - list];
@@ -119,11 +120,11 @@ pub fn large_courses(t: &mut Tests) {
     for (lists, nodes, width, used, edits) in [
         (8, 30, 13, 20, 40),
         (5, 100, 1, 99, 40),
-        (8, 300, 2, 299, 40),
+        (8, 300, 2, 290, 40),
         (1, 300, 13, 256, 20),
-        (3, 700, 2, 698, 20),
+        (3, 700, 2, 690, 20),
         (5, 1000, 1, 500, 20),
-        (8, 2000, 1, 1999, 30),
+        (8, 2000, 1, 1990, 30),
         (8, 2000, 13, 1000, 30),
     ] {
         let shape = Shape::new(lists, nodes, width);

@@ -36,6 +36,7 @@ mod c {
         ) -> u32;
         pub fn axle_delete(store: *mut u8, store_len: usize, list: u16, position: u16, allowance: u16) -> u32;
         pub fn axle_recover(store: *mut u8, store_len: usize, allowance: u16) -> u32;
+        pub fn axle_mark_worn(store: *mut u8, store_len: usize, cell: u16) -> u32;
         pub fn words_read(words: *const u16, len: usize, list: u16, position: u16) -> u32;
     }
 }
@@ -56,6 +57,7 @@ pub enum Call {
     InsertSeveral { list: u16, position: u16, start: u16, records: Vec<u8> },
     Delete { list: u16, position: u16 },
     Recover,
+    MarkWorn { cell: u16 },
 }
 
 use Call::*;
@@ -70,6 +72,7 @@ impl Call {
             InsertSeveral { .. } => "insert_several",
             Delete { .. } => "delete",
             Recover => "recover",
+            MarkWorn { .. } => "mark_worn",
         }
     }
 
@@ -82,22 +85,22 @@ impl Call {
         }
     }
 
-    /// The stores of an insert or delete that is not refused.
+    /// The stores of an insert, a delete or a mark that is not refused.
     pub fn whole(&self, width: usize) -> u16 {
         let records = self.records().len() / 2 / width;
-        if let Delete { .. } = self {
-            4
-        } else {
-            (records * (width + 6)) as u16
+        match self {
+            Delete { .. } => 4,
+            MarkWorn { .. } => 1,
+            _ => (records * (width + 6)) as u16,
         }
     }
 
-    /// The stores of an insert or delete that count as made if it is cut after so many.
+    /// The stores of an insert, a delete or a mark that count as made if it is cut after so many.
     pub fn due(&self, width: usize, made: u16) -> u16 {
-        if let Delete { .. } = self {
-            due_of_delete(made)
-        } else {
-            due_of_insert(width, made).min(self.whole(width))
+        match self {
+            Delete { .. } => due_of_delete(made),
+            MarkWorn { .. } => made,
+            _ => due_of_insert(width, made).min(self.whole(width)),
         }
     }
 
@@ -120,6 +123,7 @@ impl Call {
                 }
                 Delete { list, position } => c::axle_delete(at, len, list, position, allowance),
                 Recover => c::axle_recover(at, len, allowance),
+                MarkWorn { cell } => c::axle_mark_worn(at, len, cell),
             }
         }
     }
@@ -144,6 +148,7 @@ impl Call {
             }
             Delete { list, position } => number_of(store::delete(&mut words, list, position, allowance)),
             Recover => number_of(recover(&mut words, allowance)),
+            MarkWorn { cell } => number_of(store::mark_worn(&mut words, cell)),
         };
         (answer, bytes_of(&words))
     }

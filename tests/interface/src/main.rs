@@ -1,19 +1,21 @@
 //! The archive held against the model: each call through C on many stores, at every allowance. A check is one call: its answer,
 //! every byte of the store, the bytes round it, the record and the bytes round that. In `alterations` it is mostly check's answer
-//! alone. In `positions` it may be an answer alone, or read's on words. The last line is 'N passed, M failed'.
+//! alone. In `positions` it may be an answer alone, or read's on words. In `worn` it may be that what is said there holds of the nodes.
+//! The last line is 'N passed, M failed'.
 
 mod alterations;
 mod calls;
 mod checks;
 mod courses;
 mod positions;
+mod worn;
 
 use checks::Tests;
 use interface::{DONE, STOPPED};
 use std::time::Instant;
 
 /// The answers that each call can give: refusals, then whether it can be done, and stopped.
-const ANSWERS: [(&str, &[u32], bool, bool); 7] = [
+const ANSWERS: [(&str, &[u32], bool, bool); 8] = [
     ("format", &[0, 3, 4], false, false),
     ("check", &[0, 1, 2, 3, 4, 6], false, false),
     ("length", &[1, 2, 3, 4, 5, 6], true, false),
@@ -21,6 +23,7 @@ const ANSWERS: [(&str, &[u32], bool, bool); 7] = [
     ("insert_several", &[1, 2, 3, 4, 5, 6, 7, 8, 9, 10], true, true),
     ("delete", &[1, 2, 3, 4, 5, 6, 7], true, true),
     ("recover", &[1, 2, 3, 4, 11, 12], true, true),
+    ("mark_worn", &[1, 2, 3, 4, 6, 8, 13], true, false),
 ];
 
 /// Every answer that a call can give was given, and no other.
@@ -31,16 +34,19 @@ fn answers(t: &mut Tests) {
         let found = [numbers(0..DONE), numbers(DONE..STOPPED), numbers(STOPPED..u32::MAX)];
         let most = |numbers: &[u32]| numbers.last().map_or(String::from("never"), |n| format!("up to {n}"));
         println!("{call}: answers {:?}, done {}, stopped {}", found[0], most(&found[1]), most(&found[2]));
-        for number in 0..=12 {
+        for number in 0..=13 {
             t.holds(refusals.contains(&number) == found[0].contains(&number), || format!("{call}: answer {number}"));
         }
-        t.holds(found[0].iter().all(|&n| n <= 12), || format!("{call}: answers {:?}", found[0]));
+        t.holds(found[0].iter().all(|&n| n <= 13), || format!("{call}: answers {:?}", found[0]));
         t.holds(found[1].is_empty() != done && found[2].is_empty() != stopped, || format!("{call}: done or stopped"));
         if call == "insert" {
             t.holds(found[1] == (7..=19).collect::<Vec<_>>() && found[2] == (0..=18).collect::<Vec<_>>(), || call.into());
         }
         if call == "delete" {
             t.holds(found[1] == [4] && found[2] == [0, 1, 2, 3], || call.into());
+        }
+        if call == "mark_worn" {
+            t.holds(found[1] == [1], || call.into());
         }
     }
 }
@@ -49,7 +55,7 @@ type Part = (&'static str, fn(&mut Tests));
 
 fn main() {
     let mut t = Tests::new(1201);
-    let parts: [Part; 25] = [
+    let parts: [Part; 32] = [
         ("lengths", calls::lengths),
         ("heads", calls::heads),
         ("formats", calls::formats),
@@ -74,6 +80,13 @@ fn main() {
         ("positions of the longest lists", positions::longest),
         ("positions read", positions::small_reads),
         ("positions read of the longest lists", positions::longest_reads),
+        ("marks in small stores", worn::small_stores),
+        ("marks in larger stores", worn::larger_stores),
+        ("refusals of marks", worn::refusals),
+        ("all nodes worn", worn::worn_out),
+        ("worn nodes passed over", worn::passed_over),
+        ("worn nodes recovered", worn::recoveries),
+        ("runs with worn nodes", worn::runs),
         ("answers", answers),
     ];
     for (name, part) in parts {

@@ -2,9 +2,10 @@
 //! words.
 
 use crate::checks::Tests;
-use interface::stores::{deal_lengths, record, sound};
+use interface::stores::{deal_lengths, record, unworn};
 use interface::{bytes_of, expected_read, words_of, Call, Call::*, DONE, ENOUGH, STOPPED};
 use model::random::Random;
+use model::samples::with_worn;
 use model::store::Shape;
 use model::walks::{delete_stores, insert_stores};
 
@@ -20,17 +21,17 @@ struct Tried {
     bytes: Vec<u8>,
     list: usize,
     members: Vec<usize>,
-    /// The nodes in no list.
     free: Vec<usize>,
 }
 
 impl Tried {
-    /// Lists of these lengths, of which one is tried, and so many nodes free.
-    fn new(random: &mut Random, lengths: &[usize], list: usize, free: usize, width: usize) -> Tried {
-        let shape = Shape::new(lengths.len(), lengths.iter().sum::<usize>() + free, width);
-        let mut lists = deal_lengths(random, shape, &[lengths, &[free]].concat());
+    /// Lists of these lengths, of which one is tried, and so many nodes free and worn.
+    fn new(random: &mut Random, lengths: &[usize], list: usize, free: usize, worn: usize, width: usize) -> Tried {
+        let shape = Shape::new(lengths.len(), lengths.iter().sum::<usize>() + free + worn, width);
+        let mut lists = deal_lengths(random, shape, &[lengths, &[free, worn]].concat());
+        let worn = lists.pop().expect("the worn nodes");
         let free = lists.pop().expect("the free nodes");
-        let mut words = sound(random, shape, &lists);
+        let mut words = with_worn(unworn(random, shape, &lists), &worn);
         shape.node_cells().for_each(|cell| words[shape.cell(cell) + 3] = told(cell));
         Tried { shape, bytes: bytes_of(&words), words, list, members: lists[list].clone(), free }
     }
@@ -92,7 +93,7 @@ impl Tried {
     }
 }
 
-/// Lists with 0 to 9 members: alone, and first, in the middle and last of 3 and of 8. Full stores, and such with free nodes.
+/// Lists with 0 to 9 members: alone, and first, in the middle and last of 3 and of 8. Full stores, and such with free and worn nodes.
 fn small(random: &mut Random) -> Vec<Tried> {
     let mut all = vec![];
     for n in 0..=9 {
@@ -101,18 +102,20 @@ fn small(random: &mut Random) -> Vec<Tried> {
             // A store has a node.
             let least = usize::from(lengths == [0]);
             for width in [1, 4, 13] {
-                all.extend([least, 2, 5].map(|free| Tried::new(random, &lengths, list, free, width)));
+                let others = [(least, 0), (least, 2), (2, n % 3), (5, 1)];
+                all.extend(others.map(|(free, worn)| Tried::new(random, &lengths, list, free, worn, width)));
             }
         }
     }
     all
 }
 
-/// A list with so many members in the largest stores of one list and of eight. The others are empty.
-fn long(random: &mut Random, n: usize) -> [Tried; 2] {
-    [(1, 0), (8, 5)].map(|(lists, list)| {
-        let lengths: Vec<usize> = (0..lists).map(|k| if k == list { n } else { 0 }).collect();
-        Tried::new(random, &lengths, list, 2000 - n, 13)
+/// A list in the largest stores of one list and of eight, with so many nodes free: beside one list all other nodes are members, beside
+/// eight some are worn. The other lists are empty.
+fn long(random: &mut Random, free: usize) -> [Tried; 2] {
+    [(1, 0, 0), (8, 5, 10)].map(|(lists, list, worn)| {
+        let lengths: Vec<usize> = (0..lists).map(|k| if k == list { 2000 - free - worn } else { 0 }).collect();
+        Tried::new(random, &lengths, list, free, worn, 13)
     })
 }
 
@@ -147,14 +150,14 @@ pub fn small_stores(t: &mut Tests) {
     }
 }
 
-/// Delete in lists of 2,000 members, and insert in lists of 1,999.
+/// Delete in lists of 2,000 members, and insert in lists of 1,999; the same in lists of ten less beside worn nodes.
 pub fn longest(t: &mut Tests) {
-    for tried in long(&mut t.random, 2000) {
+    for tried in long(&mut t.random, 0) {
         for position in tried.positions() {
             t.by_walk(&tried, &tried.delete(position), position);
         }
     }
-    for tried in long(&mut t.random, 1999) {
+    for tried in long(&mut t.random, 1) {
         for position in tried.positions() {
             let [insert, ..] = tried.inserts(&mut t.random, position);
             t.by_walk(&tried, &insert, position);
@@ -174,9 +177,9 @@ pub fn small_reads(t: &mut Tests) {
     }
 }
 
-/// Read on the words of lists of 2,000 members.
+/// Read on the words of lists of 2,000 members, and of ten less beside worn nodes.
 pub fn longest_reads(t: &mut Tests) {
-    for tried in long(&mut t.random, 2000) {
+    for tried in long(&mut t.random, 0) {
         for position in tried.positions() {
             t.reads(&tried.words, tried.list as u16, position, tried.read(position));
         }

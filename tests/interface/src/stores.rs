@@ -2,18 +2,8 @@
 
 use crate::{bytes_of, Call};
 use model::random::Random;
-use model::store::{store_of, Shape, IDENTIFIER};
-
-/// Deals some nodes to the lists.
-pub fn deal(random: &mut Random, shape: Shape, used: usize) -> Vec<Vec<usize>> {
-    let mut cells: Vec<usize> = shape.node_cells().collect();
-    random.shuffle(&mut cells);
-    let mut lists = vec![vec![]; shape.lists];
-    for &cell in &cells[..used] {
-        lists[random.below(shape.lists)].push(cell);
-    }
-    lists
-}
+use model::samples::{carriers, wear};
+use model::store::{open, store_of, Shape, IDENTIFIER, WORN};
 
 /// Deals so many nodes to each list.
 pub fn deal_lengths(random: &mut Random, shape: Shape, lengths: &[usize]) -> Vec<Vec<usize>> {
@@ -22,13 +12,19 @@ pub fn deal_lengths(random: &mut Random, shape: Shape, lengths: &[usize]) -> Vec
     lengths.iter().map(|&length| cells.drain(..length).collect()).collect()
 }
 
-/// A sound store of these lists; free words and records are random, some of them such as links and identifiers.
-pub fn sound(random: &mut Random, shape: Shape, lists: &[Vec<usize>]) -> Vec<u16> {
+/// A sound store of these lists; free words and records are random, some of them such as links and identifiers. No node is worn.
+pub fn unworn(random: &mut Random, shape: Shape, lists: &[Vec<usize>]) -> Vec<u16> {
     store_of(shape, lists, || match random.below(6) {
         0 => random.pick(&[0, 1, 65_535, IDENTIFIER]),
         1 => random.below(20) as u16,
         _ => random.word(),
     })
+}
+
+/// Such a store. Of the other nodes some are worn, and one is free.
+pub fn sound(random: &mut Random, shape: Shape, lists: &[Vec<usize>]) -> Vec<u16> {
+    let words = unworn(random, shape, lists);
+    wear(random, words, 1)
 }
 
 /// A value to put at word `i` of a cell.
@@ -37,7 +33,7 @@ fn value(random: &mut Random, shape: Shape, i: usize, right: u16) -> u16 {
         (_, 0) => random.pick(&[0, 1, 65_535]),
         (_, 1) => right ^ 1 << random.below(16),
         (0, 2..=5) => IDENTIFIER + random.below(shape.lists) as u16,
-        (0, _) => 0,
+        (0, _) => random.pick(&[0, WORN]),
         _ => random.below(shape.lists + shape.nodes + 1) as u16,
     }
 }
@@ -53,9 +49,10 @@ pub fn record(random: &mut Random, width: usize) -> Vec<u8> {
     bytes_of(&(0..width).map(|_| random.word()).collect::<Vec<_>>())
 }
 
-/// By turns an insert, a delete and an insert of some records. It is not refused, but if it must: no node is free, or every list is
-/// empty.
-pub fn edit(random: &mut Random, shape: Shape, lists: &[Vec<usize>], turn: usize) -> Call {
+/// By turns an insert, a delete and an insert of some records, on a sound store of these lists. It is not refused, but if it must: no
+/// node is free, or every list is empty.
+pub fn edit(random: &mut Random, sound: &[u16], lists: &[Vec<usize>], turn: usize) -> Call {
+    let shape = open(sound).expect("a store");
     let list = random.below(shape.lists);
     if turn % 3 != 1 {
         let (position, start) = (random.between(0, lists[list].len()), shape.lists + random.below(shape.nodes));
@@ -63,8 +60,7 @@ pub fn edit(random: &mut Random, shape: Shape, lists: &[Vec<usize>], turn: usize
         if turn % 3 == 0 {
             return Call::Insert { list, position, start, record: record(random, shape.width) };
         }
-        let free = shape.nodes - lists.concat().len();
-        let number = random.between(1, free.clamp(1, 4));
+        let number = random.between(1, carriers(sound, 0).len().clamp(1, 4));
         let records = record(random, number * shape.width);
         return Call::InsertSeveral { list, position, start, records };
     }

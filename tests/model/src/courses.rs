@@ -166,6 +166,7 @@ fn recoveries(told: &mut Told, plans: &mut Plans, found: &[u16], course: Option<
 #[cfg(test)]
 mod tests {
     use super::*;
+    use crate::samples::with_worn;
     use crate::store::{store_of, Shape};
 
     /// Of a list of one node the delete is cut in five ways; the other list is empty. In all courses with an alteration in the other
@@ -183,6 +184,21 @@ mod tests {
         assert_eq!((same.digest, same.courses), (told.digest, told.courses));
         let other = Courses { call, other: (14, 77), values: vec![9] }.run(&words);
         assert_ne!(other.digest, told.digest);
+    }
+
+    /// Beside worn nodes, one of them with links that fit: no course that must end so is refused, and the nodes stay as they are.
+    #[test]
+    fn beside_worn_nodes() {
+        let shape = Shape::new(2, 4, 1);
+        let mut words = with_worn(store_of(shape, &[vec![2], vec![4]], || 0), &[3]);
+        words[shape.node(3)][1..].copy_from_slice(&[0, 2, 9]);
+        for start in [0, 3] {
+            let call = Call { list: 0, position: 0, start, record: 8 };
+            let told = Courses { call, other: (65_535, 0), values: vec![3, 9, 65_535] }.run(&words);
+            assert!(told.demanded > 100 && told.demanded < told.courses, "{} of {}", told.demanded, told.courses);
+            let free = Courses { call, other: (shape.cell(3) as u16, 0), values: vec![3, 9, 65_535] }.run(&words);
+            assert_ne!(told.digest, free.digest);
+        }
     }
 
     #[test]

@@ -2,10 +2,10 @@
 //!
 //! A sequence of different nodes fits a list if at most one word differs from what it asks of the header and of its members.
 //! If one alone fits each list, the differing words are stored, list 0 first, then 0 to each identifier of a node in none
-//! of them that is not 0, lowest cell first.
+//! of them that is neither 0 nor 65,535, lowest cell first.
 
-use crate::store::{identifier_of, lists, make, open, sequences, walk, Answer, Shape, WordStore};
-use std::collections::{BTreeSet, HashSet};
+use crate::store::{identifier_of, in_no_list, lists, make, open, sequences, walk, Answer, Shape, WordStore, WORN};
+use std::collections::BTreeSet;
 
 /// In stores of at most so many nodes the fitting sequences are found by enumeration too.
 const FEW_NODES: usize = 4;
@@ -73,10 +73,9 @@ fn fitting_lists(words: &[u16]) -> Result<(Shape, Vec<Vec<usize>>), u16> {
     Ok((shape, lists))
 }
 
-/// The nodes in none of the lists that carry an identifier, lowest first.
+/// The nodes in none of the lists that are neither free nor worn, lowest first.
 fn orphans(words: &[u16], shape: Shape, lists: &[Vec<usize>]) -> Vec<usize> {
-    let members: HashSet<usize> = lists.iter().flatten().copied().collect();
-    shape.node_cells().filter(|i| !members.contains(i) && words[shape.cell(*i)] != 0).collect()
+    in_no_list(shape, lists).into_iter().filter(|&cell| ![0, WORN].contains(&words[shape.cell(cell)])).collect()
 }
 
 /// The stores of recover in their order, or the number of the refusal. All made, they leave a sound store of the sequences
@@ -127,6 +126,8 @@ pub struct Course {
     found: Vec<u16>,
     /// The store that they must leave.
     last: Vec<u16>,
+    /// The words of the worn nodes before the call: places and values.
+    worn: Vec<WordStore>,
     /// The number of their stores so far.
     stores: usize,
 }
@@ -144,8 +145,7 @@ impl Course {
             let (words, sequence) = if k == usize::from(list) { (new, &after[k]) } else { (sound, &before[k]) };
             let header = shape.cell(k)..shape.cell(k) + 4;
             last[header.clone()].copy_from_slice(&words[header]);
-            for &cell in sequence {
-                let node = shape.cell(cell)..shape.cell(cell) + 3 + shape.width;
+            for node in sequence.iter().map(|&cell| shape.node(cell)) {
                 last[node.clone()].copy_from_slice(&words[node]);
             }
             members.push(sequence.clone());
@@ -153,7 +153,9 @@ impl Course {
         for cell in orphans(found, shape, &members) {
             last[shape.cell(cell)] = 0;
         }
-        Course { found: found.to_vec(), last, stores: 0 }
+        let worn = shape.node_cells().filter(|&cell| sound[shape.cell(cell)] == WORN);
+        let worn = worn.flat_map(|cell| shape.node(cell)).map(|at| (at, sound[at])).collect();
+        Course { found: found.to_vec(), last, worn, stores: 0 }
     }
 
     /// After a recover call.
@@ -174,6 +176,7 @@ impl Course {
     /// At the end, the last recover call done.
     pub fn ended(&self, words: &[u16]) {
         assert_eq!(words, self.last, "a course does not end as it must");
+        assert!(self.worn.iter().all(|&(at, value)| words[at] == value), "a worn node is not as it was: {words:?}");
         let changed = (0..words.len()).filter(|&i| words[i] != self.found[i]).count();
         assert_eq!(self.stores, changed, "the numbers of stores do not add up");
     }
@@ -183,7 +186,9 @@ impl Course {
 mod tests {
     use super::*;
     use crate::random::Random;
+    use crate::samples::{carriers, deal, wear, with_worn};
     use crate::store::{check, delete, format, insert, insert_several, store_of};
+    use std::collections::HashSet;
 
     const ENOUGH: u16 = 65_535;
 
@@ -267,15 +272,52 @@ mod tests {
         }
     }
 
-    fn deal(random: &mut Random, shape: Shape) -> Vec<Vec<usize>> {
-        let mut cells: Vec<usize> = shape.node_cells().collect();
-        random.shuffle(&mut cells);
+    /// Worn is judged after membership: a member or header with identifier 65,535 is mended; of the nodes in no list those with it keep
+    /// all words.
+    #[test]
+    fn worn_nodes() {
+        let shape = Shape::new(1, 2, 1);
+        let words = store_of(shape, &[vec![1]], || 0);
+        stores(&with(&words, &[(12, WORN), (16, 7)]), &[(12, 42_400), (16, 0)]);
+        stores(&with(&words, &[(12, WORN), (16, WORN)]), &[(12, 42_400)]);
+        stores(&with(&words, &[(16, WORN), (17, 0), (18, 0)]), &[]);
+        let shape = Shape::new(3, 8, 2);
+        let sound = with_worn(store_of(shape, &[vec![7, 3], vec![], vec![10]], || 9), &[5, 8]);
+        stores(&sound, &[]);
+        let identifier = |cell| shape.cell(cell);
+        let altered = [(identifier(7), WORN), (identifier(1), WORN), (identifier(10), WORN)];
+        stores(&with(&sound, &altered), &altered.map(|(at, _)| (at, sound[at])));
+        let others = [(identifier(4), 7), (identifier(6), WORN), (identifier(8), WORN - 1), (identifier(9), 42_400)];
+        let cleared = [(identifier(4), 0), (identifier(8), 0), (identifier(9), 0)];
+        stores(&with(&sound, &others), &cleared);
+        let mended = altered.map(|(at, _)| (at, sound[at]));
+        stores(&with(&with(&sound, &others), &altered), &[&mended[..], &cleared].concat());
+        stores(&with(&sound, &[(identifier(5), 0)]), &[]);
+        stores(&with(&sound, &[(identifier(5), 42_401)]), &[(identifier(5), 0)]);
+    }
+
+    /// A cut insert uses no worn node, and what it leaves of one is as it was; of the node that it uses recovery clears the identifier.
+    #[test]
+    fn cut_beside_worn_nodes() {
+        let shape = Shape::new(1, 4, 1);
+        let mut sound = with_worn(store_of(shape, &[vec![1]], || 0), &[2, 4]);
+        sound[17..20].copy_from_slice(&[0, 1, 9]);
+        let cut = |allowance| {
+            let mut words = sound.clone();
+            insert(&mut words, 0, 1, 2, &[5], allowance);
+            words
+        };
+        stores(&cut(4), &[(20, 0)]);
+        stores(&cut(5), &[(11, 1), (20, 0)]);
+        stores(&cut(6), &[(10, 3)]);
+        assert!((0..8).all(|allowance| carriers(&cut(allowance), WORN) == [2, 4]));
+        assert!((0..8).all(|allowance| cut(allowance)[16..20] == sound[16..20]));
+    }
+
+    /// Lists of some of the nodes.
+    fn random_lists(random: &mut Random, shape: Shape) -> Vec<Vec<usize>> {
         let used = random.between(0, shape.nodes);
-        let mut lists = vec![vec![]; shape.lists];
-        for &cell in &cells[..used] {
-            lists[random.below(shape.lists)].push(cell);
-        }
-        lists
+        deal(random, shape, used)
     }
 
     /// A value that may well stand at word `i` of a cell.
@@ -283,7 +325,7 @@ mod tests {
         match (i, random.below(8)) {
             (_, 0) => random.pick(&[0, 1, 65_535]),
             (0, 1..=4) => identifier_of(random.below(shape.lists)),
-            (0, _) => 0,
+            (0, _) => random.pick(&[0, WORN]),
             _ => random.below(shape.lists + shape.nodes + 1) as u16,
         }
     }
@@ -296,8 +338,8 @@ mod tests {
         let mut seen = [0; 3];
         for turn in 0..40_000 {
             let shape = Shape::new(random.between(1, 3), random.between(1, 4), 1);
-            let dealt = deal(&mut random, shape);
-            let mut words = store_of(shape, &dealt, || 0);
+            let dealt = random_lists(&mut random, shape);
+            let mut words = wear(&mut random, store_of(shape, &dealt, || 0), 0);
             let changes = if turn % 10 == 0 { 40 } else { random.between(0, 6) };
             for _ in 0..changes {
                 let cell = random.below(shape.lists + shape.nodes);
@@ -305,7 +347,7 @@ mod tests {
                 words[shape.cell(cell) + i] = value(&mut random, shape, i);
             }
             if turn % 3 == 0 {
-                let (list, other) = (random.below(shape.lists), deal(&mut random, shape));
+                let (list, other) = (random.below(shape.lists), random_lists(&mut random, shape));
                 let forward: HashSet<usize> = (0..shape.lists + shape.nodes).map(|i| shape.cell(i) + 1).collect();
                 for (at, value) in asked(shape, list, &other[list]) {
                     if !forward.contains(&at) || random.below(4) == 0 {
@@ -338,8 +380,9 @@ mod tests {
         for turn in 0..10_000 {
             let nodes = random.between(1, if turn % 4 == 0 { 12 } else { 5 });
             let shape = Shape::new(random.between(1, if turn % 5 == 0 { 8 } else { 3 }), nodes, random.between(1, 3));
-            let lists = deal(&mut random, shape);
+            let lists = random_lists(&mut random, shape);
             let sound = store_of(shape, &lists, || random.word());
+            let sound = wear(&mut random, sound, turn % 2);
             let beyond = usize::from(random.below(20) == 0);
             let named = random.below(shape.lists + beyond);
             let position = random.between(0, lists.get(named).map_or(0, |s| s.len())) as u16;

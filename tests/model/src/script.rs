@@ -25,6 +25,7 @@ pub enum Operation {
     Recover { allowance: u16 },
     AllCourses(Courses),
     InsertSeveral { list: u16, position: u16, start: u16, size: u16, repeated: Vec<u16>, allowance: u16 },
+    MarkWorn { cell: u16 },
 }
 
 use Operation::*;
@@ -50,6 +51,7 @@ impl Operation {
             InsertSeveral { list, position, start, size, ref repeated, allowance } => {
                 [&[12, list, position, start, size, repeated.len() as u16], &repeated[..], &[allowance]].concat()
             }
+            MarkWorn { cell } => vec![13, cell],
         }
     }
 
@@ -78,6 +80,7 @@ impl Operation {
                 let (repeated, &allowance) = (rest.get(..n.into())?.to_vec(), rest.get(usize::from(n))?);
                 InsertSeveral { list, position, start, size, repeated, allowance }
             }
+            [13, cell, ..] => MarkWorn { cell },
             _ => return None,
         })
     }
@@ -141,6 +144,10 @@ impl Operation {
                 let call = format!("insert_several {list} {position} {start} {size} {allowance}");
                 vec![Line::ended(&SEVERAL, answer, allowance, call), words_line(words)]
             }
+            MarkWorn { cell } => {
+                let answer = store::mark_worn(words, cell);
+                vec![Line::ended(&MARK, answer, 1, format!("mark_worn {cell}")), words_line(words)]
+            }
         }
     }
 }
@@ -196,16 +203,17 @@ impl Line {
     }
 }
 
-/// The ends of the calls that store; refused without an allowance is one of its own.
+/// The ends of the calls that store; refused without an allowance is one of its own. Mark_worn has none, and makes its one store.
 const INSERT: [&str; 4] = ["insert done", "insert stopped", "insert refused with 0", "insert refused"];
 const DELETE: [&str; 4] = ["delete done", "delete stopped", "delete refused with 0", "delete refused"];
 const SEVERAL: [&str; 4] =
     ["insert_several done", "insert_several stopped", "insert_several refused with 0", "insert_several refused"];
 const RECOVER: [&str; 4] = ["recover done", "recover stopped", "recover refused with 0", "recover refused"];
+const MARK: [&str; 4] = ["mark_worn done", "mark_worn stopped", "mark_worn refused with 0", "mark_worn refused"];
 
 /// The answer numbers that each call can give; of the numbers of stores of recover and of an insert of several records, those of small
 /// stores and the most.
-pub const ANSWERS: [(&str, &[u16]); 21] = [
+pub const ANSWERS: [(&str, &[u16]); 23] = [
     ("format", &[0, 3, 4]),
     ("check", &[0, 1, 2, 3, 4, 6]),
     ("length", &[0, 1, 2, 3, 4, 5, 6]),
@@ -229,6 +237,8 @@ pub const ANSWERS: [(&str, &[u16]); 21] = [
     (RECOVER[1], &[0, 1, 2, 3, 4, 5, 6, 7, 8, 9, 10, 11, 12, 13, 2007]),
     (RECOVER[2], &[1, 2, 3, 4, 11, 12]),
     (RECOVER[3], &[1, 2, 3, 4, 11, 12]),
+    (MARK[0], &[1]),
+    (MARK[3], &[1, 2, 3, 4, 6, 8, 13]),
     ("courses", &[0]),
 ];
 
@@ -283,6 +293,7 @@ mod tests {
             }),
             InsertSeveral { list: 2, position: 4, start: 5, size: 0, repeated: vec![7], allowance: 6 },
             InsertSeveral { list: 2, position: 4, start: 5, size: 32_100, repeated: vec![7, 8, 9], allowance: 6 },
+            MarkWorn { cell: 7 },
         ];
         for operation in all {
             let words = operation.words();
@@ -309,6 +320,20 @@ mod tests {
         for (size, n) in [(32_101, 1), (1, 0), (1, 2)] {
             assert_eq!(texts(&several(size, n)), ["bad script", "end"]);
         }
+        assert_eq!(texts(&bytes(&[13])), ["bad script", "end"]);
+        assert_eq!(texts(&bytes(&[14, 0])), ["bad script", "end"]);
+    }
+
+    /// A node is marked, and then neither marked again nor used.
+    #[test]
+    fn marks() {
+        let script = bytes(&[1, 20, 0, 4, 1, 2, 1, 13, 1, 13, 1, 8, 0, 0, 1, 1, 9, 65_535, 13, 0]);
+        let lines = texts(&script);
+        assert_eq!(lines[2..4], ["mark_worn 1 = done 1", "words = 82 66 83 1 1 2 1 0 42400 0 0 0 65535 0 0 0 0 0 0 0"]);
+        assert_eq!(lines[4], "mark_worn 1 = refused 13");
+        assert_eq!(lines[6], "insert 0 0 1 1 65535 = done 7");
+        assert_eq!(lines[7], "words = 82 66 83 1 1 2 1 0 42400 2 2 1 65535 0 0 0 42400 0 0 9");
+        assert_eq!(lines[8], "mark_worn 0 = refused 8");
     }
 
     /// Two records of one word each are inserted: the words given are repeated.

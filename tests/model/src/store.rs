@@ -1,11 +1,14 @@
 //! A store is a slice of words. Here is what its words mean, when it is sound, and what format, check, length, read, insert,
-//! insert_several and delete answer and leave. What recover does is in `recovery`.
+//! insert_several, delete and mark_worn answer and leave. What recover does is in `recovery`.
 
 use std::collections::HashSet;
 use std::ops::Range;
 
 /// The identifier of list 0.
 pub const IDENTIFIER: u16 = 42_400;
+
+/// The identifier of a worn node.
+pub const WORN: u16 = 65_535;
 
 /// Stores of at most so many nodes are judged by enumeration too.
 pub const FEW_NODES: usize = 5;
@@ -44,6 +47,11 @@ impl Shape {
         } else {
             8 + 4 * self.lists + (3 + self.width) * (i - self.lists)
         }
+    }
+
+    /// The words of a node.
+    pub fn node(self, i: usize) -> Range<usize> {
+        self.cell(i)..self.cell(i) + 3 + self.width
     }
 }
 
@@ -137,12 +145,18 @@ fn list_by_links(words: &[u16], shape: Shape, list: usize) -> Option<Vec<usize>>
     walk(words, shape, list, 1).filter(|s| is_list(words, shape, list, s))
 }
 
-/// The sequence of each list if the store is sound: every list has one, and a node in none has identifier 0.
+/// The nodes in none of the lists, lowest first.
+pub(crate) fn in_no_list(shape: Shape, lists: &[Vec<usize>]) -> Vec<usize> {
+    let members: HashSet<usize> = lists.iter().flatten().copied().collect();
+    shape.node_cells().filter(|cell| !members.contains(cell)).collect()
+}
+
+/// The sequence of each list if the store is sound: every list has one, and a node in none has identifier 0 or 65,535.
 fn sound_if(words: &[u16], shape: Shape, found: impl Fn(usize) -> Option<Vec<usize>>) -> Option<Vec<Vec<usize>>> {
     let lists: Vec<Vec<usize>> = (0..shape.lists).map(found).collect::<Option<_>>()?;
-    let members: HashSet<usize> = lists.iter().flatten().copied().collect();
-    let others_are_free = shape.node_cells().all(|i| members.contains(&i) || words[shape.cell(i)] == 0);
-    others_are_free.then_some(lists)
+    let others = in_no_list(shape, &lists);
+    let free_or_worn = others.into_iter().all(|cell| [0, WORN].contains(&words[shape.cell(cell)]));
+    free_or_worn.then_some(lists)
 }
 
 pub fn lists_by_enumeration(words: &[u16], shape: Shape) -> Option<Vec<Vec<usize>>> {
@@ -163,8 +177,8 @@ pub fn lists(words: &[u16], shape: Shape) -> Option<Vec<Vec<usize>>> {
     found
 }
 
-/// The words of a sound store whose lists have these sequences. What is free is taken from `free`: the records, and the
-/// links of nodes in no list.
+/// The words of a sound store whose lists have these sequences; no node is worn. What is free is taken from `free`: the records,
+/// and the links of nodes in no list.
 pub fn store_of(shape: Shape, lists: &[Vec<usize>], mut free: impl FnMut() -> u16) -> Vec<u16> {
     let mut words = vec![82, 66, 83, 1, shape.lists as u16, shape.nodes as u16, shape.width as u16, 0];
     words.resize(8 + 4 * shape.lists, 0);
@@ -256,11 +270,16 @@ pub(crate) fn make(words: &[u16], stores: &[WordStore], allowance: u16) -> (Answ
     (if allowance < whole { Answer::Stopped(allowance) } else { Answer::Done(whole) }, words)
 }
 
-/// The nodes in no list, counting up from the starting cell and on from cell L after the last.
-fn free_cells(shape: Shape, lists: &[Vec<usize>], start: usize) -> Vec<usize> {
-    let members: HashSet<usize> = lists.iter().flatten().copied().collect();
-    let Range { start: first, end } = shape.node_cells();
-    (start..end).chain(first..start).filter(|cell| !members.contains(cell)).collect()
+/// The nodes in no list that carry this identifier, lowest first.
+fn carrying(words: &[u16], shape: Shape, lists: &[Vec<usize>], identifier: u16) -> Vec<usize> {
+    in_no_list(shape, lists).into_iter().filter(|&cell| words[shape.cell(cell)] == identifier).collect()
+}
+
+/// The free nodes, those in no list with identifier 0, counting up from the starting cell and on from cell L after the last.
+fn free_cells(words: &[u16], shape: Shape, lists: &[Vec<usize>], start: usize) -> Vec<usize> {
+    let free = carrying(words, shape, lists, 0);
+    let (low, high) = free.split_at(free.iter().filter(|&&cell| cell < start).count());
+    [high, low].concat()
 }
 
 /// The cells before and after a place of the sequence: at its ends the header.
@@ -286,7 +305,7 @@ fn insert_plan(words: &[u16], list: u16, position: u16, start: u16, record: &[u1
     if record.len() != shape.width {
         return Err(9);
     }
-    let &cell = free_cells(shape, &lists, start.into()).first().ok_or(10u16)?;
+    let &cell = free_cells(words, shape, &lists, start.into()).first().ok_or(10u16)?;
     let sequence = &lists[usize::from(list)];
     let (before, after) = sequence.split_at(position.into());
     let (a, b) = neighbours(list.into(), before, after);
@@ -322,12 +341,22 @@ fn delete_plan(words: &[u16], list: u16, position: u16) -> Result<(usize, Vec<Wo
     Ok((cell, stores))
 }
 
-/// A sound store as plain sequences: the cell and the record of each member of each list.
-fn contents(words: &[u16]) -> Vec<Vec<(usize, Vec<u16>)>> {
+/// A sound store as plain sequences: the cell and the record of each member of each list, the cell and all words of each worn node.
+#[derive(Debug, PartialEq, Eq)]
+struct Contents {
+    lists: Vec<Vec<(usize, Vec<u16>)>>,
+    worn: Vec<(usize, Vec<u16>)>,
+}
+
+fn contents(words: &[u16]) -> Contents {
     let shape = open(words).expect("a store");
     let lists = lists(words, shape).expect("a sound store");
     let member = |&cell: &usize| (cell, record_of(words, shape, cell).to_vec());
-    lists.iter().map(|sequence| sequence.iter().map(member).collect()).collect()
+    let worn = carrying(words, shape, &lists, WORN);
+    Contents {
+        lists: lists.iter().map(|sequence| sequence.iter().map(member).collect()).collect(),
+        worn: worn.into_iter().map(|cell| (cell, words[shape.node(cell)].to_vec())).collect(),
+    }
 }
 
 /// Insert. Done, it is held against the insertion into a plain sequence.
@@ -339,7 +368,7 @@ pub fn insert(words: &mut [u16], list: u16, position: u16, start: u16, record: &
     let (answer, left) = make(words, &stores, allowance);
     if let Answer::Done(_) = answer {
         let mut expected = contents(words);
-        expected[usize::from(list)].insert(position.into(), (cell, record.to_vec()));
+        expected.lists[usize::from(list)].insert(position.into(), (cell, record.to_vec()));
         assert_eq!(contents(&left), expected, "an insert is not an insertion into a sequence");
     }
     words.copy_from_slice(&left);
@@ -352,7 +381,7 @@ fn width_of_several(words: &[u16], list: u16, position: u16, start: u16, records
     if records.is_empty() || records.len() % shape.width != 0 {
         return Err(9);
     }
-    if free_cells(shape, &lists, start.into()).len() < records.len() / shape.width {
+    if free_cells(words, shape, &lists, start.into()).len() < records.len() / shape.width {
         return Err(10);
     }
     Ok(shape.width)
@@ -393,11 +422,38 @@ pub fn delete(words: &mut [u16], list: u16, position: u16, allowance: u16) -> An
     let (answer, left) = make(words, &stores, allowance);
     if let Answer::Done(_) = answer {
         let mut expected = contents(words);
-        let (removed, _) = expected[usize::from(list)].remove(position.into());
+        let (removed, _) = expected.lists[usize::from(list)].remove(position.into());
         assert_eq!((contents(&left), cell), (expected, removed), "a delete is not a removal from a sequence");
         let (shape, lists) = lists_of(&left, list).expect("a sound store");
-        assert_eq!(free_cells(shape, &lists, cell).first(), Some(&cell), "a deleted cell is not free");
+        assert_eq!(free_cells(&left, shape, &lists, cell).first(), Some(&cell), "a deleted cell is not free");
     }
+    words.copy_from_slice(&left);
+    answer
+}
+
+/// The store of mark_worn, or the number of the refusal.
+fn mark_plan(words: &[u16], cell: u16) -> Result<WordStore, u16> {
+    let (shape, cell) = (open(words)?, usize::from(cell));
+    let lists = lists(words, shape).ok_or(6u16)?;
+    if !shape.node_cells().contains(&cell) {
+        return Err(8);
+    }
+    if free_cells(words, shape, &lists, cell).first() != Some(&cell) {
+        return Err(13);
+    }
+    Ok((shape.cell(cell), WORN))
+}
+
+/// Mark_worn: it has no allowance. Done, the lists are as they were, and so are the nodes that were worn before.
+pub fn mark_worn(words: &mut [u16], cell: u16) -> Answer {
+    let store = match mark_plan(words, cell) {
+        Err(number) => return Answer::Refused(number),
+        Ok(store) => store,
+    };
+    let (answer, left) = make(words, &[store], 1);
+    let (before, mut after) = (contents(words), contents(&left));
+    after.worn.retain(|&(worn, _)| worn != usize::from(cell));
+    assert_eq!(after, before, "a mark does more than to mark a node");
     words.copy_from_slice(&left);
     answer
 }
@@ -406,6 +462,7 @@ pub fn delete(words: &mut [u16], list: u16, position: u16, allowance: u16) -> An
 mod tests {
     use super::*;
     use crate::random::Random;
+    use crate::samples::{deal, wear, with_worn};
 
     /// C1 to C3 of docs/FORMAT.md, word by word.
     #[test]
@@ -553,16 +610,14 @@ mod tests {
         let mut random = Random::new(3);
         for _ in 0..2_000 {
             let shape = Shape::new(random.between(1, 3), random.between(1, 9), random.between(1, 3));
-            let mut cells: Vec<usize> = shape.node_cells().collect();
-            random.shuffle(&mut cells);
-            let dealt = random.below(shape.nodes);
-            let mut sequences = vec![vec![]; shape.lists];
-            cells[..dealt].iter().for_each(|&cell| sequences[random.below(shape.lists)].push(cell));
+            let used = random.below(shape.nodes);
+            let sequences = deal(&mut random, shape, used);
             let sound = store_of(shape, &sequences, || random.word());
+            let sound = wear(&mut random, sound, 1);
             let list = random.below(shape.lists);
             let position = random.between(0, sequences[list].len());
             let start = random.between(shape.lists, shape.lists + shape.nodes - 1);
-            let number = random.between(1, shape.nodes - dealt);
+            let number = random.between(1, free_cells(&sound, shape, &sequences, start).len());
             let records: Vec<u16> = (0..number * shape.width).map(|_| random.word()).collect();
             let allowance = random.between(0, number * (shape.width + 6) + 1) as u16;
             let mut words = sound.clone();
@@ -570,7 +625,7 @@ mod tests {
             let mut expected = sound.clone();
             let mut left = allowance;
             for (i, (cell, record)) in
-                free_cells(shape, &sequences, start).iter().zip(records.chunks(shape.width)).enumerate()
+                free_cells(&sound, shape, &sequences, start).iter().zip(records.chunks(shape.width)).enumerate()
             {
                 match insert(&mut expected, list as u16, (position + i) as u16, *cell as u16, record, left) {
                     Answer::Done(stores) => left -= stores,
@@ -595,13 +650,19 @@ mod tests {
     #[test]
     fn first_free_cell() {
         let shape = Shape::new(2, 5, 1);
+        let free = |lists: &[Vec<usize>], worn: &[usize], start| {
+            free_cells(&with_worn(store_of(shape, lists, || 7), worn), shape, lists, start)
+        };
         let lists = [vec![4, 2], vec![5]];
-        assert_eq!(free_cells(shape, &lists, 2), [3, 6]);
-        assert_eq!(free_cells(shape, &lists, 3), [3, 6]);
-        assert_eq!(free_cells(shape, &lists, 4), [6, 3]);
-        assert_eq!(free_cells(shape, &lists, 6), [6, 3]);
-        assert_eq!(free_cells(shape, &[vec![4, 2, 6], vec![5]], 4), [3]);
-        assert_eq!(free_cells(shape, &[vec![4, 2, 6], vec![3, 5]], 4), []);
+        assert_eq!(free(&lists, &[], 2), [3, 6]);
+        assert_eq!(free(&lists, &[], 3), [3, 6]);
+        assert_eq!(free(&lists, &[], 4), [6, 3]);
+        assert_eq!(free(&lists, &[], 6), [6, 3]);
+        assert_eq!(free(&lists, &[3], 3), [6]);
+        assert_eq!(free(&lists, &[6], 6), [3]);
+        assert_eq!(free(&lists, &[3, 6], 3), []);
+        assert_eq!(free(&[vec![4, 2, 6], vec![5]], &[], 4), [3]);
+        assert_eq!(free(&[vec![4, 2, 6], vec![3, 5]], &[], 4), []);
     }
 
     #[test]
@@ -612,13 +673,13 @@ mod tests {
     }
 
     /// Both ways of judging agree on all stores of one list and two nodes over a few values. Sound are as many as there are
-    /// sequences of two nodes, times the free links: 25 of each free node's.
+    /// sequences of two nodes, times the words of the nodes in no list: each is free or worn, and has 25 pairs of links.
     #[test]
     fn both_ways_agree() {
         let shape = Shape::new(1, 2, 1);
         let mut words = store_of(shape, &[vec![]], || 0);
         let links = [0, 1, 2, 3, 65535];
-        let identifiers = [0, 42400, 42401];
+        let identifiers = [0, 42400, 42401, WORN];
         let places: Vec<(usize, &[u16])> = (0..3)
             .flat_map(|i| [(shape.cell(i), &identifiers[..]), (shape.cell(i) + 1, &links), (shape.cell(i) + 2, &links)])
             .chain([(11, &links[..4])])
@@ -641,7 +702,7 @@ mod tests {
                 None => break,
             }
         }
-        assert_eq!(sound, 25 * 25 + 2 * 25 + 2);
+        assert_eq!(sound, 50 * 50 + 2 * 50 + 2);
     }
 
     #[test]
@@ -652,6 +713,24 @@ mod tests {
         random.shuffle(&mut cells);
         let lists = vec![cells[..20].to_vec(), vec![], cells[20..30].to_vec()];
         let words = store_of(shape, &lists, || random.word());
-        assert_eq!(super::lists(&words, shape), Some(lists));
+        assert_eq!(super::lists(&words, shape), Some(lists.clone()));
+        assert_eq!(super::lists(&with_worn(words, &cells[30..]), shape), Some(lists));
+    }
+
+    /// Of the cells of a small store, those that can be marked: node 4 alone. A second mark is refused, and so are header, member and
+    /// what is no cell. Nothing is stored then.
+    #[test]
+    fn marked_cells() {
+        let shape = Shape::new(2, 3, 2);
+        let sound = with_worn(store_of(shape, &[vec![3], vec![]], || 7), &[2]);
+        for (cell, number) in [(0, 8), (1, 8), (2, 13), (3, 13), (5, 8), (6, 8), (65_535, 8)] {
+            let mut words = sound.clone();
+            assert_eq!(mark_worn(&mut words, cell), Answer::Refused(number));
+            assert_eq!(words, sound);
+        }
+        let mut words = sound.clone();
+        assert_eq!(mark_worn(&mut words, 4), Answer::Done(1));
+        assert_eq!(changes(&sound, &words), [(26, 65_535)]);
+        assert_eq!(mark_worn(&mut words, 4), Answer::Refused(13));
     }
 }

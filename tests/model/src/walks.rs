@@ -100,6 +100,7 @@ pub fn delete_stores(words: &[u16], list: usize, position: usize) -> Vec<WordSto
 mod tests {
     use super::*;
     use crate::random::Random;
+    use crate::samples::wear;
     use crate::store::{delete, insert, lists, make, read, store_of};
 
     /// A sound store, and the ring of one of its lists: the header and the members.
@@ -111,13 +112,15 @@ mod tests {
     }
 
     impl Ring {
-        /// In a store whose lists have so many members each; so many nodes are free. The cells are dealt at random.
-        fn new(random: &mut Random, lengths: &[usize], list: usize, free: usize) -> Ring {
-            let shape = Shape::new(lengths.len(), lengths.iter().sum::<usize>() + free, random.between(1, 3));
+        /// In a store whose lists have so many members each; so many nodes are in none, and some of them worn. The cells are dealt at
+        /// random.
+        fn new(random: &mut Random, lengths: &[usize], list: usize, others: usize) -> Ring {
+            let shape = Shape::new(lengths.len(), lengths.iter().sum::<usize>() + others, random.between(1, 3));
             let mut nodes: Vec<usize> = shape.node_cells().collect();
             random.shuffle(&mut nodes);
             let sequences: Vec<Vec<usize>> = lengths.iter().map(|&n| nodes.drain(..n).collect()).collect();
             let words = store_of(shape, &sequences, || random.word());
+            let words = wear(random, words, 1);
             assert_eq!(lists(&words, shape).as_ref(), Some(&sequences));
             Ring { words, shape, list, cells: [&[list][..], &sequences[list]].concat() }
         }
@@ -160,11 +163,11 @@ mod tests {
         let mut random = Random::new(5);
         let mut rings = vec![];
         for n in 0..=9 {
-            for free in [1, 4] {
-                rings.push(Ring::new(&mut random, &[n], 0, free));
-                rings.push(Ring::new(&mut random, &[n, 2, 0], 0, free));
-                rings.push(Ring::new(&mut random, &[3, n, 1], 1, free));
-                rings.push(Ring::new(&mut random, &[0, 1, 4, 2, 3, 1, 2, n], 7, free));
+            for others in [1, 4] {
+                rings.push(Ring::new(&mut random, &[n], 0, others));
+                rings.push(Ring::new(&mut random, &[n, 2, 0], 0, others));
+                rings.push(Ring::new(&mut random, &[3, n, 1], 1, others));
+                rings.push(Ring::new(&mut random, &[0, 1, 4, 2, 3, 1, 2, n], 7, others));
             }
         }
         rings
@@ -192,12 +195,12 @@ mod tests {
         }
     }
 
-    /// The longest lists: alone in the store, beside empty lists and beside a member of another.
+    /// The longest lists: alone in the store, beside empty lists and worn nodes, and beside a member of another.
     #[test]
     fn longest() {
         let mut random = Random::new(6);
-        for (lengths, list) in [(&[2000][..], 0), (&[0, 0, 0, 0, 0, 2000, 0, 0], 5), (&[1, 1999], 1)] {
-            let ring = Ring::new(&mut random, lengths, list, 0);
+        for (lengths, list) in [(&[2000][..], 0), (&[0, 0, 0, 0, 0, 1991, 0, 0], 5), (&[1, 1999], 1)] {
+            let ring = Ring::new(&mut random, lengths, list, 2000 - lengths.iter().sum::<usize>());
             for q in 0..=ring.n() {
                 let links = ring.links(q);
                 for budget in [0, links.saturating_sub(1), links, half(ring.n()), ring.n() + 1] {

@@ -13,6 +13,9 @@ enum-known-f c = search needs
 cast-if1 : tie.Need-cast-if1
 cast-if1 c = search needs
 
+returns : tie.Need-returns
+returns c = rw (c .before .before .f .given .1, ne-eqb _ _ (c .if1 .taken))
+
 cast-cell : tie.Need-cast-cell
 cast-cell c = search needs
 
@@ -29,11 +32,8 @@ in-use-requires c κs = tt
 enum-told-2 : tie.Need-enum-told-2
 enum-told-2 c = search needs
 
-returns : tie.Need-returns
-returns c = search needs
-
 returns-2 : tie.Need-returns-2
-returns-2 c = rw (c .before .before .f .given .1, ne-eqb _ _ (c .if1 .taken))
+returns-2 c = search needs
 
 returns-3 : tie.Need-returns-3
 returns-3 c =
@@ -51,11 +51,11 @@ carried-spec =
     enum-told
     enum-known-f
     cast-if1
+    returns
     cast-cell
     cell-requires
     in-use-requires
     enum-told-2
-    returns
     returns-2
     returns-3
     returns-4)

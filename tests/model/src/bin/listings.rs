@@ -2,6 +2,7 @@
 
 use model::listing::{listing, MOST_BYTES};
 use model::random::Random;
+use model::samples::{carriers, deal, wear, with_worn};
 use model::store::{delete, insert, store_of, Shape, IDENTIFIER};
 use std::io::Write;
 use std::process::{Command, ExitCode, Stdio};
@@ -23,16 +24,6 @@ fn run(program: &str, input: &[u8]) -> String {
         return format!("ended with {}", output.status);
     }
     String::from_utf8_lossy(&output.stdout).into_owned()
-}
-
-fn deal(random: &mut Random, shape: Shape, used: usize) -> Vec<Vec<usize>> {
-    let mut cells: Vec<usize> = shape.node_cells().collect();
-    random.shuffle(&mut cells);
-    let mut lists = vec![vec![]; shape.lists];
-    for &cell in &cells[..used] {
-        lists[random.below(shape.lists)].push(cell);
-    }
-    lists
 }
 
 /// The inputs, each with a name.
@@ -71,12 +62,18 @@ fn inputs() -> Vec<(String, Vec<u8>)> {
         let used = random.between(0, shape.nodes);
         let dealt = deal(&mut random, shape, used);
         let words = store_of(shape, &dealt, || random.pick(&[0, 9, 10, 99, 100, 999, 1000, 9999, 10_000, 65_535, 42_400]));
+        let words = wear(&mut random, words, turn % 2);
         add(&format!("random store {turn}"), bytes(&words));
+        add(&format!("random store {turn}, none free"), bytes(&with_worn(words.clone(), &carriers(&words, 0))));
     }
     let largest = Shape::new(8, 2000, 13);
-    for (name, word) in [("the largest store", 65_535), ("the largest store of zeros", 0)] {
-        let dealt = deal(&mut random, largest, 2000);
-        let words = store_of(largest, &dealt, || word);
+    for (name, word, used) in [
+        ("the largest store", 65_535, 2000),
+        ("the largest store of zeros", 0, 2000),
+        ("the largest store beside worn nodes", 65_535, 1900),
+    ] {
+        let dealt = deal(&mut random, largest, used);
+        let words = wear(&mut random, store_of(largest, &dealt, || word), 1);
         assert_eq!(words.len() * 2, MOST_BYTES);
         add(name, bytes(&words));
         add(&format!("{name} and a byte"), [bytes(&words), vec![0]].concat());

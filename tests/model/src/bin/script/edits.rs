@@ -2,8 +2,9 @@
 
 use crate::{altered, values_for, Script};
 use model::recovery::{due_of_delete, due_of_insert};
+use model::samples::{all_lists_and_worn, carriers, with_worn};
 use model::script::{Operation, Operation::*, LONGEST};
-use model::store::{self, all_lists, store_of, Shape, IDENTIFIER};
+use model::store::{self, store_of, Shape, IDENTIFIER, WORN};
 
 /// No call needs a larger allowance.
 pub const ENOUGH: u16 = 65_535;
@@ -174,11 +175,11 @@ pub fn short_stores(s: &mut Script) {
     }
 }
 
-/// One list and one node, empty and full: every argument that is right and those just beyond.
+/// One list and one node, which is free, a member or worn: every argument that is right and those just beyond.
 pub fn smallest_stores(s: &mut Script) {
     let shape = Shape::new(1, 1, 1);
-    for sequence in [vec![], vec![1]] {
-        let words = s.sound(shape, &[sequence]);
+    for (sequence, worn) in [(vec![], &[][..]), (vec![1], &[]), (vec![], &[1])] {
+        let words = s.sound_with(shape, &[sequence], worn);
         s.load(&words);
         for (list, position) in [(0, 0), (0, 1), (0, 2), (1, 0), (1, 1)] {
             for allowance in [0, ENOUGH] {
@@ -201,9 +202,8 @@ pub fn smallest_stores(s: &mut Script) {
 pub fn small_stores(s: &mut Script) {
     for (lists, nodes) in [(1, 2), (1, 3), (2, 2), (2, 3)] {
         let shape = Shape::new(lists, nodes, 1);
-        for lists in all_lists(lists, &shape.node_cells().collect::<Vec<_>>()) {
-            let words = store_of(shape, &lists, || 0);
-            s.load(&words);
+        for (lists, worn) in all_lists_and_worn(shape) {
+            s.load(&with_worn(store_of(shape, &lists, || 0), &worn));
             for (list, sequence) in lists.iter().enumerate() {
                 for position in 0..=sequence.len() + 1 {
                     let start = s.node(shape);
@@ -259,7 +259,8 @@ pub fn cuts(s: &mut Script) {
     }
 }
 
-/// A record deleted and inserted again in the same cell: the stores of the record and the links change nothing, and count.
+/// A record deleted and inserted again in the same cell: the stores of the record and the links change nothing, and count. All other
+/// nodes are members or worn.
 pub fn equal_values(s: &mut Script) {
     for (lists, nodes, width, position) in [(1, 1, 1, 0), (1, 3, 2, 2), (2, 4, 3, 1), (3, 6, 13, 0)] {
         let shape = Shape::new(lists, nodes, width);
@@ -267,7 +268,7 @@ pub fn equal_values(s: &mut Script) {
         s.random.shuffle(&mut cells);
         let mut sequences = vec![vec![]; lists];
         sequences[lists - 1] = cells[..nodes.min(3)].to_vec();
-        let words = s.sound(shape, &sequences);
+        let words = s.sound_with(shape, &sequences, &cells[nodes.min(3)..]);
         s.load(&words);
         let (list, start) = (lists - 1, sequences[lists - 1][position]);
         let record = store::read(&words, list as u16, position as u16).expect("a member").to_vec();
@@ -276,15 +277,30 @@ pub fn equal_values(s: &mut Script) {
     }
 }
 
-/// The search of a free cell: every set of free cells and every starting cell; the only free cell just before the start.
-pub fn searches(s: &mut Script) {
-    let shape = Shape::new(3, 5, 1);
-    for used in 0..32 {
-        let mut lists = vec![vec![]; 3];
-        for cell in shape.node_cells().filter(|cell| used >> (cell - 3) & 1 == 1) {
-            lists[s.random.below(3)].push(cell);
+/// The stores in which each node is free, a member or worn, in every combination; the list of a member is random.
+pub fn every_use(s: &mut Script, shape: Shape) -> Vec<(Vec<Vec<usize>>, Vec<u16>)> {
+    let mut all = vec![];
+    for choice in 0..3usize.pow(shape.nodes as u32) {
+        let (mut choice, mut lists, mut worn) = (choice, vec![vec![]; shape.lists], vec![]);
+        for cell in shape.node_cells() {
+            match choice % 3 {
+                0 => (),
+                1 => lists[s.random.below(shape.lists)].push(cell),
+                _ => worn.push(cell),
+            }
+            choice /= 3;
         }
-        s.load(&store_of(shape, &lists, || 0));
+        let words = with_worn(store_of(shape, &lists, || 0), &worn);
+        all.push((lists, words));
+    }
+    all
+}
+
+/// The search of a free cell: every set of free and worn cells and every starting cell; the only free cell just before the start.
+pub fn searches(s: &mut Script) {
+    let shape = Shape::new(3, 4, 1);
+    for (lists, words) in every_use(s, shape) {
+        s.load(&words);
         for start in shape.node_cells() {
             let list = s.random.below(3);
             let position = s.random.between(0, lists[list].len());
@@ -293,8 +309,9 @@ pub fn searches(s: &mut Script) {
         }
     }
     let shape = Shape::new(8, 20, 2);
-    let lists = s.deal(shape, 20);
-    let full = s.sound(shape, &lists);
+    let lists = s.deal(shape, 15);
+    let full = s.sound_with(shape, &lists, &[]);
+    let full = with_worn(full.clone(), &carriers(&full, 0));
     s.load(&full);
     for (list, sequence) in lists.iter().enumerate() {
         for (position, &cell) in sequence.iter().enumerate() {
@@ -321,7 +338,7 @@ pub fn searches(s: &mut Script) {
 pub fn limits(s: &mut Script) {
     let shape = Shape::new(3, 7, 4);
     let lists = [vec![5, 3, 8], vec![], vec![4]];
-    let words = s.sound(shape, &lists);
+    let words = s.sound_with(shape, &lists, &[6]);
     s.load(&words);
     let mut edits = vec![];
     for list in [0, 1, 2, 3, 4, 7, 8, 255, 256, 257, 42_400, 65_535] {
@@ -355,7 +372,7 @@ pub fn limits(s: &mut Script) {
             s.attempt(&edit, allowance);
         }
     }
-    let full = s.sound(shape, &[vec![5, 3, 8, 9], vec![7], vec![4, 6]]);
+    let full = s.sound_with(shape, &[vec![5, 3, 8, 9], vec![7], vec![4]], &[6]);
     s.load(&full);
     for edit in &edits {
         let allowance = s.random.pick(&[0, ENOUGH]);
@@ -366,8 +383,8 @@ pub fn limits(s: &mut Script) {
 /// Several reasons to refuse at once, in every combination: the first question decides.
 pub fn several_reasons(s: &mut Script) {
     let shape = Shape::new(2, 10, 3);
-    let roomy = s.sound(shape, &[vec![7, 2, 9], vec![4]]);
-    let full = s.sound(shape, &[vec![7, 2, 9, 3, 5, 6], vec![4, 8, 10, 11]]);
+    let roomy = s.sound_with(shape, &[vec![7, 2, 9], vec![4]], &[3, 11]);
+    let full = s.sound_with(shape, &[vec![7, 2, 9, 3], vec![4, 8, 10]], &[5, 6, 11]);
     for reasons in 0..512 {
         let has = |i: usize| reasons >> (8 - i) & 1 == 1;
         let mut words = if has(0) { full.clone() } else { roomy.clone() };
@@ -436,15 +453,19 @@ pub fn random_edit(s: &mut Script, shape: Shape, lists: &[Vec<usize>], growing: 
 }
 
 /// Inserts and deletes, by turns more of these and more of those, so that the lists fill and empty. A call that is cut and
-/// leaves a store that is not sound is taken back.
+/// leaves a store that is not sound is taken back. Up to a third of the nodes are marked worn on the way.
 fn history(s: &mut Script, shape: Shape, calls: usize) {
     formatted(s, shape);
     let mut growing = true;
     for turn in 1..=calls {
         let lists = store::lists(&s.words, shape).expect("a sound store");
-        let used = lists.concat().len();
+        let free = carriers(&s.words, 0);
         if s.random.below(3) == 0 {
-            growing = used == 0 || (growing && used < shape.nodes);
+            growing = lists.concat().is_empty() || (growing && !free.is_empty());
+        }
+        if s.random.below(30) == 0 && !free.is_empty() && carriers(&s.words, WORN).len() < shape.nodes / 3 {
+            let cell = s.random.pick(&free) as u16;
+            s.add(MarkWorn { cell });
         }
         let words = s.words.clone();
         let edit = random_edit(s, shape, &lists, growing);
@@ -486,7 +507,7 @@ pub fn histories(s: &mut Script) {
     }
 }
 
-/// The largest store: empty, with three nodes left, and full.
+/// The largest store: empty, with three nodes left beside worn ones, and full.
 pub fn largest(s: &mut Script) {
     let shape = Shape::new(8, 2000, 13);
     formatted(s, shape);
@@ -496,8 +517,11 @@ pub fn largest(s: &mut Script) {
     }
     let insertion = s.insertion(shape, 0, 0, 2007);
     s.cut(shape, &insertion);
-    let lists = s.deal(shape, 1997);
-    s.load(&store_of(shape, &lists, || 0));
+    let lists = s.deal(shape, 1990);
+    let words = store_of(shape, &lists, || 0);
+    let mut others = carriers(&words, 0);
+    s.random.shuffle(&mut others);
+    s.load(&with_worn(words, &others[3..]));
     for (list, position) in [(0, 0), (3, lists[3].len() / 2), (7, lists[7].len())] {
         let start = s.node(shape);
         let insertion = s.insertion(shape, list, position, start);

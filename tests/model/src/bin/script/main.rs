@@ -3,10 +3,12 @@
 mod edits;
 mod recoveries;
 mod several;
+mod worn;
 
 use model::random::Random;
+use model::samples::{deal, wear, with_worn};
 use model::script::{Operation, Operation::*, CAPACITY};
-use model::store::{self, store_of, Shape, IDENTIFIER};
+use model::store::{self, store_of, Shape, IDENTIFIER, WORN};
 use std::io::Write;
 use std::ops::Range;
 
@@ -66,20 +68,25 @@ impl Script {
         }
     }
 
-    /// A sound store of these lists, with random records and free links.
+    /// A sound store of these lists and worn nodes, with random records and free links.
+    fn sound_with(&mut self, shape: Shape, lists: &[Vec<usize>], worn: &[usize]) -> Vec<u16> {
+        with_worn(store_of(shape, lists, || self.random.word()), worn)
+    }
+
+    /// A sound store of these lists, with random records and free links. Of the other nodes some are worn, and one is free.
     fn sound(&mut self, shape: Shape, lists: &[Vec<usize>]) -> Vec<u16> {
-        store_of(shape, lists, || self.random.word())
+        let words = self.sound_with(shape, lists, &[]);
+        wear(&mut self.random, words, 1)
+    }
+
+    /// The same with records of 0, and 0 in the free links of most nodes.
+    fn plain(&mut self, shape: Shape, lists: &[Vec<usize>]) -> Vec<u16> {
+        wear(&mut self.random, store_of(shape, lists, || 0), 1)
     }
 
     /// Deals `used` nodes to the lists, in random order.
     fn deal(&mut self, shape: Shape, used: usize) -> Vec<Vec<usize>> {
-        let mut cells: Vec<usize> = shape.node_cells().collect();
-        self.random.shuffle(&mut cells);
-        let mut lists = vec![vec![]; shape.lists];
-        for &cell in &cells[..used] {
-            lists[self.random.below(shape.lists)].push(cell);
-        }
-        lists
+        deal(&mut self.random, shape, used)
     }
 }
 
@@ -132,9 +139,10 @@ fn garbage(s: &mut Script) {
         let shape = Shape::new(s.random.between(1, 4), s.random.between(1, 6), s.random.between(1, 3));
         let mut words = store_of(shape, &vec![vec![]; shape.lists], || 0);
         for word in &mut words[8..] {
-            *word = match s.random.below(4) {
+            *word = match s.random.below(5) {
                 0 => s.random.word(),
                 1 => IDENTIFIER + s.random.below(shape.lists) as u16,
+                2 => s.random.pick(&[0, WORN]),
                 _ => s.random.below(shape.lists + shape.nodes) as u16,
             };
         }
@@ -146,8 +154,8 @@ fn garbage(s: &mut Script) {
 
 /// Each of the first eight words altered, alone and with another.
 fn heads(s: &mut Script) {
-    let shape = Shape::new(2, 3, 2);
-    let words = s.sound(shape, &[vec![4, 2], vec![3]]);
+    let shape = Shape::new(2, 4, 2);
+    let words = s.sound_with(shape, &[vec![4, 2], vec![3]], &[5]);
     s.load(&words);
     s.ask(0, 1);
     for (at, &right) in words[..8].iter().enumerate() {
@@ -231,14 +239,20 @@ fn marked_store(s: &mut Script) {
     s.ask_with(&[(22, 0), (9, 3), (11, 1), (16, 0)], 0, 0);
     s.ask_with(&[(9, 9), (10, 9)], 0, 0);
     s.ask_with(&[(20, 0), (17, 0), (10, 2), (11, 1), (12, 42_400), (9, 1)], 0, 0);
+    for value in [WORN, WORN - 1] {
+        s.ask_with(&[(12, value)], 0, 0);
+        s.ask_with(&[(16, value)], 0, 0);
+        s.ask_with(&[(8, value)], 0, 0);
+        s.ask_with(&[(22, 0), (9, 3), (11, 1), (16, value)], 0, 0);
+    }
 }
 
 /// All stores of one list and one node whose header and node hold certain values: each differs from the last in one word.
 fn smallest_stores(s: &mut Script) {
     let shape = Shape::new(1, 1, 1);
-    let identifiers = [IDENTIFIER, 0, IDENTIFIER + 1];
-    let links = [0, 1, 2];
-    let places = [(8, identifiers), (9, links), (10, links), (11, links), (12, identifiers), (13, links), (14, links)];
+    let (identifiers, links) = ([IDENTIFIER, 0, IDENTIFIER + 1, WORN], [0, 1, 2]);
+    let places: [(usize, &[u16]); 7] =
+        [(8, &identifiers[..3]), (9, &links), (10, &links), (11, &links), (12, &identifiers), (13, &links), (14, &links)];
     let words = s.sound(shape, &[vec![]]);
     s.load(&altered(&words, &places.map(|(at, values)| (at, values[0]))));
     let mut digits = [0usize; 7];
@@ -249,7 +263,7 @@ fn smallest_stores(s: &mut Script) {
             s.ask(0, 0);
             s.ask(0, 1);
         }
-        let i = match (0..7).find(|&i| digits[i] != if up[i] { 2 } else { 0 }) {
+        let i = match (0..7).find(|&i| digits[i] != if up[i] { places[i].1.len() - 1 } else { 0 }) {
             Some(i) => i,
             None => break,
         };
@@ -308,7 +322,7 @@ fn values_for(shape: Shape, header: bool, i: usize, right: u16) -> Vec<u16> {
 /// the store sound.
 fn altered_words(s: &mut Script) {
     for (lists, nodes, width, used) in
-        [(1, 1, 1, 1), (1, 3, 1, 2), (2, 3, 2, 3), (2, 5, 1, 4), (3, 5, 2, 3), (4, 7, 1, 5), (8, 10, 3, 9)]
+        [(1, 1, 1, 1), (1, 3, 1, 1), (2, 3, 2, 3), (2, 5, 1, 3), (3, 5, 2, 3), (4, 7, 1, 5), (8, 10, 3, 8)]
     {
         let shape = Shape::new(lists, nodes, width);
         let dealt = s.deal(shape, used);
@@ -333,12 +347,12 @@ fn altered_words(s: &mut Script) {
     }
 }
 
-/// Kinds of damage that take several words, on two lists of three members and one list of none.
+/// Kinds of damage that take several words, on two lists of three members and one list of none. Node 6 is free, node 8 worn.
 fn damage(s: &mut Script) {
     let shape = Shape::new(3, 8, 1);
     let [a, b, c] = [7, 3, 9];
     let [x, y, z] = [4, 10, 5];
-    let words = s.sound(shape, &[vec![a, b, c], vec![], vec![x, y, z]]);
+    let words = s.sound_with(shape, &[vec![a, b, c], vec![], vec![x, y, z]], &[8]);
     s.load(&words);
     let identifier = |cell: usize| shape.cell(cell);
     let forward = |cell: usize| shape.cell(cell) + 1;
@@ -430,9 +444,28 @@ fn damage(s: &mut Script) {
         vec![(identifier(6), IDENTIFIER + 1), (forward(6), 1), (back(6), 1), (forward(1), 6), (back(1), 6), (count(1), 1)],
         vec![(identifier(6), IDENTIFIER + 1), (forward(6), 6), (back(6), 6)],
         vec![(forward(1), 6), (back(1), 6), (forward(6), 1), (back(6), 1), (count(1), 1)],
-        // a free node's links
+        // a free node's links, and a worn one's
         vec![(forward(6), 0), (back(6), 0)],
         vec![(forward(6), 65_535), (back(6), 11)],
+        vec![(forward(8), 0), (back(8), 0)],
+        vec![(forward(8), 1), (back(8), 65_535)],
+        // the identifier 65,535 on a free node, on members and headers
+        vec![(identifier(6), WORN)],
+        vec![(identifier(b), WORN)],
+        vec![(identifier(a), WORN), (identifier(b), WORN), (identifier(c), WORN)],
+        vec![(identifier(1), WORN)],
+        vec![(identifier(b), WORN), (identifier(8), IDENTIFIER)],
+        // a worn node is free, or carries something else
+        vec![(identifier(8), 0)],
+        vec![(identifier(8), 1)],
+        vec![(identifier(8), IDENTIFIER)],
+        // a worn node that looks like a list's only member
+        vec![(forward(8), 1), (back(8), 1), (forward(1), 8)],
+        vec![(forward(8), 1), (back(8), 1), (forward(1), 8), (back(1), 8), (count(1), 1)],
+        vec![(forward(8), 1), (back(8), 1), (forward(1), 8), (back(1), 8), (count(1), 1), (identifier(8), IDENTIFIER + 1)],
+        // a member left out and worn
+        vec![(forward(a), number(c)), (back(c), number(a)), (identifier(b), WORN)],
+        vec![(forward(a), number(c)), (back(c), number(a)), (count(0), 2), (identifier(b), WORN)],
         // links outside the cells
         vec![(forward(0), 11)],
         vec![(back(0), 65_535)],
@@ -450,10 +483,10 @@ fn damage(s: &mut Script) {
 
 /// Several reasons to refuse at once: the first question decides.
 fn several_reasons(s: &mut Script) {
-    let shape = Shape::new(2, 3, 1);
+    let shape = Shape::new(2, 4, 1);
     for reasons in 0..64 {
         let has = |i: usize| reasons >> i & 1 == 1;
-        let mut words = s.sound(shape, &[vec![3, 2], vec![4]]);
+        let mut words = s.sound_with(shape, &[vec![3, 2], vec![4]], &[5]);
         if has(0) {
             words[s.random.pick(&[0, 1, 2, 3, 7])] = 9;
         }
@@ -473,11 +506,11 @@ fn several_reasons(s: &mut Script) {
 
 /// Sound stores with some words of headers and nodes altered to values that may well stand there.
 fn random_damage(s: &mut Script) {
-    for turn in 0..1500 {
+    for turn in 0..1300 {
         let shape = Shape::new(s.random.between(1, 3), s.random.between(1, if turn % 10 == 0 { 9 } else { 5 }), 1);
         let used = s.random.between(0, shape.nodes);
         let dealt = s.deal(shape, used);
-        let words = store_of(shape, &dealt, || 0);
+        let words = wear(&mut s.random, store_of(shape, &dealt, || 0), 0);
         s.load(&words);
         for _ in 0..3 {
             let changes: Vec<(usize, u16)> = (0..s.random.between(1, 3))
@@ -495,17 +528,17 @@ fn random_damage(s: &mut Script) {
     }
 }
 
-/// The largest store: formatted, in eight lists, in one list, and damaged.
+/// The largest store: formatted, in eight lists beside worn nodes, in one list, and damaged.
 fn largest(s: &mut Script) {
     let shape = Shape::new(8, 2000, 13);
     s.add(Fill { size: shape.size() as u16, value: 65_535 });
     s.add(Format { lists: 8, nodes: 2000, width: 13 });
     let mut all: Vec<usize> = shape.node_cells().collect();
     s.random.shuffle(&mut all);
-    let eight: Vec<Vec<usize>> = (0..8).map(|k| all[250 * k..250 * (k + 1)].to_vec()).collect();
+    let eight: Vec<Vec<usize>> = (0..8).map(|k| all[248 * k..248 * (k + 1)].to_vec()).collect();
     let one: Vec<Vec<usize>> = (0..8).map(|k| if k == 5 { all.clone() } else { vec![] }).collect();
     for lists in [eight, one] {
-        let mut words = store_of(shape, &lists, || 0);
+        let mut words = s.plain(shape, &lists);
         for i in shape.node_cells() {
             words[shape.cell(i) + 3 + i % 13] = i as u16;
         }
@@ -570,6 +603,16 @@ fn main() -> std::io::Result<()> {
         edits::damage,
         edits::histories,
         edits::largest,
+        worn::largest,
+        worn::marked_store,
+        worn::short_stores,
+        worn::small_stores,
+        worn::several_reasons,
+        worn::limits,
+        worn::worn_out,
+        worn::passed_over,
+        worn::recoveries,
+        worn::runs,
         recoveries::marked_store,
         recoveries::short_stores,
         recoveries::smallest_stores,

@@ -5,12 +5,13 @@ use crate::{altered, values_for, Script};
 use model::alterations::adversarial;
 use model::courses::{Call, Courses};
 use model::recovery::{recover, Course};
+use model::samples::{all_lists_and_worn, carriers, wear, with_worn};
 use model::script::Operation::*;
-use model::store::{self, all_lists, store_of, Answer, Shape, IDENTIFIER};
+use model::store::{self, store_of, Answer, Shape, IDENTIFIER, WORN};
 
 impl Script {
     /// Recover, and its answer.
-    fn recover(&mut self, allowance: u16) -> Answer {
+    pub fn recover(&mut self, allowance: u16) -> Answer {
         let answer = recover(&mut self.words.clone(), allowance);
         self.add(Recover { allowance });
         answer
@@ -23,7 +24,7 @@ impl Script {
     }
 
     /// Recovers these words at every allowance up to one above the number of stores, and with enough.
-    fn recover_at_each(&mut self, words: &[u16]) {
+    pub fn recover_at_each(&mut self, words: &[u16]) {
         let whole = match recover(&mut words.to_vec(), ENOUGH) {
             Answer::Done(n) => n,
             _ => 0,
@@ -102,10 +103,10 @@ pub fn short_stores(s: &mut Script) {
 /// Stores of one list and one node over a few values.
 pub fn smallest_stores(s: &mut Script) {
     let shape = Shape::new(1, 1, 1);
-    let identifiers = [IDENTIFIER, 0];
+    let identifiers = [IDENTIFIER, 0, WORN];
     let links = [0, 1, 2];
     let places: [(usize, &[u16]); 7] = [
-        (8, &identifiers),
+        (8, &identifiers[..2]),
         (9, &links),
         (10, &links),
         (11, &links),
@@ -128,7 +129,7 @@ pub fn smallest_stores(s: &mut Script) {
 
 /// Each word of the headers, and the first four of each node, altered alone, and then with a second one.
 pub fn altered_words(s: &mut Script) {
-    for (lists, nodes, width, used) in [(1, 2, 1, 2), (2, 5, 7, 4), (3, 8, 4, 6), (8, 10, 3, 9)] {
+    for (lists, nodes, width, used) in [(1, 2, 1, 2), (2, 5, 7, 3), (3, 8, 4, 6), (8, 10, 3, 8)] {
         let shape = Shape::new(lists, nodes, width);
         let dealt = s.deal(shape, used);
         let words = s.sound(shape, &dealt);
@@ -177,9 +178,9 @@ pub fn several_fit(s: &mut Script) {
     for (lists, nodes, width) in [(1, 2, 1), (1, 4, 1), (2, 4, 8), (3, 7, 5), (8, 12, 2), (5, 30, 1)] {
         let shape = Shape::new(lists, nodes, width);
         for _ in 0..6 {
-            let dealt = s.deal(shape, nodes - 1);
-            let free = shape.node_cells().find(|cell| !dealt.concat().contains(cell)).expect("a free node");
+            let dealt = s.deal(shape, (nodes - 2).max(1));
             let words = s.sound(shape, &dealt);
+            let free = carriers(&words, 0)[0];
             let list = dealt.iter().position(|sequence| !sequence.is_empty()).expect("a member");
             let position = s.random.below(dealt[list].len());
             for forward in [true, false] {
@@ -201,7 +202,7 @@ pub fn several_fit(s: &mut Script) {
 pub fn several_reasons(s: &mut Script) {
     let shape = Shape::new(3, 12, 2);
     let lists = [vec![5, 3], vec![9], vec![7, 14, 4]];
-    let words = s.sound(shape, &lists);
+    let words = s.sound_with(shape, &lists, &[6, 11, 13]);
     for choice in 0..64 {
         let mut changes = vec![];
         for (list, sequence) in lists.iter().enumerate() {
@@ -228,7 +229,7 @@ pub fn random_damage(s: &mut Script) {
         let shape = Shape::new(s.random.between(1, 3), s.random.between(1, most), width);
         let used = s.random.between(0, shape.nodes);
         let dealt = s.deal(shape, used);
-        let words = store_of(shape, &dealt, || 0);
+        let words = wear(&mut s.random, store_of(shape, &dealt, || 0), 0);
         s.load(&words);
         let altered_words = if turn % 10 == 9 { 40 } else { s.random.between(1, 4) };
         let changes: Vec<(usize, u16)> = (0..altered_words)
@@ -243,12 +244,13 @@ pub fn random_damage(s: &mut Script) {
     }
 }
 
-/// A fault in every list and some nodes that wrongly carry an identifier, at every allowance.
+/// A fault in every list and some nodes that wrongly carry an identifier, beside worn ones, at every allowance.
 pub fn many_stores(s: &mut Script) {
-    for (lists, nodes, width, used, carrying) in [(1, 3, 1, 1, 2), (3, 6, 8, 3, 2), (5, 9, 3, 6, 3), (8, 20, 2, 14, 6)] {
+    for (lists, nodes, width, used, carrying) in [(1, 4, 1, 1, 2), (3, 6, 8, 3, 2), (5, 10, 3, 6, 3), (8, 23, 2, 14, 6)] {
         let shape = Shape::new(lists, nodes, width);
         let dealt = s.deal(shape, used);
-        let sound = s.sound(shape, &dealt);
+        let sound = s.sound_with(shape, &dealt, &[]);
+        let sound = wear(&mut s.random, sound, carrying);
         s.load(&sound);
         let mut words = sound.clone();
         for (list, sequence) in dealt.iter().enumerate() {
@@ -256,8 +258,8 @@ pub fn many_stores(s: &mut Script) {
             let i = s.random.below(if cell == list { 4 } else { 3 });
             words[shape.cell(cell) + i] ^= 0x4000;
         }
-        for cell in shape.node_cells().filter(|cell| !dealt.concat().contains(cell)).take(carrying) {
-            words[shape.cell(cell)] = s.random.pick(&[1, 65_535, IDENTIFIER, IDENTIFIER + 7]);
+        for &cell in carriers(&sound, 0).iter().take(carrying) {
+            words[shape.cell(cell)] = s.random.pick(&[1, WORN - 1, IDENTIFIER, IDENTIFIER + 7]);
         }
         s.recover_at_each(&words);
         s.load(&words);
@@ -354,37 +356,46 @@ pub fn every_course_of_small_stores(s: &mut Script) {
     for lists in [1, 2] {
         let shape = Shape::new(lists, 2, 1);
         let nodes: Vec<usize> = shape.node_cells().collect();
-        for sequences in all_lists(lists, &nodes) {
-            s.load(&store_of(shape, &sequences, || 0));
+        for (sequences, worn) in all_lists_and_worn(shape) {
+            s.load(&with_worn(store_of(shape, &sequences, || 0), &worn));
             every_course(s, shape, &sequences, &nodes, NOWHERE);
         }
     }
     let shape = Shape::new(2, 3, 1);
-    for sequences in
-        [vec![vec![], vec![3, 2]], vec![vec![4], vec![2]], vec![vec![3, 4], vec![2]], vec![vec![4, 2, 3], vec![]]]
-    {
-        let words = s.sound(shape, &sequences);
+    for (sequences, worn) in [
+        (vec![vec![], vec![3, 2]], &[][..]),
+        (vec![vec![4], vec![2]], &[]),
+        (vec![vec![], vec![2]], &[3]),
+        (vec![vec![3, 4], vec![2]], &[]),
+        (vec![vec![4, 2, 3], vec![]], &[]),
+    ] {
+        let words = s.sound_with(shape, &sequences, worn);
         s.load(&words);
         every_course(s, shape, &sequences, &[3], NOWHERE);
     }
     let shape = Shape::new(3, 3, 1);
-    let sequences = [vec![4], vec![], vec![5]];
-    let words = s.sound(shape, &sequences);
-    s.load(&words);
-    for (cell, i, value) in [(0, 1, 3), (4, 2, 5), (4, 0, 0), (1, 3, 1), (1, 1, 3), (2, 2, 4), (5, 1, 3), (5, 0, IDENTIFIER)]
-    {
-        every_course(s, shape, &sequences, &[3], (shape.cell(cell) + i, value));
+    let alterations = [(0, 1, 3), (4, 2, 5), (4, 0, 0), (1, 3, 1), (1, 1, 3), (2, 2, 4), (5, 1, 3), (5, 0, IDENTIFIER)];
+    for (sequences, worn, alterations) in [
+        ([vec![4], vec![], vec![5]], &[][..], &alterations[..]),
+        ([vec![4], vec![], vec![]], &[5], &[(0, 1, 5), (4, 0, WORN), (2, 2, 5)]),
+    ] {
+        let words = s.sound_with(shape, &sequences, worn);
+        s.load(&words);
+        for &(cell, i, value) in alterations {
+            every_course(s, shape, &sequences, &[3], (shape.cell(cell) + i, value));
+        }
     }
 }
 
 /// Random courses on large stores, each on what the last left.
 pub fn large_courses(s: &mut Script) {
     for (lists, nodes, width, used, courses) in
-        [(1, 300, 13, 200, 20), (3, 700, 2, 698, 20), (5, 1000, 1, 500, 20), (8, 2000, 1, 1999, 30)]
+        [(1, 300, 13, 200, 20), (3, 700, 2, 690, 20), (5, 1000, 1, 500, 20), (8, 2000, 1, 1990, 30)]
     {
         let shape = Shape::new(lists, nodes, width);
         let dealt = s.deal(shape, used);
-        s.load(&store_of(shape, &dealt, || 0));
+        let words = s.plain(shape, &dealt);
+        s.load(&words);
         for turn in 0..courses {
             let dealt = store::lists(&s.words, shape).expect("a sound store");
             let edit = random_edit(s, shape, &dealt, turn % 2 == 0);
@@ -399,7 +410,7 @@ pub fn large_courses(s: &mut Script) {
 pub fn largest(s: &mut Script) {
     let shape = Shape::new(8, 2000, 13);
     let dealt = s.deal(shape, 1990);
-    let words = store_of(shape, &dealt, || 0);
+    let words = s.plain(shape, &dealt);
     s.load(&words);
     for turn in 0..3 {
         let edit = random_edit(s, shape, &dealt, turn % 2 == 0);

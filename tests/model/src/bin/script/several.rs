@@ -1,10 +1,11 @@
 //! The parts of the script that insert several records in one call.
 
-use crate::edits::{formatted, Edit, Edit::*, ENOUGH};
+use crate::edits::{every_use, formatted, Edit, Edit::*, ENOUGH};
 use crate::recoveries::course;
 use crate::Script;
+use model::samples::carriers;
 use model::script::Operation::*;
-use model::store::{store_of, Shape};
+use model::store::Shape;
 
 impl Script {
     /// The insertion of so many random records.
@@ -14,23 +15,23 @@ impl Script {
     }
 }
 
-/// A store whose free cells are scattered among the members: the last cell and the first are free.
+/// A store whose free cells are scattered among members and worn cells: the first is free.
 fn scattered(s: &mut Script, shape: Shape) -> (Vec<Vec<usize>>, Vec<usize>) {
     let mut lists = vec![vec![]; shape.lists];
     let members: Vec<usize> = shape.node_cells().filter(|cell| (cell - shape.lists) % 3 == 1).collect();
     for cell in members.into_iter().rev() {
         lists[s.random.below(shape.lists)].push(cell);
     }
-    let free = shape.node_cells().filter(|cell| (cell - shape.lists) % 3 != 1).collect();
-    let words = s.sound(shape, &lists);
+    let worn: Vec<usize> = shape.node_cells().filter(|cell| (cell - shape.lists) % 6 == 3).collect();
+    let words = s.sound_with(shape, &lists, &worn);
     s.load(&words);
-    (lists, free)
+    (lists, carriers(&words, 0))
 }
 
 /// One to four records at every allowance, from every kind of starting cell: the first free one, a member, the last cell, from which the
 /// search goes on at cell L. One record is inserted by insert too.
 pub fn cuts(s: &mut Script) {
-    for (lists, nodes, width, most) in [(1, 6, 1, 4), (2, 7, 2, 4), (3, 9, 5, 3), (8, 7, 13, 2)] {
+    for (lists, nodes, width, most) in [(1, 7, 1, 4), (2, 7, 2, 4), (3, 9, 5, 3), (8, 7, 13, 2)] {
         let shape = Shape::new(lists, nodes, width);
         let (dealt, free) = scattered(s, shape);
         for number in 1..=most {
@@ -47,16 +48,12 @@ pub fn cuts(s: &mut Script) {
     }
 }
 
-/// Every set of free cells and every starting cell: as many records as are free, and one more.
+/// Every set of free and worn cells and every starting cell: as many records as are free, and one more.
 pub fn searches(s: &mut Script) {
     let shape = Shape::new(2, 4, 1);
-    for used in 0..16 {
-        let mut lists = vec![vec![]; 2];
-        for cell in shape.node_cells().filter(|cell| used >> (cell - 2) & 1 == 1) {
-            lists[s.random.below(2)].push(cell);
-        }
-        s.load(&store_of(shape, &lists, || 0));
-        let free = 4 - lists.concat().len();
+    for (lists, words) in every_use(s, shape) {
+        s.load(&words);
+        let free = carriers(&words, 0).len();
         for start in shape.node_cells() {
             let list = s.random.below(2);
             let position = s.random.between(0, lists[list].len());
@@ -72,9 +69,9 @@ pub fn searches(s: &mut Script) {
 pub fn limits(s: &mut Script) {
     let shape = Shape::new(3, 7, 4);
     let roomy = [vec![5, 3, 8], vec![], vec![4]];
-    let full = [vec![5, 3, 8, 9], vec![7], vec![4, 6]];
+    let full = [vec![5, 3, 8, 9], vec![7], vec![4]];
     for lists in [roomy, full] {
-        let words = s.sound(shape, &lists);
+        let words = s.sound_with(shape, &lists, &[6]);
         s.load(&words);
         let mut edits = vec![];
         for size in (0..=17).chain([20, 28, 32, 65, 4096, 8000, 8004, 32_096, 32_100]) {
@@ -116,8 +113,8 @@ pub fn short_stores(s: &mut Script) {
 /// Several reasons to refuse at once, in every combination: the first question decides.
 pub fn several_reasons(s: &mut Script) {
     let shape = Shape::new(2, 6, 2);
-    let roomy = s.sound(shape, &[vec![7, 2], vec![4]]);
-    let full = s.sound(shape, &[vec![7, 2, 6], vec![4, 3]]);
+    let roomy = s.sound_with(shape, &[vec![7, 2], vec![4]], &[6]);
+    let full = s.sound_with(shape, &[vec![7, 2], vec![4, 3]], &[6]);
     for reasons in 0..512 {
         let has = |i: usize| reasons >> (8 - i) & 1 == 1;
         let mut words = if has(0) { full.clone() } else { roomy.clone() };
@@ -146,7 +143,7 @@ pub fn several_reasons(s: &mut Script) {
 /// Courses: one to four records cut after every number of stores, alterations in the other lists, recoveries.
 pub fn courses(s: &mut Script) {
     for (lists, nodes, width, most, numbers) in
-        [(1, 4, 1, 1, 3..=3), (2, 9, 1, 3, 1..=4), (3, 9, 3, 3, 2..=3), (8, 12, 13, 4, 2..=2)]
+        [(1, 6, 1, 1, 3..=3), (2, 9, 1, 3, 1..=4), (3, 9, 3, 3, 2..=3), (8, 12, 13, 4, 2..=2)]
     {
         let shape = Shape::new(lists, nodes, width);
         for number in numbers {
@@ -164,8 +161,9 @@ pub fn courses(s: &mut Script) {
     }
     let shape = Shape::new(5, 300, 1);
     for _ in 0..6 {
-        let dealt = s.deal(shape, 150);
-        s.load(&store_of(shape, &dealt, || 0));
+        let dealt = s.deal(shape, 100);
+        let words = s.plain(shape, &dealt);
+        s.load(&words);
         let (list, start) = (s.random.below(5), s.node(shape));
         let position = s.random.between(0, dealt[list].len());
         let edit = Insertions { list, position, start, size: 100, repeated: vec![3, 1, 4] };
@@ -174,7 +172,8 @@ pub fn courses(s: &mut Script) {
     }
 }
 
-/// The largest store, filled by one call of 38,000 stores; cut before the last of them and recovered; one record too many.
+/// The largest store, filled by one call of 38,000 stores; cut before the last of them and recovered; one record too many. A smaller one
+/// filled beside worn nodes.
 pub fn largest(s: &mut Script) {
     let shape = Shape::new(8, 2000, 13);
     let of = |size| Insertions { list: 3, position: 0, start: 1000, size, repeated: (1..=64).collect() };
@@ -193,4 +192,17 @@ pub fn largest(s: &mut Script) {
     s.add(Deletion { list: 3, position: 1000 }.with(ENOUGH));
     s.add(of(26).with(ENOUGH));
     s.add(of(13).with(ENOUGH));
+    let shape = Shape::new(8, 300, 1);
+    let of = |size| Insertions { list: 3, position: 0, start: 200, size, repeated: (1..=64).collect() };
+    formatted(s, shape);
+    for cell in [8, 200, 201, 307] {
+        s.add(MarkWorn { cell });
+    }
+    s.add(of(297).with(ENOUGH));
+    s.add(of(296).with(7 * 296 - 1));
+    s.add(Recover { allowance: ENOUGH });
+    for position in [0, 104, 105, 295] {
+        s.ask(3, position);
+    }
+    s.add(of(1).with(ENOUGH));
 }

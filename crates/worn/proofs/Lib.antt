@@ -1,0 +1,5 @@
+pub mod Nodes
+pub mod Mark
+pub mod Kept
+pub mod Later
+pub mod Worn

@@ -1,0 +1,23 @@
+-- The statement on worn nodes holds.
+use Rattle.axle_store.proofs.Worn.{insert-worn, several-worn}
+use Rattle.worn.specs.Worn.{Worn}
+use Rattle.worn.proofs.Nodes.{kinds, sum, full, several-full}
+use Rattle.worn.proofs.Mark.{marks, marks-bytes}
+use Rattle.worn.proofs.Kept.{deletes, recovers}
+use Rattle.worn.proofs.Later.{later}
+
+pub worn : Worn
+worn =
+    record {
+      kinds = kinds;
+      sum = sum;
+      full = λ w s k p c words hk hp hc size. full w s k p c words hk hp hc size;
+      severalFull = λ w s k p c r words hk hp hc some size. several-full w s k p c words hk hp hc r some size;
+      inserts = insert-worn;
+      severals = several-worn;
+      deletes = deletes;
+      recovers = recovers;
+      marks = marks;
+      later = later;
+      marksBytes = marks-bytes;
+    }

@@ -1,0 +1,102 @@
+//! Stores to try the calls on: which nodes are members of which list, and which of the others are worn.
+
+use crate::random::Random;
+use crate::store::{all_lists, in_no_list, open, Shape, IDENTIFIER, WORN};
+
+/// Deals so many nodes to the lists, in random order.
+pub fn deal(random: &mut Random, shape: Shape, used: usize) -> Vec<Vec<usize>> {
+    let mut cells: Vec<usize> = shape.node_cells().collect();
+    random.shuffle(&mut cells);
+    let mut lists = vec![vec![]; shape.lists];
+    for &cell in &cells[..used] {
+        lists[random.below(shape.lists)].push(cell);
+    }
+    lists
+}
+
+/// The nodes that carry this identifier, lowest first: of a sound store the free ones carry 0, the worn ones 65,535.
+pub fn carriers(words: &[u16], identifier: u16) -> Vec<usize> {
+    let shape = open(words).expect("a store");
+    shape.node_cells().filter(|&cell| words[shape.cell(cell)] == identifier).collect()
+}
+
+/// The store with these nodes worn.
+pub fn with_worn(mut words: Vec<u16>, cells: &[usize]) -> Vec<u16> {
+    let shape = open(&words).expect("a store");
+    cells.iter().for_each(|&cell| words[shape.cell(cell)] = WORN);
+    words
+}
+
+/// The store with some of its free nodes worn, every second with anything in its links and record; so many stay free, if there are.
+/// By one turn in four none is worn.
+pub fn wear(random: &mut Random, mut words: Vec<u16>, least: usize) -> Vec<u16> {
+    let shape = open(&words).expect("a store");
+    let mut cells = carriers(&words, 0);
+    random.shuffle(&mut cells);
+    let most = if random.below(4) == 0 { 0 } else { cells.len().saturating_sub(least) };
+    cells.truncate(random.between(most.min(1), most));
+    for &cell in &cells {
+        if random.below(2) == 0 {
+            words[shape.node(cell)].iter_mut().for_each(|word| *word = anything(random, shape));
+        }
+    }
+    with_worn(words, &cells)
+}
+
+/// A random word, such as a link or identifier by two turns of three.
+fn anything(random: &mut Random, shape: Shape) -> u16 {
+    match random.below(3) {
+        0 => random.below(shape.lists + shape.nodes + 1) as u16,
+        1 => IDENTIFIER + random.below(shape.lists) as u16,
+        _ => random.word(),
+    }
+}
+
+/// Every set of the cells.
+fn subsets(cells: &[usize]) -> Vec<Vec<usize>> {
+    let chosen = |set: usize| (0..cells.len()).filter(|i| set >> i & 1 == 1).map(|i| cells[i]).collect();
+    (0..1 << cells.len()).map(chosen).collect()
+}
+
+/// Every choice of the lists' sequences, each with every choice of the worn nodes among the others.
+pub fn all_lists_and_worn(shape: Shape) -> Vec<(Vec<Vec<usize>>, Vec<usize>)> {
+    let mut all = vec![];
+    for lists in all_lists(shape.lists, &shape.node_cells().collect::<Vec<_>>()) {
+        all.extend(subsets(&in_no_list(shape, &lists)).into_iter().map(|worn| (lists.clone(), worn)));
+    }
+    all
+}
+
+#[cfg(test)]
+mod tests {
+    use super::*;
+    use crate::store::{lists, store_of};
+    use std::collections::BTreeSet;
+
+    /// Each node of one list over two is a member, free or worn.
+    #[test]
+    fn choices() {
+        let all = all_lists_and_worn(Shape::new(1, 2, 1));
+        assert_eq!(all.len(), 4 + 2 * 2 + 2);
+        assert_eq!(all.iter().collect::<BTreeSet<_>>().len(), all.len());
+        assert!(all.contains(&(vec![vec![]], vec![1, 2])) && all.contains(&(vec![vec![2]], vec![1])));
+    }
+
+    /// Worn stores are sound and have the same lists. Every number of worn nodes occurs that leaves enough free.
+    #[test]
+    fn worn_stores() {
+        let mut random = Random::new(2);
+        let shape = Shape::new(2, 6, 2);
+        let mut seen = BTreeSet::new();
+        for _ in 0..500 {
+            let dealt = deal(&mut random, shape, 2);
+            let words = wear(&mut random, store_of(shape, &dealt, || 0), 1);
+            assert_eq!(lists(&words, shape), Some(dealt));
+            let (free, worn) = (carriers(&words, 0), carriers(&words, WORN));
+            assert_eq!(free.len() + worn.len(), 4);
+            let junk = worn.iter().filter(|&&cell| words[shape.node(cell)][1..].iter().any(|&word| word != 0)).count();
+            seen.insert((worn.len(), junk));
+        }
+        assert_eq!(seen, (0..=3).flat_map(|n| (0..=n).map(move |junk| (n, junk))).collect());
+    }
+}
