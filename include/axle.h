@@ -13,6 +13,7 @@
  *     axle_insert(store, sizeof store, 0, 0, 2, record, sizeof record, AXLE_WHOLE);
  *     axle_insert_several(store, sizeof store, 0, 1, 2, records, sizeof records, AXLE_WHOLE);      as many as there are
  *     axle_delete(store, sizeof store, 0, 0, AXLE_WHOLE);
+ *     axle_mark_worn(store, sizeof store, 5);                                cell 5 is never used again
  *
  * WORDS. A word is 16 bits, in two bytes, low byte first. A record is given in the same form. The layout is below; it is
  * described with examples in docs/FORMAT.md.
@@ -24,9 +25,9 @@
  * ANSWERS. One 32-bit number:
  *
  *     0                      axle_check: the store is sound. axle_format: done
- *     1 to 12                refused; see the table
+ *     1 to 13                refused; see the table
  *     AXLE_DONE + n          axle_length: the list has n records
- *                            the inserts, axle_delete, axle_recover: done, with n word stores
+ *                            the inserts, axle_delete, axle_mark_worn, axle_recover: done, with n word stores
  *     AXLE_STOPPED + n       the inserts, axle_delete, axle_recover: stopped after n word stores, because the allowance
  *                            was smaller than the number needed
  *
@@ -43,12 +44,14 @@
  *      6    AXLE_UNSOUND        Is the store sound?                                 all but format and recover
  *      7    AXLE_NO_POSITION    Is the position below the list's length?            insert, delete
  *                               (insert: at most the length)
- *      8    AXLE_NO_NODE        Is the starting cell a node?                        insert
+ *      8    AXLE_NO_NODE        Is the starting cell a node?                        insert, mark_worn
+ *                               (mark_worn: the cell to mark)
  *      9    AXLE_RECORD_SIZE    Has the record the store's number of words?         insert
  *                               (several: a positive multiple of it?)
  *     10    AXLE_FULL           Is some node free? (several: enough for all?)       insert
  *     11    AXLE_NO_FIT         List by list from 0: does a sequence fit the list?  recover
  *     12    AXLE_TWO_FIT        and only one? (asked before the next list's 11)     recover
+ *     13    AXLE_NOT_FREE       Is the node to mark free?                           mark_worn
  *
  * POWER CUTS. Insert, delete and recover change the store by word stores, one after the other, each low byte before high.
  * One of them is central: number P + 5 of the P + 6 of an insert, number 2 of the 4 of a delete. An insert of several records
@@ -80,6 +83,8 @@
  *     links happen to fit becomes a member by its identifier, the count, the forward before it and the back behind it.
  *   - If one of them has changed, wherever it stands, axle_recover puts it back with one store: AXLE_DONE + 1, and the words
  *     are those of before. Cut by allowance 0 it answers AXLE_STOPPED + 0 and changes nothing.
+ *   - One change is excepted in both: of the identifier of a node in no list to AXLE_WORN or from it. From 0 to AXLE_WORN or
+ *     back it leaves a sound store, with a mark more or less; a mark changed to anything else is noticed, and not put back.
  *   - If more have changed, but at most one in each list and none of a node in no list, axle_recover puts all of them back:
  *     that is a power cut that hit no call, see above. Two in one list may be refused (11, 12), or mended to another list
  *     that fits; so where this may have happened, a store that axle_recover left sound need not be the old one.
@@ -90,6 +95,16 @@
  * NOT PROMISED. That damage inside records is found: they are the caller's, and have no check word. That anything is left
  * after a cut during axle_format: format again. That damage beyond the above is mended: it may be refused (11, 12), or
  * mended to another list that fits. That two callers may use one store at a time.
+ *
+ * WORN CELLS. Memory that a fitter has found weak can be taken out of use. axle_mark_worn gives a free node the
+ * identifier AXLE_WORN; a node that holds a record is marked after axle_delete. A sound store may have such nodes. The
+ * inserts pass over them, AXLE_FULL goes by the free nodes alone, and axle_recover lets them be: from then on no call
+ * but axle_format writes a word of a worn node. The free nodes, the worn ones and the records of all lists are together
+ * as many as the store has nodes. The mark is one word store: a power cut leaves the node free or worn.
+ *
+ * AXLE_WORN is a mark only on a node in no list. The node of a record whose identifier was altered to it is mended.
+ *
+ * A version before 1.4 answers AXLE_UNSOUND for a store with worn nodes, and its axle_recover clears the marks.
  *
  * COST. A call that asks question 6 looks at every node's identifier and goes once through every list. To a position it goes
  * link by link from the nearer end of the list: in min(p + 1, n - p) steps to delete at position p of n records, in
@@ -182,7 +197,7 @@ static inline uint16_t axle_number(uint32_t answer) { return (uint16_t)(answer &
  *     header k        from word 8 + 4k:                  identifier, forward, back, count
  *     node i          from word 8 + 4L + (3 + P)(i - L): identifier, forward, back, P record words
  *
- * The identifier of list k is 42,400 + k; a node in no list has identifier 0.
+ * The identifier of list k is 42,400 + k; a node in no list has identifier 0, or AXLE_WORN if it is worn.
  */
 #define AXLE_IDENTIFIER 42400u
 #define AXLE_WORN 65535u
@@ -199,7 +214,8 @@ uint32_t axle_format(uint8_t *store, size_t store_len, uint16_t lists, uint16_t 
 
 /*
  * Is the store sound? Each list's header and members carry its identifier, forward leads from the header through the
- * members and back to it, back leads the other way round, the count is right, and every other node has identifier 0.
+ * members and back to it, back leads the other way round, the count is right, and every other node is free (identifier 0)
+ * or worn (AXLE_WORN).
  * What it can be trusted for where words were altered stands above.
  * Answers: 0, 1 to 4, 6.
  */
@@ -212,9 +228,9 @@ uint32_t axle_check(const uint8_t *store, size_t store_len);
 uint32_t axle_length(const uint8_t *store, size_t store_len, uint16_t list);
 
 /*
- * Inserts a record so that it stands at the position, 0 to the list's length. It is put in the first free node, counting up
- * from the cell start and on from the first node after the last. The stores: the record, its forward, its back, its
- * identifier, the count, the forward before it (central), the back behind it.
+ * Inserts a record so that it stands at the position, 0 to the list's length. It is put in the first free node, counting
+ * up from the cell start and on from the first node after the last; worn nodes are passed over. The stores: the record,
+ * its forward, its back, its identifier, the count, the forward before it (central), the back behind it.
  * Answers: AXLE_DONE + P + 6, AXLE_STOPPED + the allowance, 1 to 10.
  */
 uint32_t axle_insert(uint8_t *store, size_t store_len, uint16_t list, uint16_t position, uint16_t start,
@@ -247,9 +263,10 @@ uint32_t axle_delete(uint8_t *store, size_t store_len, uint16_t list, uint16_t p
 uint32_t axle_mark_worn(uint8_t *store, size_t store_len, uint16_t cell);
 
 /*
- * After a power cut: puts every list right, and frees the nodes in none. A sequence of different nodes fits a list if at
- * most one word differs from what it asks of the header and its members. If exactly one fits each list, the differing words
- * are stored, list 0 first, then 0 to each nonzero identifier of a node in no list, lowest cell first.
+ * After a power cut: puts every list right, and frees the nodes in none, but for worn ones. A sequence of different
+ * nodes fits a list if at most one word differs from what it asks of the header and its members. If exactly one fits
+ * each list, the differing words are stored, list 0 first, then 0 to each identifier of a node in no list that is
+ * neither 0 nor AXLE_WORN, lowest cell first.
  * Answers: AXLE_DONE + the number of stores, AXLE_STOPPED + the allowance, 1 to 4, 11, 12.
  */
 uint32_t axle_recover(uint8_t *store, size_t store_len, uint16_t allowance);

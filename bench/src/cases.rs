@@ -12,6 +12,7 @@ pub const FORMAT: &str = "format";
 pub const CHECK: &str = "check";
 pub const LENGTH: &str = "length";
 pub const EDIT: &str = "insert + delete";
+pub const MARK: &str = "mark worn";
 pub const TWELVE: &str = "12 records, one call";
 pub const SINGLY: &str = "12 records, 12 calls";
 pub const THOUSAND: &str = "1,000 records, one call";
@@ -21,7 +22,7 @@ pub const AFTER: &str = "recover, insert cut after its central store";
 pub const FAULTS: &str = "recover, one fault in every list";
 
 /// All that is measured.
-pub const NAMES: [&str; 11] = [FORMAT, CHECK, LENGTH, EDIT, TWELVE, SINGLY, THOUSAND, NOTHING, BEFORE, AFTER, FAULTS];
+pub const NAMES: [&str; 12] = [FORMAT, CHECK, LENGTH, EDIT, MARK, TWELVE, SINGLY, THOUSAND, NOTHING, BEFORE, AFTER, FAULTS];
 
 /// The calls of a turn: the sum of their answers.
 pub type Turn = dyn Fn(&Engine, &mut [u8]) -> u32;
@@ -79,6 +80,17 @@ impl Case {
             insert(engine, bytes, &records)
         })
     }
+
+    /// A mark on the first free node. Before each turn its identifier is put back.
+    fn mark(sample: &Sample) -> Case {
+        let (mut after, cell) = (sample.bytes.clone(), sample.free_cell());
+        plain::mark_worn(&mut after, cell);
+        let changed = changed(&sample.bytes, &after);
+        Case::new(MARK, sample, sample.bytes.clone(), DONE + 1, move |engine, bytes| {
+            put_back(bytes, &changed);
+            (engine.mark_worn)(bytes, cell)
+        })
+    }
 }
 
 /// A place, and the bytes that stood there.
@@ -125,6 +137,9 @@ pub fn cases(sample: &Sample) -> Vec<Case> {
         let records = (position..).zip(records.chunks_exact(2 * shape.width));
         records.map(|(position, record)| (engine.insert)(bytes, list, position, start, record, ENOUGH)).sum()
     };
+    if sample.fill == Fill::Half {
+        cases.push(Case::mark(sample));
+    }
     if sample.free() >= 12 {
         cases.push(Case::insertion(TWELVE, sample, 12, 1, one_call));
         cases.push(Case::insertion(SINGLY, sample, 12, 12, singly));

@@ -14,6 +14,7 @@ pub struct Engine {
     pub insert: Insert,
     pub insert_several: Insert,
     pub delete: fn(&mut [u8], u16, u16, u16) -> u32,
+    pub mark_worn: fn(&mut [u8], u16) -> u32,
     pub recover: fn(&mut [u8], u16) -> u32,
 }
 
@@ -29,6 +30,7 @@ pub static PLAIN: Engine = Engine {
         plain::insert_several(store, list, position, start, records, allowance)
     },
     delete: |store, list, position, allowance| plain::delete(store, list, position, allowance),
+    mark_worn: |store, cell| plain::mark_worn(store, cell),
     recover: |store, allowance| plain::recover(store, allowance),
 };
 
@@ -58,6 +60,7 @@ extern "C" {
         allowance: u16,
     ) -> u32;
     fn axle_delete(store: *mut u8, store_len: usize, list: u16, position: u16, allowance: u16) -> u32;
+    fn axle_mark_worn(store: *mut u8, store_len: usize, cell: u16) -> u32;
     fn axle_recover(store: *mut u8, store_len: usize, allowance: u16) -> u32;
 }
 
@@ -88,5 +91,6 @@ pub static PROVED: Engine = Engine {
     delete: |store, list, position, allowance| unsafe {
         axle_delete(store.as_mut_ptr(), store.len(), list, position, allowance)
     },
+    mark_worn: |store, cell| unsafe { axle_mark_worn(store.as_mut_ptr(), store.len(), cell) },
     recover: |store, allowance| unsafe { axle_recover(store.as_mut_ptr(), store.len(), allowance) },
 };

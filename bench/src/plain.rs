@@ -1,4 +1,4 @@
-//! The seven calls and read in plain Rust, as a careful engineer writes them who wants them quick: the benchmark's baseline.
+//! The eight calls and read in plain Rust, as a careful engineer writes them who wants them quick: the benchmark's baseline.
 //!
 //! Arguments and answers are those of the C interface, with slices; read, which it lacks, answers the record's bytes. A word
 //! is two bytes, low byte first. The cells are read once, in order, and all is decided on that copy before the first store:
@@ -10,6 +10,8 @@ const DONE: u32 = 65_536;
 const STOPPED: u32 = 131_072;
 
 const IDENTIFIER: u16 = 42_400;
+const FREE: u16 = 0;
+const WORN: u16 = 65_535;
 const HEAD: [u16; 4] = [82, 66, 83, 1];
 
 /// The words of a cell.
@@ -43,6 +45,15 @@ fn make(store: &mut [u8], stores: impl ExactSizeIterator<Item = Store>, allowanc
 
 fn identifier_of(list: usize) -> u16 {
     IDENTIFIER + list as u16
+}
+
+/// Neither free nor worn.
+fn in_use(ident: u16) -> bool {
+    ident != FREE && ident != WORN
+}
+
+fn free(cell: &Cell) -> bool {
+    cell[IDENT] == FREE
 }
 
 /// L, N and P.
@@ -130,7 +141,7 @@ fn open(store: &[u8]) -> Result<Shape, u32> {
     Ok(shape)
 }
 
-/// The cells as read, and how many nodes have an identifier other than 0.
+/// The cells as read, and how many nodes are in use.
 struct Survey<'a> {
     shape: Shape,
     cells: &'a mut [Cell],
@@ -157,7 +168,7 @@ fn load<'a>(store: &[u8], shape: Shape, room: &'a mut [Cell]) -> Survey<'a> {
     let mut used = 0;
     for (cell, bytes) in nodes.iter_mut().zip(from_nodes.chunks_exact(shape.node_size())) {
         *cell = first_words(bytes);
-        used += usize::from(cell[IDENT] != 0);
+        used += usize::from(in_use(cell[IDENT]));
     }
     Survey { shape, cells, used }
 }
@@ -197,7 +208,7 @@ impl Survey<'_> {
         (usize::from(at) == list && back == before && usize::from(count) == length).then_some(length)
     }
 
-    /// Question 6: every list is as it must be, and no node but their members has an identifier other than 0.
+    /// Question 6: every list is as it must be, and no node but their members is in use.
     fn sound(&self) -> Result<(), u32> {
         let mut members = 0;
         for list in 0..self.shape.lists {
@@ -229,7 +240,6 @@ impl Survey<'_> {
     }
 
     fn free_from(&self, start: usize) -> Option<usize> {
-        let free = |cell: &Cell| cell[IDENT] == 0;
         let (first, lists) = (&self.cells[..start], self.shape.lists);
         let upward = self.cells[start..].iter().position(free).map(|i| start + i);
         upward.or_else(|| first[lists..].iter().position(free).map(|i| lists + i))
@@ -264,7 +274,7 @@ impl Survey<'_> {
         if records.is_empty() || records.len() % self.shape.record_size() != 0 {
             return Err(9);
         }
-        if self.shape.nodes - self.used < records.len() / self.shape.record_size() {
+        if self.cells[self.shape.lists..].iter().filter(|&cell| free(cell)).count() < records.len() / self.shape.record_size() {
             return Err(10);
         }
         let before = self.before(list, position);
@@ -280,6 +290,18 @@ impl Survey<'_> {
         let before = self.before(list, position);
         let cell = self.after(before);
         Ok(Site { before, cell, after: self.after(cell), count })
+    }
+
+    /// Questions 6, 8 and 13 of mark_worn.
+    fn markable(&self, cell: usize) -> Result<(), u32> {
+        self.sound()?;
+        if !self.shape.is_node(cell) {
+            return Err(8);
+        }
+        if self.cells[cell][IDENT] != FREE {
+            return Err(13);
+        }
+        Ok(())
     }
 }
 
@@ -404,7 +426,7 @@ fn inserted_several(
     let whole = records.len() / shape.record_size() * shape.insert_stores();
     let mut made = 0;
     for record in records.chunks_exact(shape.record_size()) {
-        while word(store, shape.at(cell, IDENT)) != 0 {
+        while word(store, shape.at(cell, IDENT)) != FREE {
             cell = shape.next_node(cell);
         }
         made += put_record(store, shape, list, Site { before, cell, after, count }, record, allowance - made);
@@ -429,9 +451,21 @@ fn deleted(store: &mut [u8], list: usize, position: u16, allowance: usize) -> Re
         (shape.at(after, BACK), before as u16),
         (shape.at(before, FORWARD), after as u16),
         (shape.at(list, COUNT), count - 1),
-        (shape.at(cell, IDENT), 0),
+        (shape.at(cell, IDENT), FREE),
     ];
     Ok(answer(make(store, stores.into_iter(), allowance), stores.len()))
+}
+
+#[inline(never)]
+pub fn mark_worn(store: &mut [u8], cell: u16) -> u32 {
+    number(marked(store, cell.into()))
+}
+
+fn marked(store: &mut [u8], cell: usize) -> Result<u32, u32> {
+    let shape = open(store)?;
+    with_room(shape, |room| load(store, shape, room).markable(cell))?;
+    put(store, (shape.at(cell, IDENT), WORN));
+    Ok(answer(1, 1))
 }
 
 #[inline(never)]
@@ -519,7 +553,7 @@ impl Survey<'_> {
         }
     }
 
-    /// Sets the identifier of each member to 0 in the copy.
+    /// Sets the identifier of each member to 0 in the copy: who is left there is in no list.
     fn erase(&mut self, list: usize, Candidate { onward, length, .. }: Candidate) {
         let mut cell = usize::from(self.cells[list][onward]);
         for _ in 0..length {
@@ -530,15 +564,15 @@ impl Survey<'_> {
 }
 
 /// What recovery is to store: the wrong word of each list that has one, and then, if there are orphans, 0 to each identifier
-/// that the copy still holds.
+/// in the copy that says in use.
 struct Mends {
     wrong: [Store; 8],
     len: usize,
     orphans: bool,
 }
 
-/// The questions of recover. No two sequences that fit share a node, so there are orphans if more nodes than members have an
-/// identifier other than 0; the members' are then erased from the copy.
+/// The questions of recover. No two sequences that fit share a node, so there are orphans if more nodes than members are in
+/// use by their identifiers; the members' are then erased from the copy.
 fn mends(survey: &mut Survey) -> Result<Mends, u32> {
     let shape = survey.shape;
     let mut fitting = [Candidate { onward: FORWARD, length: 0, wrong: Wrong::None }; 8];
@@ -550,7 +584,7 @@ fn mends(survey: &mut Survey) -> Result<Mends, u32> {
         if let Wrong::One { cell, word, value } = fitting.wrong {
             mends.wrong[mends.len] = (shape.at(cell, word), value);
             mends.len += 1;
-            carrying -= usize::from(shape.is_node(cell) && word == IDENT && survey.cells[cell][IDENT] == 0);
+            carrying -= usize::from(shape.is_node(cell) && word == IDENT && !in_use(survey.cells[cell][IDENT]));
         }
     }
     mends.orphans = carrying < survey.used;
@@ -568,11 +602,11 @@ fn recover_by(mut survey: Survey, store: &mut [u8], allowance: usize) -> Result<
     if made < len || !orphans {
         return Ok(answer(made, len));
     }
-    for cell in (shape.lists..shape.cells()).filter(|&cell| survey.cells[cell][IDENT] != 0) {
+    for cell in (shape.lists..shape.cells()).filter(|&cell| in_use(survey.cells[cell][IDENT])) {
         if made == allowance {
             return Ok(answer(made, made + 1));
         }
-        put(store, (shape.at(cell, IDENT), 0));
+        put(store, (shape.at(cell, IDENT), FREE));
         made += 1;
     }
     Ok(answer(made, made))

@@ -134,9 +134,10 @@ bytes, in the same run, in alternating batches. Written by
 A time is that of the batch that was disturbed least, divided by its turns. The lists of a store are equally long, and their members
 lie in shuffled order. A full store has one free node; in a half full one every second node is free. Insert + delete is two calls: a record
 is inserted in the middle of a list and deleted again; the search for a free node starts at the first. 12 records are inserted in the
-middle of a list by one call and by 12; 1,000 records fill the half full store of 2,000 nodes. Before each of these turns the bytes that
-it changes are put back, and before each recovery the few bytes that it changes are made wrong again, which is counted for both. Both
-gave the same answers and left the same bytes before they were measured. (!) marks a ratio above {GOAL}.
+middle of a list by one call and by 12; 1,000 records fill the half full store of 2,000 nodes. Mark worn is one call, on the first free
+node of a half full store. Before each of these turns the bytes that it changes are put back, and before each recovery the few bytes that
+it changes are made wrong again, which is counted for both. Both gave the same answers and left the same bytes before they were
+measured. (!) marks a ratio above {GOAL}.
 
 Some Intel processors are slow at jumps that cross or end at a 32-byte boundary. The plain implementation is compiled without such jumps
 (bench/.cargo/config.toml), so that its times do not depend on where it comes to lie; the archive is linked as it is.

@@ -74,13 +74,15 @@ fn used(mut job: impl FnMut() -> u32) -> usize {
 }
 
 /// The stack that each call uses on a sample; recover's is the most that it uses on a sound, a cut or a faulty store.
-pub fn of_calls(engine: &Engine, sample: &Sample) -> [(&'static str, usize); 7] {
+pub fn of_calls(engine: &Engine, sample: &Sample) -> [(&'static str, usize); 8] {
     let Sample { shape, list, position, start, .. } = *sample;
     let (lists, nodes, width) = (shape.lists as u16, shape.nodes as u16, shape.width as u16);
     let mut bytes = sample.bytes.clone();
     let insert = used(|| (engine.insert)(&mut bytes, list, position, start, &sample.record, 65_535));
     let delete = used(|| (engine.delete)(&mut bytes, list, position, 65_535));
     let several = used(|| (engine.insert_several)(&mut bytes, list, position, start, &sample.record, 65_535));
+    let (mut unmarked, cell) = (sample.bytes.clone(), sample.free_cell());
+    let mark = used(|| (engine.mark_worn)(&mut unmarked, cell));
     let found = [sample.bytes.clone(), sample.cut(shape.width + 4), sample.cut(shape.width + 5), sample.faulty()];
     let recover = found.map(|mut bytes| used(|| (engine.recover)(&mut bytes, 65_535)));
     [
@@ -90,6 +92,7 @@ pub fn of_calls(engine: &Engine, sample: &Sample) -> [(&'static str, usize); 7] 
         ("insert", insert),
         ("insert_several", several),
         ("delete", delete),
+        ("mark_worn", mark),
         ("recover", recover.into_iter().fold(0, usize::max)),
     ]
 }

@@ -78,6 +78,12 @@ impl Sample {
         Sample { shape, fill, bytes, list, position, start, record, lists }
     }
 
+    /// The first node in no list.
+    pub fn free_cell(&self) -> u16 {
+        let mut nodes = self.shape.node_cells();
+        nodes.find(|cell| !self.lists.iter().any(|list| list.contains(cell))).expect("a free node") as u16
+    }
+
     pub fn length(&self) -> usize {
         self.lists[usize::from(self.list)].len()
     }

@@ -3,6 +3,7 @@
 use crate::plain;
 use model::random::Random;
 use model::recovery;
+use model::samples::wear;
 use model::store::{self, store_of, Answer, Shape};
 use std::collections::{BTreeMap, BTreeSet};
 
@@ -33,6 +34,7 @@ enum Call {
     Insert(u16, u16, u16, Vec<u8>, u16),
     InsertSeveral(u16, u16, u16, Vec<u8>, u16),
     Delete(u16, u16, u16),
+    MarkWorn(u16),
     Recover(u16),
 }
 
@@ -45,6 +47,7 @@ impl Call {
             Call::Insert(..) => "insert",
             Call::InsertSeveral(..) => "insert_several",
             Call::Delete(..) => "delete",
+            Call::MarkWorn(_) => "mark_worn",
             Call::Recover(_) => "recover",
         }
     }
@@ -57,6 +60,7 @@ impl Call {
             Call::Insert(k, p, s, record, a) => plain::insert(bytes, *k, *p, *s, record, *a),
             Call::InsertSeveral(k, p, s, records, a) => plain::insert_several(bytes, *k, *p, *s, records, *a),
             Call::Delete(k, p, a) => plain::delete(bytes, *k, *p, *a),
+            Call::MarkWorn(cell) => plain::mark_worn(bytes, *cell),
             Call::Recover(a) => plain::recover(bytes, *a),
         }
     }
@@ -81,6 +85,7 @@ impl Call {
                 number(store::insert_several(&mut words, *k, *p, *s, &records, *a))
             }
             Call::Delete(k, p, a) => number(store::delete(&mut words, *k, *p, *a)),
+            Call::MarkWorn(cell) => number(store::mark_worn(&mut words, *cell)),
             Call::Recover(a) => number(recovery::recover(&mut words, *a)),
         };
         bytes.copy_from_slice(&bytes_of(&words));
@@ -199,6 +204,7 @@ fn calls(seen: &mut Seen, random: &mut Random, shape: Shape, bytes: &[u8]) {
     let records = record.repeat(random.between(1, 4));
     seen.allowances(bytes, |a| Call::InsertSeveral(list, position, start, records.clone(), a));
     seen.allowances(bytes, |a| Call::Delete(list, position, a));
+    seen.compare(&mut bytes.to_vec(), &Call::MarkWorn(start));
     seen.allowances(bytes, Call::Recover);
 }
 
@@ -235,6 +241,7 @@ fn many_stores() {
         ("insert", &[1, 2, 3, 4, 5, 6, 7, 8, 9, 10, 65_536, 131_072]),
         ("insert_several", &[1, 2, 3, 4, 5, 6, 7, 8, 9, 10, 65_536, 131_072]),
         ("delete", &[1, 2, 3, 4, 5, 6, 7, 65_536, 131_072]),
+        ("mark_worn", &[1, 2, 3, 4, 6, 8, 13, 65_536]),
         ("recover", &[1, 2, 3, 4, 11, 12, 65_536, 131_072]),
     ]);
 }
@@ -346,6 +353,33 @@ fn positions_of_a_long_list() {
         }
     }
     seen.all(&[("read", &[7, 65_536]), ("delete", &[7, 65_536, 131_072])]);
+}
+
+/// Stores with worn nodes, sound, damaged and spoilt: marks on all cells and on the two numbers behind them, and all calls.
+#[test]
+fn worn_nodes() {
+    let mut random = Random::new(11);
+    let mut seen = Seen::default();
+    for turn in 0..3_000 {
+        let shape = shape(&mut random, turn);
+        let lists = deal(&mut random, shape);
+        let words = store_of(shape, &lists, || random.word());
+        let mut words = wear(&mut random, words, turn % 2);
+        match turn % 5 {
+            0..=2 => (),
+            3 => alter(&mut random, shape, &mut words),
+            _ => (0..random.between(2, 40)).for_each(|_| alter(&mut random, shape, &mut words)),
+        }
+        let mut bytes = bytes_of(&words);
+        if turn % 9 == 0 {
+            spoil(&mut random, &mut bytes);
+        }
+        for cell in 0..=shape.lists + shape.nodes + 1 {
+            seen.compare(&mut bytes.clone(), &Call::MarkWorn(cell as u16));
+        }
+        calls(&mut seen, &mut random, shape, &bytes);
+    }
+    seen.all(&[("mark_worn", &[1, 2, 3, 4, 6, 8, 13, 65_536])]);
 }
 
 #[test]
