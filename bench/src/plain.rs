@@ -274,7 +274,8 @@ impl Survey<'_> {
         if records.is_empty() || records.len() % self.shape.record_size() != 0 {
             return Err(9);
         }
-        if self.cells[self.shape.lists..].iter().filter(|&cell| free(cell)).count() < records.len() / self.shape.record_size() {
+        let free = self.cells[self.shape.lists..].iter().filter(|&cell| free(cell)).count();
+        if free < records.len() / self.shape.record_size() {
             return Err(10);
         }
         let before = self.before(list, position);

@@ -49,7 +49,7 @@ pub record Marks (w : List ℕ) (s : Sound w) (c : ℕ) : Type 0 where
       × ((k : ℕ) → k < layoutOf w .lists → SameCells (layoutOf w) w (wordsAfter (markPlan w c) markStores w) (k ∷ s .lists .sequence k))
       × WornNode (wordsAfter (markPlan w c) markStores w) c
 
--- The calls that store, with any arguments and any allowance, one after another.
+-- The calls that change a store (format begins a new one), with any arguments and any allowance, one after another.
 pub data Call : Type 0 where
   edit : Edit → ℕ → Call
   mark : ℕ → Call

@@ -4,7 +4,7 @@ use crate::checks::Tests;
 use interface::stores::{edit, record, unworn};
 use interface::{bytes_of, words_of, Call, Call::*, DONE, ENOUGH, STOPPED};
 use model::alterations::alterable;
-use model::samples::{all_lists_and_worn, carriers, deal, wear, with_worn};
+use model::samples::{all_lists_and_worn, carriers, deal, spoil, wear, with_worn};
 use model::store::{lists, open, store_of, Shape, WordStore, IDENTIFIER, WORN};
 
 impl Tests {
@@ -164,15 +164,7 @@ pub fn refusals(t: &mut Tests) {
     for reasons in 0..32 {
         let has = |i: usize| reasons >> i & 1 == 1;
         let mut words = sound.clone();
-        if has(1) {
-            words[t.random.pick(&[0, 1, 2, 3, 7])] = 9;
-        }
-        if has(2) {
-            words[t.random.pick(&[4, 5, 6])] = t.random.pick(&[0, 2001, 65_535]);
-        }
-        if has(3) {
-            words.push(0);
-        }
+        spoil(&mut t.random, &mut words, [has(1), has(2), has(3)]);
         if has(4) {
             let at = t.random.pick(&[0, 1, 2, 3, 5]);
             words[shape.cell(at)] = t.random.pick(&[0, WORN, 7]);

@@ -1,4 +1,4 @@
-//! Stores to try the calls on: which nodes are members of which list, and which of the others are worn.
+//! Stores to try the calls on: which nodes are members of which list, which of the others are worn, and what makes them refused.
 
 use crate::random::Random;
 use crate::store::{all_lists, in_no_list, open, Shape, IDENTIFIER, WORN};
@@ -49,6 +49,19 @@ fn anything(random: &mut Random, shape: Shape) -> u16 {
         0 => random.below(shape.lists + shape.nodes + 1) as u16,
         1 => IDENTIFIER + random.below(shape.lists) as u16,
         _ => random.word(),
+    }
+}
+
+/// Gives the words the reasons 2, 3 and 4 to refuse them, those that are asked for.
+pub fn spoil(random: &mut Random, words: &mut Vec<u16>, [head, numbers, length]: [bool; 3]) {
+    if head {
+        words[random.pick(&[0, 1, 2, 3, 7])] = 9;
+    }
+    if numbers {
+        words[random.pick(&[4, 5, 6])] = random.pick(&[0, 2001, 65_535]);
+    }
+    if length {
+        words.push(0);
     }
 }
 

@@ -94,7 +94,11 @@ fn main() -> ExitCode {
             passed += 1;
         } else {
             failed += 1;
-            println!("{name}: expected {:?}, found {:?}", &expected[..expected.len().min(80)], &found[..found.len().min(80)]);
+            println!(
+                "{name}: expected {:?}, found {:?}",
+                &expected[..expected.len().min(80)],
+                &found[..found.len().min(80)]
+            );
         }
     }
     for last in ["refused 1", "refused 2", "refused 3", "refused 4", "refused 6", "sound"] {

@@ -6,7 +6,7 @@ mod several;
 mod worn;
 
 use model::random::Random;
-use model::samples::{deal, wear, with_worn};
+use model::samples::{deal, spoil, wear, with_worn};
 use model::script::{Operation, Operation::*, CAPACITY};
 use model::store::{self, store_of, Shape, IDENTIFIER, WORN};
 use std::io::Write;
@@ -487,15 +487,7 @@ fn several_reasons(s: &mut Script) {
     for reasons in 0..64 {
         let has = |i: usize| reasons >> i & 1 == 1;
         let mut words = s.sound_with(shape, &[vec![3, 2], vec![4]], &[5]);
-        if has(0) {
-            words[s.random.pick(&[0, 1, 2, 3, 7])] = 9;
-        }
-        if has(1) {
-            words[s.random.pick(&[4, 5, 6])] = s.random.pick(&[0, 2001, 65_535]);
-        }
-        if has(2) {
-            words.push(0);
-        }
+        spoil(&mut s.random, &mut words, [has(0), has(1), has(2)]);
         if has(3) {
             words[s.random.pick(&[8, 9, 10, 11, 12, 13, 14, 15])] = 77;
         }

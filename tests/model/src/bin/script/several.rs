@@ -3,7 +3,7 @@
 use crate::edits::{every_use, formatted, Edit, Edit::*, ENOUGH};
 use crate::recoveries::course;
 use crate::Script;
-use model::samples::carriers;
+use model::samples::{carriers, spoil};
 use model::script::Operation::*;
 use model::store::Shape;
 
@@ -118,17 +118,9 @@ pub fn several_reasons(s: &mut Script) {
     for reasons in 0..512 {
         let has = |i: usize| reasons >> (8 - i) & 1 == 1;
         let mut words = if has(0) { full.clone() } else { roomy.clone() };
-        if has(1) {
-            words[s.random.pick(&[0, 1, 2, 3, 7])] = 9;
-        }
-        if has(2) {
-            words[s.random.pick(&[4, 5, 6])] = s.random.pick(&[0, 2001, 65_535]);
-        }
+        spoil(&mut s.random, &mut words, [has(1), has(2), has(4)]);
         if has(3) {
             words[s.random.pick(&[8, 9, 10, 11, 16, 17, 18])] = 77;
-        }
-        if has(4) {
-            words.push(0);
         }
         s.load(&words);
         let list = if has(5) { 2 } else { 0 };

@@ -2,7 +2,7 @@
 
 use crate::edits::{formatted, random_edit, Edit::*, ENOUGH};
 use crate::{altered, Script};
-use model::samples::{all_lists_and_worn, carriers, with_worn};
+use model::samples::{all_lists_and_worn, carriers, spoil, with_worn};
 use model::script::Operation::*;
 use model::store::{self, store_of, Answer, Shape, IDENTIFIER, WORN};
 
@@ -110,15 +110,7 @@ pub fn several_reasons(s: &mut Script) {
         // free, a member, worn, and no node
         for cell in [3, 6, 2, 5, 4, 0, 1, 7, 65_535] {
             let mut words = sound.clone();
-            if has(0) {
-                words[s.random.pick(&[0, 1, 2, 3, 7])] = 9;
-            }
-            if has(1) {
-                words[s.random.pick(&[4, 5, 6])] = s.random.pick(&[0, 2001, 65_535]);
-            }
-            if has(2) {
-                words.push(0);
-            }
+            spoil(&mut s.random, &mut words, [has(0), has(1), has(2)]);
             if has(3) {
                 words[s.random.pick(&[8, 9, 10, 11, 12, 16, 17, 18, 21, 26])] = 77;
             }
