@@ -58,9 +58,10 @@
  * makes the P + 6 stores of the first, then those of the second and so on, and has a central store for each record. A cut
  * leaves the first of the stores made and the others not. Then:
  *
- *   - axle_check answers 0 if the store is sound as it was left, and AXLE_UNSOUND if not; axle_length, the inserts and
- *     axle_delete never work on a store that is not sound (AXLE_NO_LIST, where it applies, comes first). Do not conclude
- *     from a sound store that nothing was cut, nor from the number of stores made whether it is sound: call axle_recover.
+ *   - axle_check answers 0 if the store is sound as it was left, and AXLE_UNSOUND if not; axle_length, the inserts,
+ *     axle_delete and axle_mark_worn never work on a store that is not sound (AXLE_NO_LIST, where it applies, comes first).
+ *     Do not conclude from a sound store that nothing was cut, nor from the number of stores made whether it is sound: call
+ *     axle_recover.
  *   - axle_recover leaves the list without the call if the cut came before the central store, and with it if after: with
  *     all its records, in their order. Every other list is as it was. Of several records the list then has those whose
  *     central store was made, each of them whole: after n stores the first (n + 1) / (P + 6), rounded down.
@@ -84,7 +85,8 @@
  *   - If one of them has changed, wherever it stands, axle_recover puts it back with one store: AXLE_DONE + 1, and the words
  *     are those of before. Cut by allowance 0 it answers AXLE_STOPPED + 0 and changes nothing.
  *   - One change is excepted in both: of the identifier of a node in no list to AXLE_WORN or from it. From 0 to AXLE_WORN or
- *     back it leaves a sound store, with a mark more or less; a mark changed to anything else is noticed, and not put back.
+ *     back it leaves a sound store, with a mark more or less; a mark changed to anything else is noticed, and axle_recover
+ *     frees the node: mark it again.
  *   - If more have changed, but at most one in each list and none of a node in no list, axle_recover puts all of them back:
  *     that is a power cut that hit no call, see above. Two in one list may be refused (11, 12), or mended to another list
  *     that fits; so where this may have happened, a store that axle_recover left sound need not be the old one.
@@ -98,9 +100,10 @@
  *
  * WORN CELLS. Memory that a fitter has found weak can be taken out of use. axle_mark_worn gives a free node the
  * identifier AXLE_WORN; a node that holds a record is marked after axle_delete. A sound store may have such nodes. The
- * inserts pass over them, AXLE_FULL goes by the free nodes alone, and axle_recover lets them be: from then on no call
- * but axle_format writes a word of a worn node. The free nodes, the worn ones and the records of all lists are together
- * as many as the store has nodes. The mark is one word store: a power cut leaves the node free or worn.
+ * inserts pass over them, AXLE_FULL goes by the free nodes alone, and axle_recover lets them be: while its mark is not
+ * altered (see above), no call but axle_format writes a word of a worn node. The free nodes, the worn ones and the
+ * records of all lists are together as many as the store has nodes. The mark is one word store: a power cut leaves the
+ * node free or worn.
  *
  * AXLE_WORN is a mark only on a node in no list. The node of a record whose identifier was altered to it is mended.
  *
@@ -256,8 +259,8 @@ uint32_t axle_delete(uint8_t *store, size_t store_len, uint16_t list, uint16_t p
 
 /*
  * Marks a free node as worn, by its cell number: memory that a fitter has found weak. From then on no insert takes it, and
- * recovery lets it be. One store, its identifier: AXLE_WORN. Has no allowance, and nothing takes the mark back but
- * axle_format.
+ * recovery lets it be. One store, its identifier: AXLE_WORN. Has no allowance, and no call takes the mark back but
+ * axle_format (and axle_recover, where it was altered).
  * Answers: AXLE_DONE + 1, 1 to 4, 6, 8, 13.
  */
 uint32_t axle_mark_worn(uint8_t *store, size_t store_len, uint16_t cell);

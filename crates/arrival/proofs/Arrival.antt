@@ -1,24 +1,23 @@
 -- The walk of half the list's length, rounded up, arrives at the cell that each call works at.
 use Prim.Native.Nat.{ℕ, _+_, _/_, _<_, _≤_}
 use mathlib.Core.Path.{_≡_, refl, ap, _∙_, sym, subst}
-use mathlib.Core.List.{List, [], _∷_, _++_}
+use mathlib.Core.List.{List, _∷_}
 use native.Mathlib.Omega.{arith}
 use native.Mathlib.Numerals.{add-one}
 use lib.ListN.{length, getD}
-use borrow.Author.Tests.{lt-ltb}
 use Rattle.stores.specs.Stores.{Write, stores}
 use Rattle.layout.specs.declared.Layout.{Layout}
 use Rattle.layout.specs.Words.{layoutOf}
 use Rattle.lists.specs.Lists.{Sound}
-use Rattle.lists.specs.Decide.{viewOf, countIn, sequenceOf, soundIn, HeldList}
+use Rattle.lists.specs.Decide.{countIn, sequenceOf, HeldList}
 use Rattle.lists.proofs.Unique.{list-sequence}
-use Rattle.lists.proofs.Ring.{held-count, sound-held, ring-after}
+use Rattle.lists.proofs.Ring.{held-count, sound-held}
 use Rattle.seeks.proofs.Reached.{half-arrives, reached}
 use Rattle.requests.specs.declared.Site.{Site}
 use Rattle.requests.specs.declared.Sited.{Sited}
 use Rattle.requests.specs.declared.Sited.the-variants.{At, Refused}
 use Rattle.requests.specs.declared.Request.the-variants.{Member, Gap, Gaps}
-use Rattle.requests.specs.Requests.{siteOf, memberAt, gapAt}
+use Rattle.requests.specs.Requests.{siteOf}
 use Rattle.requests.specs.Sites.{gapSite}
 use Rattle.requests.proofs.Laws.{look-refused, look-at, site-member}
 use Rattle.requests.proofs.Sites.{member-found, gap-found}
@@ -29,7 +28,7 @@ use Rattle.edits.proofs.Gaps.{freeFrom, gaps-looked}
 use Rattle.axle_store.specs.Calls.{readWords, insertPlan, severalPlan, deletePlan}
 use Rattle.axle_store.proofs.Cases.{insert-refused, insert-at, several-refused, several-at, delete-at}
 use Rattle.axle_store.proofs.Calls.{sound-opened, sound-decided, sound-read}
-use Rattle.arrival.specs.Arrival.{linksIn, Arrives, Walks, Arrival}
+use Rattle.arrival.specs.Arrival.{linksIn, Walks, Arrival}
 
 module _ (w : List ℕ) (s : Sound w) (k : ℕ) (hk : k < layoutOf w .lists) where
   abbrev its : Layout

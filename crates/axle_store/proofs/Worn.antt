@@ -6,11 +6,11 @@ use native.Mathlib.Omega.{arith}
 use lib.ListN.{length, getD, take, length-append}
 use Rattle.sequences.specs.Sequence.{_∈_}
 use Rattle.sequences.proofs.Members.{at-in, in-front}
-use Rattle.stores.specs.Stores.{Plan, stores, applied, wordsAfter}
+use Rattle.stores.specs.Stores.{Plan, stores, wordsAfter}
 use Rattle.layout.specs.declared.Layout.{Layout}
-use Rattle.layout.specs.Words.{InRange, layoutOf, identAt, Unlisted}
+use Rattle.layout.specs.Words.{layoutOf, identAt, Unlisted}
 use Rattle.layout.proofs.Laws.{opened-open}
-use Rattle.lists.specs.Lists.{SoundLists, KeepsWorn}
+use Rattle.lists.specs.Lists.{KeepsWorn}
 use Rattle.lists.specs.Decide.{sequenceOf}
 use Rattle.lists.proofs.Unique.{list-sequence}
 use Rattle.lists.proofs.Decided.{sound-lists}
@@ -19,7 +19,7 @@ use Rattle.requests.specs.declared.Looked.{Looked}
 use Rattle.requests.specs.declared.Looked.the-variants as K
 use Rattle.requests.specs.declared.Request.the-variants.{Gap, Gaps}
 use Rattle.requests.specs.Requests.{lookOf}
-use Rattle.edits.specs.Edits.{insertWrites, chain, chainFrom}
+use Rattle.edits.specs.Edits.{chain}
 use Rattle.edits.proofs.Done.{looked, gap-facts}
 use Rattle.edits.proofs.OneByOne.{ring-ident}
 use Rattle.edits.proofs.Room.{several-room}

@@ -1,5 +1,5 @@
 -- "For every answer that is an enum, a definition states this paper's number and values for each of the enum's cases, and the promises
--- use that definition." That of insert, delete and recover is in crate stores.
+-- use that definition." That of the calls that make stores one by one is in crate stores.
 use Prim.Native.Nat.{ℕ}
 use mathlib.Core.List.{List}
 use Rattle.layout.specs.declared.Layout.{Layout}

@@ -33,7 +33,7 @@ unfolding byteRecover
 recover-plan y h = rw (eq-eqb (length y % 2) 0 h)
 
 -- one call
-edit-words : (b : List ℕ) (e : Edit) (m : ℕ) → length b % 2 ≡ 0 → wordsIn (bytesAfter (byteEdit b e) m b) ≡ wordsAfter (editPlan (wordsIn b) (inWords e)) m (wordsIn b)
+pub edit-words : (b : List ℕ) (e : Edit) (m : ℕ) → length b % 2 ≡ 0 → wordsIn (bytesAfter (byteEdit b e) m b) ≡ wordsAfter (editPlan (wordsIn b) (inWords e)) m (wordsIn b)
 edit-words b e m h = words-after (byteEdit b e) m b h ∙ ap (λ (p : Plan). wordsAfter p m (wordsIn b)) (edit-plan b e h)
 
 pub recover-words : (y : List ℕ) (m : ℕ) → length y % 2 ≡ 0 → wordsIn (bytesAfter (byteRecover y) m y) ≡ wordsAfter (recoverPlan (wordsIn y)) m (wordsIn y)

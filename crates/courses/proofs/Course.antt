@@ -15,9 +15,8 @@ use Rattle.layout.specs.Words.{Node, cellAt, cellWords, identAt, wornIdent, wor
 use Rattle.layout.proofs.Laws.{open-opened}
 use Rattle.layout.proofs.Apart.{cell-behind, links-words}
 use Rattle.lists.specs.Lists.{Sound, IsList, SameCells, KeepsWorn}
-use Rattle.lists.proofs.Nodes.{list-used}
-use Rattle.lists.proofs.Unique.{member-ident}
-use Rattle.lists.proofs.Same.{ident-word, same-opened, same-sound}
+use Rattle.lists.proofs.Nodes.{unlisted-out}
+use Rattle.lists.proofs.Same.{ident-word, kept-worn, same-opened, same-sound}
 use Rattle.edits.specs.Edited.{replaced}
 use Rattle.edits.proofs.Edited.{replaced-own, replaced-other}
 use Rattle.recovery.specs.Plan.{joined, recoverStores, recoverPlan, Accepted, Kind}
@@ -28,7 +27,7 @@ use Rattle.courses.specs.Demand3.{Course}
 use Rattle.courses.proofs.Other.{Touches}
 use Rattle.courses.proofs.Cut.{Cut}
 use Rattle.courses.proofs.Found.{altered-out, length-altered, kept, kept-outside, found-accepted}
-use Rattle.courses.proofs.Final.{final-head, final-outside, final-worn, final-lists, final-zero, final-words}
+use Rattle.courses.proofs.Final.{final-head, final-outside, final-worn, final-lists, final-ident, final-words}
 use Rattle.courses.proofs.Recoveries.{recovered}
 use Rattle.courses.proofs.Standing.{Standing, standing-plan, standing-after}
 
@@ -113,22 +112,14 @@ module _ (w : List ℕ) (s : Sound w) (k : ℕ) (own x y₀ : List ℕ) (cut : C
       let r = joined-one t (l .lists) c m in
       by (r .0) (r .1) (r .2) (ℕ-discrete (r .0) k)
     where
-      same : (v : List ℕ) → KeepsWorn l w v → getD v (identAt l c) 0 ≡ wornIdent
-      same v h =
-          ap (λ (a : ℕ). getD v a 0) (ident-word l c) ∙ h c n z c 0 (List·Memᴰ·head refl) (links-words l c 0 (omega arith))
-          ∙ ap (λ (a : ℕ). getD w a 0) (sym (ident-word l c)) ∙ z
-
       by : (j : ℕ) → j < l .lists → c ∈ t j → Dec (j ≡ k) → ⊥
       by j h i (yes e) =
           let hk : k < l .lists = subst (λ (a : ℕ). a < l .lists) e h in
-          list-used (s .inRange) hk
-          (member-ident l x k own c (cut .list hk) (subst (λ (r : List ℕ). c ∈ r) (replaced-own (s .lists .sequence) k own j e) i))
-          (worn (same x due))
+          unlisted-out l x k own (s .inRange) hk (cut .list hk) c (worn (kept-worn l w x due c n z))
+          (subst (λ (r : List ℕ). c ∈ r) (replaced-own (s .lists .sequence) k own j e) i)
       by j h i (no e) =
-          list-used (s .inRange) h
-          (member-ident l w j (s .lists .sequence j) c (s .lists .lists j h)
-          (subst (λ (r : List ℕ). c ∈ r) (replaced-other (s .lists .sequence) k own j e) i))
-          (worn z)
+          unlisted-out l w j (s .lists .sequence j) (s .inRange) h (s .lists .lists j h) c (worn z)
+          (subst (λ (r : List ℕ). c ∈ r) (replaced-other (s .lists .sequence) k own j e) i)
 
   -- and keeps all its words
   worn-kept : KeepsWorn l w Final
@@ -138,7 +129,7 @@ module _ (w : List ℕ) (s : Sound w) (k : ℕ) (own x y₀ : List ℕ) (cut : C
     where
       outside : (j : ℕ) → j < l .lists → (j ≡ k → ⊥) → c ∈ (j ∷ s .lists .sequence j) → ⊥
       outside j h q (List·Memᴰ·head e) = omega (arith, n .low)
-      outside j h q (List·Memᴰ·tail m) = list-used (s .inRange) h (member-ident l w j (s .lists .sequence j) c (s .lists .lists j h) m) (worn z)
+      outside j h q (List·Memᴰ·tail m) = unlisted-out l w j (s .lists .sequence j) (s .inRange) h (s .lists .lists j h) c (worn z) m
 
       found : (f : ℕ) → f < cellWords l c → getD y (cellAt l c + f) 0 ≡ getD w (cellAt l c + f) 0
       found f g =
@@ -150,13 +141,6 @@ module _ (w : List ℕ) (s : Sound w) (k : ℕ) (own x y₀ : List ℕ) (cut : C
           final-worn l y (standing .size) t accepted c f n (worn-out c n z)
           (ap (λ (a : ℕ). getD y a 0) (ident-word l c) ∙ found 0 (links-words l c 0 (omega arith)) ∙ ap (λ (a : ℕ). getD w a 0) (sym (ident-word l c)) ∙ z) g
           ∙ found f g
-
-  -- a worn one of the found store stays so
-  still-worn : (c : ℕ) → Node l c → (c ∈ joined t (l .lists) → ⊥) → getD y (identAt l c) 0 ≡ wornIdent → getD Final (identAt l c) 0 ≡ wornIdent
-  still-worn c n o z =
-      ap (λ (a : ℕ). getD Final a 0) (ident-word l c)
-      ∙ final-worn l y (standing .size) t accepted c 0 n o z (links-words l c 0 (omega arith))
-      ∙ ap (λ (a : ℕ). getD y a 0) (sym (ident-word l c)) ∙ z
 
   pub cut-course : (ms : List ℕ) (last : ℕ) → needed (recoverPlan (wordsThrough ms y)) ≤ last
       → Course w s k x y ms last (wordsThrough (ms ++ last ∷ []) y) (answerOf (recoverPlan (wordsThrough ms y)) last)
@@ -175,11 +159,9 @@ module _ (w : List ℕ) (s : Sound w) (k : ℕ) (own x y₀ : List ℕ) (cut : C
         head = final-head l y (standing .size) t accepted;
         outside =
             λ c n o. (
-              final-zero l y (standing .size) t accepted c n o,
-              still-worn c n o,
+              final-ident l y (standing .size) t accepted c n o,
               λ f g z. final-outside l y (standing .size) t accepted c f n o g z,
             );
-        wornOut = worn-out;
         worn = worn-kept;
         stored = subst (All (Kind l y t)) (sym (r .made)) (plan-kinds l y t);
         adds = r .adds ∙ sym (plan-differs l t ps y (standing .size) accepted refl);

@@ -1,21 +1,22 @@
 -- What the whole plan leaves of an accepted store: the words of each list as its sequence asks them, and the rest as it was.
 use Prim.Native.Nat.{ℕ, _+_, _<_, _≤_}
 use mathlib.Core.Path.{_≡_, ap, _∙_, sym, subst}
-use mathlib.Core.List.{List, _∷_, List·Memᴰ·head, List·Memᴰ·tail}
+use mathlib.Core.List.{List, _∷_, List·Memᴰ, List·Memᴰ·head, List·Memᴰ·tail}
+use mathlib.Core.Bool.{Bool, cond}
 use mathlib.Core.Logic.{_⊎_, inl, inr}
 use native.Mathlib.Decide.{decLt}
 use native.Mathlib.Omega.{arith}
 use lib.ListN.{length, getD}
-use borrow.Author.Tests.{eq-eqb, eqb-true}
 use Rattle.sequences.specs.Sequence.{_∈_}
 use Rattle.sequences.proofs.Members.{all-in, in-all}
 use Rattle.stores.specs.Stores.{Write, run, Spares}
 use Rattle.stores.proofs.Laws.{run-out, run-word}
 use Rattle.layout.specs.declared.Layout.{Layout}
-use Rattle.layout.specs.Words.{linkWords, countWord, firstNode, Node, sizeOf, cellAt, cellWords, identAt, wornIdent, Unlisted, free, worn}
+use Rattle.layout.specs.Words.{linkWords, countWord, firstNode, Node, sizeOf, cellAt, cellWords, identAt, wornIdent, Unlisted, free, worn, isWorn}
 use Rattle.layout.proofs.Apart.{cells-apart, words-apart, links-words, words-header, cell-behind}
 use Rattle.lists.specs.Lists.{asked, IsList, SoundLists, SameCells}
 use Rattle.lists.proofs.Same.{ident-word}
+use Rattle.recovery.specs.Fits.{wrong}
 use Rattle.recovery.specs.Plan.{joined, recoverStores, Accepted, Kind, mend, clear}
 use Rattle.recovery.proofs.Required.{Right, wrong-in}
 use Rattle.recovery.proofs.Slots.{Value, ident, forward, back, count, slot, asked-word}
@@ -70,34 +71,33 @@ module _ (l : Layout) (y : List ℕ) (exact : length y ≡ sizeOf l) (s : ℕ �
       elsewhere p (clear d lo out nz r) e =
           words-apart l c d f 0 (λ _ q. omega arith) g (links-words l d 0 (omega arith)) (e ∙ ap (λ (q : Write). q .at) r ∙ ident-word l d)
 
-  -- nor to a word of a node in no list but its identifier, which ends as 0 unless the node is worn
+  -- nor, to mend a list, to a word of a node in none
+  mend-apart : (c f : ℕ) → Node l c → (c ∈ joined s (l .lists) → ⊥) → f < cellWords l c → (p : Write) (k : ℕ) → k < l .lists
+      → List·Memᴰ p (wrong y (asked l k (s k))) → cellAt l c + f ≡ p .at → ⊥
+  mend-apart c f n o g p k hk m e =
+      let t = slot l k (s k) hk (wrong-in y (asked l k (s k)) m .0) in
+      cells-apart l c (t .cell) f (t .word) (member (t .cell) (t .within)) g (t .fits) (e ∙ t .at)
+    where
+      member : (d : ℕ) → d ∈ (k ∷ s k) → c ≡ d → ⊥
+      member d (List·Memᴰ·head e) q = omega (arith, n .low)
+      member d (List·Memᴰ·tail i) q = o (one-joined s (l .lists) k c hk (subst (λ (x : ℕ). x ∈ s k) (sym q) i))
+
+  -- so such a node keeps all words but its identifier,
   pub final-outside : (c f : ℕ) → Node l c → (c ∈ joined s (l .lists) → ⊥) → 1 ≤ f → f < cellWords l c → getD Final (cellAt l c + f) 0 ≡ getD y (cellAt l c + f) 0
   final-outside c f n o h g = run-out (recoverStores l y s) y (cellAt l c + f) (plan-spares (cellAt l c + f) elsewhere)
     where
-      member : (k : ℕ) → k < l .lists → (d : ℕ) → d ∈ (k ∷ s k) → c ≡ d → ⊥
-      member k hk d (List·Memᴰ·head e) q = omega (arith, n .low)
-      member k hk d (List·Memᴰ·tail m) q = o (one-joined s (l .lists) k c hk (subst (λ (x : ℕ). x ∈ s k) (sym q) m))
-
       elsewhere : (p : Write) → Kind l y s p → cellAt l c + f ≡ p .at → ⊥
-      elsewhere p (mend k g′ m) e =
-          let t = slot l k (s k) g′ (wrong-in y (asked l k (s k)) m .0) in
-          cells-apart l c (t .cell) f (t .word) (member k g′ (t .cell) (t .within)) g (t .fits) (e ∙ t .at)
+      elsewhere p (mend k hk m) e = mend-apart c f n o g p k hk m e
       elsewhere p (clear d lo out nz r) e =
           words-apart l c d f 0 (λ _ q. omega arith) g (links-words l d 0 (omega arith)) (e ∙ ap (λ (q : Write). q .at) r ∙ ident-word l d)
 
-  -- nor to any word of a worn one
+  -- and a worn one all
   pub worn-spares : (c f : ℕ) → Node l c → (c ∈ joined s (l .lists) → ⊥) → getD y (identAt l c) 0 ≡ wornIdent → f < cellWords l c
       → Spares (cellAt l c + f) (recoverStores l y s)
   worn-spares c f n o w g = plan-spares (cellAt l c + f) elsewhere
     where
-      member : (k : ℕ) → k < l .lists → (d : ℕ) → d ∈ (k ∷ s k) → c ≡ d → ⊥
-      member k hk d (List·Memᴰ·head e) q = omega (arith, n .low)
-      member k hk d (List·Memᴰ·tail m) q = o (one-joined s (l .lists) k c hk (subst (λ (x : ℕ). x ∈ s k) (sym q) m))
-
       elsewhere : (p : Write) → Kind l y s p → cellAt l c + f ≡ p .at → ⊥
-      elsewhere p (mend k g′ m) e =
-          let t = slot l k (s k) g′ (wrong-in y (asked l k (s k)) m .0) in
-          cells-apart l c (t .cell) f (t .word) (member k g′ (t .cell) (t .within)) g (t .fits) (e ∙ t .at)
+      elsewhere p (mend k hk m) e = mend-apart c f n o g p k hk m e
       elsewhere p (clear d lo out nz r) e =
           cells-apart l c d f 0 (λ q. nz (worn (ap (λ (x : ℕ). getD y (identAt l x) 0) (sym q) ∙ w))) g (links-words l d 0 (omega arith))
           (e ∙ ap (λ (q : Write). q .at) r ∙ ident-word l d)
@@ -112,14 +112,15 @@ module _ (l : Layout) (y : List ℕ) (exact : length y ≡ sizeOf l) (s : ℕ �
   pub final-list : (j : ℕ) → j < l .lists → IsList l Final j (s j)
   final-list j h = subst (λ (t : ℕ → List ℕ). IsList l Final j (t j)) (final-lists .1) (final-lists .0 .lists j h)
 
-  pub final-zero : (c : ℕ) → Node l c → (c ∈ joined s (l .lists) → ⊥) → (getD y (identAt l c) 0 ≡ wornIdent → ⊥) → getD Final (identAt l c) 0 ≡ 0
-  final-zero c n o z =
+  -- its identifier ends as 0 unless it is worn
+  pub final-ident : (c : ℕ) → Node l c → (c ∈ joined s (l .lists) → ⊥) → getD Final (identAt l c) 0 ≡ cond (isWorn (getD y (identAt l c) 0)) wornIdent 0
+  final-ident c n o =
       by (final-lists .0 .outside c n (λ k h m. o (one-joined s (l .lists) k c h (subst (λ (t : ℕ → List ℕ). c ∈ t k) (final-lists .1) m))))
+      ∙ ap (λ (b : Bool). cond b wornIdent 0) (worn-kept l y s a Final (run-word (recoverStores l y s) y) c n o)
     where
-      by : Unlisted (getD Final (identAt l c) 0) → getD Final (identAt l c) 0 ≡ 0
-      by (free e) = e
-      by (worn e) =
-          absurd (z (eqb-true _ wornIdent (sym (worn-kept l y s a Final (run-word (recoverStores l y s) y) c n o) ∙ eq-eqb _ wornIdent e)))
+      by : Unlisted (getD Final (identAt l c) 0) → getD Final (identAt l c) 0 ≡ cond (isWorn (getD Final (identAt l c) 0)) wornIdent 0
+      by (free e) = e ∙ rw e
+      by (worn e) = e ∙ rw e
 
   -- a list's words are those of any store that has the same list, if its members' records are
   pub final-words : (w : List ℕ) (j : ℕ) → j < l .lists → IsList l w j (s j)

@@ -2,12 +2,13 @@
 use Prim.Native.Nat.{ℕ, _+_, _<_, _≤_}
 use mathlib.Core.Path.{_≡_}
 use mathlib.Core.List.{List, [], _∷_, _++_}
+use mathlib.Core.Bool.{cond}
 use lib.ListN.{getD}
 use Rattle.sequences.specs.Sequence.{_∈_, All}
 use Rattle.stores.specs.declared.Answer.{Answer}
 use Rattle.stores.specs.declared.Answer.the-variants as A
 use Rattle.stores.specs.Stores.{run, answerOf, answerStores}
-use Rattle.layout.specs.Words.{headWords, Node, cellAt, cellWords, identAt, wornIdent, layoutOf}
+use Rattle.layout.specs.Words.{headWords, Node, cellAt, cellWords, identAt, wornIdent, isWorn, layoutOf}
 use Rattle.lists.specs.Lists.{Sound, IsList, SameCells, KeepsWorn}
 use Rattle.edits.specs.Edited.{replaced}
 use Rattle.recovery.specs.Plan.{joined, recoverPlan, Kind, differing}
@@ -32,12 +33,9 @@ pub record Course (w : List ℕ) (s : Sound w) (k : ℕ) (x y ms : List ℕ) (la
   -- found, whole.
   pub head : (a : ℕ) → a < headWords → getD z a 0 ≡ getD y a 0
   pub outside : (c : ℕ) → Node (layoutOf w) c → (c ∈ joined (replaced (s .lists .sequence) k own) (layoutOf w .lists) → ⊥)
-      → ((getD y (identAt (layoutOf w) c) 0 ≡ wornIdent → ⊥) → getD z (identAt (layoutOf w) c) 0 ≡ 0)
-      × (getD y (identAt (layoutOf w) c) 0 ≡ wornIdent → getD z (identAt (layoutOf w) c) 0 ≡ wornIdent)
+      → (getD z (identAt (layoutOf w) c) 0 ≡ cond (isWorn (getD y (identAt (layoutOf w) c) 0)) wornIdent 0)
       × ((f : ℕ) → 1 ≤ f → f < cellWords (layoutOf w) c → getD z (cellAt (layoutOf w) c + f) 0 ≡ getD y (cellAt (layoutOf w) c + f) 0)
-  -- The nodes that are worn in the sound store are in none of these lists, and keep all their words.
-  pub wornOut : (c : ℕ) → Node (layoutOf w) c → getD w (identAt (layoutOf w) c) 0 ≡ wornIdent
-      → c ∈ joined (replaced (s .lists .sequence) k own) (layoutOf w .lists) → ⊥
+  -- The nodes that are worn in the sound store keep all their words.
   pub worn : KeepsWorn (layoutOf w) w z
   -- every store goes to a faulty word of these lists or to the identifier of a cell in none, which is not worn
   pub stored : All (Kind (layoutOf w) y (replaced (s .lists .sequence) k own)) (storesThrough (ms ++ last ∷ []) y)

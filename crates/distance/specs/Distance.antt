@@ -11,7 +11,7 @@ use Rattle.stores.specs.declared.Answer.the-variants as A
 use Rattle.stores.specs.Stores.{write, stores, answerOf, wordsAfter}
 use Rattle.byte_form.specs.Bytes.{wordsIn, bytesAfter}
 use Rattle.layout.specs.declared.Layout.{Layout}
-use Rattle.layout.specs.Words.{headerWords, linkWords, Node, cellAt, identAt, wornIdent, layoutOf}
+use Rattle.layout.specs.Words.{headerWords, linkWords, Node, cellAt, identAt, wornIdent, Unlisted, layoutOf}
 use Rattle.lists.specs.Lists.{Sound}
 use Rattle.recovery.specs.Plan.{joined, recoverPlan, differing}
 use Rattle.axle_store.specs.declared.Checked.the-variants as C
@@ -59,9 +59,12 @@ pub record Distance : Type 0 where
   -- Nothing else is excluded: a member's identifier changed to 65,535 is noticed and put back.
   pub memberWorn : (w : List ℕ) (s : Sound w) (k c : ℕ) → k < layoutOf w .lists → c ∈ s .lists .sequence k
       → let w′ : List ℕ = set w (identAt (layoutOf w) c) wornIdent in (checkAnswer w′ ≡ C.Refused 6) × PutBack w w′
-  -- And that cannot be left out: of some sound store one identifier is changed, that of a node in no list to 65,535, and check answers sound.
-  pub markPasses : (w : List ℕ) × Sound w × (i : ℕ) × Node (layoutOf w) i × (differing w (set w (identAt (layoutOf w) i) wornIdent) ≡ 1)
-      × (checkAnswer (set w (identAt (layoutOf w) i) wornIdent) ≡ C.Sound)
+  -- And that must be excluded: a node in no list may get 0 or 65,535, and check answers sound. Any other identifier is noticed, and recovery
+  -- frees the node.
+  pub outside : (w : List ℕ) (s : Sound w) (i : ℕ) → Node (layoutOf w) i → (i ∈ joined (s .lists .sequence) (layoutOf w .lists) → ⊥) → (v : ℕ)
+      → let w′ : List ℕ = set w (identAt (layoutOf w) i) v in
+      (Unlisted v → checkAnswer w′ ≡ C.Sound)
+      × ((Unlisted v → ⊥) → (checkAnswer w′ ≡ C.Refused 6) × PutBack (set w (identAt (layoutOf w) i) 0) w′)
   -- The same of the calls from C: b has the bytes of a sound store, b′ those with changed words.
   pub noticedInBytes : (b : List ℕ) (s : Sound (wordsIn b)) (b′ : List ℕ) → length b′ % 2 ≡ 0 → Changed (wordsIn b) s (wordsIn b′)
       → 1 ≤ differing (wordsIn b) (wordsIn b′) → differing (wordsIn b) (wordsIn b′) ≤ 3 → checkCode b′ ≡ 6

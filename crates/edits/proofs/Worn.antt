@@ -6,7 +6,7 @@ use native.Mathlib.Omega.{arith}
 use native.Mathlib.Nat.{suc-mul}
 use lib.ListN.{length, getD, take, drop, length-drop}
 use lib.Seq.{length-take-le}
-use Rattle.sequences.specs.Sequence.{_∈_, All}
+use Rattle.sequences.specs.Sequence.{_∈_}
 use Rattle.sequences.proofs.Members.{all-in, all-append, all-take}
 use Rattle.stores.specs.Stores.{Write, Spares, applied}
 use Rattle.stores.proofs.Laws.{run-out}

@@ -1,4 +1,4 @@
--- What one fault at most tells of the members: how many they are, and whether each carries an identifier.
+-- What one fault at most tells of the members: how many they are, and whether each is in use by its identifier.
 use Prim.Native.Nat.{ℕ, _<_}
 use mathlib.Core.Path.{_≡_, refl, ap, _∙_, sym, subst}
 use mathlib.Core.List.{List, _∷_, List·Memᴰ·head, List·Memᴰ·tail}

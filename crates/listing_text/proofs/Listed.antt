@@ -160,7 +160,7 @@ module _ (l : Layout) (w : List ℕ) (r : InRange l) (small : (i : ℕ) → getD
         lists-short n (suc k) (omega arith),
       ))
 
-  -- as many members as nodes with an identifier
+  -- as many members as nodes in use
   members-few : soundOf l w ≡ true → length (members l (viewOf l w) (l .lists)) ≤ l .nodes
   unfolding soundIn
   members-few e =

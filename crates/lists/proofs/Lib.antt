@@ -4,5 +4,6 @@ pub mod Nodes
 pub mod Decided
 pub mod Empty
 pub mod Same
+pub mod Unlisted
 pub mod Stepwise
 pub mod Ring

@@ -4,14 +4,16 @@ use mathlib.Core.Path.{_≡_, refl, ap, _∙_, sym}
 use mathlib.Core.List.{List, _∷_}
 use mathlib.Core.Bool.{Bool, true, false, not, cond, _||_, or-true, true≢false}
 use native.Mathlib.Omega.{arith}
-use lib.ListN.{length}
+use lib.ListN.{length, getD}
 use borrow.Author.Tests.{eq-eqb, eqb-true}
 use Rattle.sequences.specs.Sequence.{_∈_, range, filter}
 use Rattle.sequences.proofs.Range.{length-range, in-range, range-between}
 use Rattle.sequences.proofs.Filter.{filter-in, in-filter, filter-length}
 use Rattle.layout.specs.declared.Layout.{Layout}
-use Rattle.layout.specs.Words.{InRange, identOf, wornIdent, Unlisted, free, worn, isFree, isWorn, inUse}
+use Rattle.layout.specs.Words.{InRange, identAt, identOf, wornIdent, Unlisted, free, worn, isFree, isWorn, inUse}
+use Rattle.lists.specs.Lists.{IsList}
 use Rattle.lists.specs.Decide.{View, cellsWith, used}
+use Rattle.lists.proofs.Unique.{member-ident}
 
 -- what the identifier of a node says
 pub in-use : (x : ℕ) → inUse x ≡ true → Unlisted x → ⊥
@@ -37,6 +39,11 @@ use-in x n = by (inUse x) refl
 pub list-used : {l : Layout} {k x : ℕ} → InRange l → k < l .lists → x ≡ identOf k → Unlisted x → ⊥
 list-used r h e (free z) = omega (arith, e, z)
 list-used r h e (worn z) = omega (arith, e, z, r .lists)
+
+-- so a free or worn node is no member
+pub unlisted-out : (l : Layout) (w : List ℕ) (k : ℕ) (s : List ℕ) → InRange l → k < l .lists → IsList l w k s
+    → (c : ℕ) → Unlisted (getD w (identAt l c) 0) → c ∈ s → ⊥
+unlisted-out l w k s r h i c u m = list-used r h (member-ident l w k s c i m) u
 
 -- nodes counted by a test are as many at most as there are cells
 pub cells-few : (test : ℕ → Bool) (v : View) (a n : ℕ) → length (cellsWith test v a n) ≤ n

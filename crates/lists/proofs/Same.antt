@@ -9,10 +9,10 @@ use Rattle.sequences.specs.Sequence.{_∈_, All, Different}
 use Rattle.sequences.proofs.Members.{all-in, in-all, different-append, in-front}
 use Rattle.sequences.proofs.Splice.{forward-same, backward-same}
 use Rattle.layout.specs.declared.Layout.{Layout}
-use Rattle.layout.specs.Words.{headWords, forwardWord, backWord, countWord, cellCount, Node, InRange, marked, layoutOf, sizeOf, openedBy, opened, cellAt, identAt, countAt, identOf, Unlisted}
+use Rattle.layout.specs.Words.{headWords, forwardWord, backWord, countWord, cellCount, Node, InRange, marked, layoutOf, sizeOf, openedBy, opened, cellAt, identAt, countAt, identOf, wornIdent, Unlisted}
 use Rattle.layout.proofs.Laws.{cell-header}
 use Rattle.layout.proofs.Apart.{links-words, words-header}
-use Rattle.lists.specs.Lists.{IsList, SoundLists, Sound, SameCells}
+use Rattle.lists.specs.Lists.{IsList, SoundLists, Sound, SameCells, KeepsWorn}
 use Rattle.lists.specs.Decide.{viewOf}
 use Rattle.lists.proofs.Agree.{agrees-holds, holds-agrees}
 use Rattle.lists.proofs.Unique.{member-ident}
@@ -23,6 +23,15 @@ ident-word l i = sym (add-zero (cellAt l i))
 
 pub count-word : (l : Layout) (k : ℕ) → k < l .lists → countAt l k ≡ cellAt l k + countWord
 count-word l k h = ap (λ (a : ℕ). a + countWord) (sym (cell-header l k h))
+
+-- cells with the same words have the same identifiers; so a worn node that is kept is worn
+pub same-ident : (l : Layout) (w w′ cells : List ℕ) → SameCells l w w′ cells → (x : ℕ) → x ∈ cells → getD w′ (identAt l x) 0 ≡ getD w (identAt l x) 0
+same-ident l w w′ cells q x m =
+    ap (λ (a : ℕ). getD w′ a 0) (ident-word l x) ∙ q x 0 m (links-words l x 0 (omega arith)) ∙ ap (λ (a : ℕ). getD w a 0) (sym (ident-word l x))
+
+pub kept-worn : (l : Layout) (w w′ : List ℕ) → KeepsWorn l w w′ → (c : ℕ) → Node l c → getD w (identAt l c) 0 ≡ wornIdent
+    → getD w′ (identAt l c) 0 ≡ wornIdent
+kept-worn l w w′ h c n z = same-ident l w w′ (c ∷ []) (h c n z) c (List·Memᴰ·head refl) ∙ z
 
 -- a list's header is none of its nodes
 pub header-apart : (l : Layout) (k : ℕ) (s : List ℕ) → k < l .lists → All (Node l) s → k ∈ s → ⊥
@@ -78,10 +87,7 @@ module _ (l : Layout) (w : List ℕ) (k : ℕ) (h : k < l .lists) (s : List ℕ)
       }
     where
       ident : (x : ℕ) → x ∈ (k ∷ s) → getD w′ (identAt l x) 0 ≡ getD w (identAt l x) 0
-      ident x m =
-          ap (λ (n : ℕ). getD w′ n 0) (ident-word l x)
-          ∙ q x 0 m (links-words l x 0 (omega arith))
-          ∙ ap (λ (n : ℕ). getD w n 0) (sym (ident-word l x))
+      ident = same-ident l w w′ (k ∷ s) q
 
 -- cells of two lists are different cells
 pub lists-apart

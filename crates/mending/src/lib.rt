@@ -1,6 +1,7 @@
 // Recovery by correction. If exactly one sequence fits each list, its wrong word is to be stored, list 0 first, and then 0 to each
-// identifier of a node in no list. All is decided before the first store. What stands here is what recovery in lent words and in lent
-// bytes share: what is found of the lists, the store that mends a fault, and the laws by which this is the plan of recovery.
+// identifier of a node in no list that is neither 0 nor 65,535. All is decided before the first store. What stands here is what recovery
+// in lent words and in lent bytes share: what is found of the lists, the store that mends a fault, and the laws by which this is the plan
+// of recovery.
 use fitting::Faults;
 use layout::Layout;
 use spans::Cell;
@@ -22,7 +23,7 @@ pub struct Mend {
 }
 
 // What is found of all lists: the number of the first that is refused, 0 for none; how many members they have, and whether each
-// carries an identifier; which lists go by their back links; and the mends, list 0 first.
+// is in use by its identifier; which lists go by their back links; and the mends, list 0 first.
 pub struct Mends {
     pub refusal: u16,
     pub members: u32,
@@ -56,7 +57,7 @@ pub fn mend_of(l: Layout, f: Faults) -> Mend
 }
 
 impl Mends {
-    // Is every node with an identifier a member? It is if the members all carry one and are as many as the nodes that do, `used`.
+    // Is every node in use a member? It is if the members are all in use by their identifiers and as many as the nodes that are, `used`.
     pub fn none_left(self, used: u32) -> bool
         ensures { λ r. ⌜ r ≡ (self .carried && eqb (self .members) used) ⌝ }
     {

@@ -1,21 +1,21 @@
 -- Worn nodes are passed over: what the search finds is free, and where a call works is a free node, a member or a header.
 use Prim.Native.Nat.{ℕ, _+_, _/_, _%_, _<_}
-use mathlib.Core.Path.{_≡_, refl, _∙_, sym, subst}
+use mathlib.Core.Path.{_≡_, refl, sym, subst}
 use mathlib.Core.List.{List, [], _∷_, _++_}
 use mathlib.Core.Bool.{Bool, true, false, cond, _&&_}
 use native.Mathlib.Omega.{arith}
 use lib.Dec.{leb, ltb, eqb}
 use lib.ListN.{length, getD}
 use borrow.Author.Tests.{ltb-true, eqb-true}
-use Rattle.sequences.specs.Sequence.{All}
 use Rattle.sequences.proofs.Members.{all-nth}
 use Rattle.layout.specs.declared.Layout.{Layout}
 use Rattle.layout.specs.declared.Opened.{Opened}
 use Rattle.layout.specs.declared.Opened.the-variants as O
-use Rattle.layout.specs.Words.{InRange, ask, isNode, identOf, wornIdent, isFree, opened, afterOpen}
+use Rattle.layout.specs.Words.{InRange, ask, isNode, identOf, wornIdent, worn, isFree, opened, afterOpen}
 use Rattle.layout.proofs.Laws.{opened-open}
 use Rattle.lists.specs.Decide.{View, viewOf, countIn, sequenceIn, soundIn}
 use Rattle.lists.proofs.Agree.{Holds, holds-true}
+use Rattle.lists.proofs.Nodes.{list-used}
 use Rattle.lists.proofs.Stepwise.{sound-hold}
 use Rattle.requests.specs.declared.Free.{Free}
 use Rattle.requests.specs.declared.Free.the-variants.{Cell, Full}
@@ -85,9 +85,6 @@ mark-unworn l ident c =
 
 -- the site of any request
 module _ (l : Layout) (r : InRange l) (v : View) (count : ℕ → ℕ) where
-  list-unworn : {k x : ℕ} → k < l .lists → x ≡ identOf k → x ≡ wornIdent → ⊥
-  list-unworn h e z = omega (arith, e, z, r .lists)
-
   held : soundIn l v count ≡ true → (k : ℕ) → k < l .lists → Holds v k (count k) (sequenceIn l v k)
   held e k h = holds-true v k (count k) (sequenceIn l v k) (sound-hold l v count e k h)
 
@@ -104,7 +101,10 @@ module _ (l : Layout) (r : InRange l) (v : View) (count : ℕ → ℕ) where
             count = length (sequenceIn l v k);
           })))
       by true g =
-          list-unworn h (all-nth (λ x. v .ident x ≡ identOf k) (sequenceIn l v k) p 0 (held e k h .turn .idents) (ltb-true p (length (sequenceIn l v k)) g))
+          λ z.
+          list-used r h
+          (all-nth (λ x. v .ident x ≡ identOf k) (sequenceIn l v k) p 0 (held e k h .turn .idents) (ltb-true p (length (sequenceIn l v k)) g))
+          (worn z)
       by false g = tt
 
   of-list : (k : ℕ) (rest : List ℕ → Sited) → (k < l .lists → soundIn l v count ≡ true → sitedUnworn (v .ident) (rest (sequenceIn l v k)))
@@ -117,9 +117,9 @@ module _ (l : Layout) (r : InRange l) (v : View) (count : ℕ → ℕ) where
   unfolding siteIn
   site-unworn Check =
       asked (v .ident) (soundIn l v count) 6 (At (record { before = 0; cell = 0; after = 0; count = 0 }))
-      (λ e. let h : 0 < l .lists = omega (arith, r .someLists) in list-unworn h (held e 0 h .ident))
+      (λ e. let h : 0 < l .lists = omega (arith, r .someLists) in λ z. list-used r h (held e 0 h .ident) (worn z))
   site-unworn (Whole k) =
-      of-list k (λ s. At (record { before = k; cell = k; after = k; count = length s })) (λ h e. list-unworn h (held e k h .ident))
+      of-list k (λ s. At (record { before = k; cell = k; after = k; count = length s })) (λ h e z. list-used r h (held e k h .ident) (worn z))
   site-unworn (Member k p) = of-list k (memberAt k p) (λ h e. member-unworn k p h e)
   site-unworn (Gap k p c m) = of-list k (gapAt l (v .ident) k p c m) (λ h e. gap-unworn l (v .ident) k p c (sequenceIn l v k) m)
   site-unworn (Gaps k p c m) = of-list k (gapsAt l (v .ident) k p c m) (λ h e. gaps-unworn l (v .ident) k p c (sequenceIn l v k) m)

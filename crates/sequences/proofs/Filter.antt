@@ -2,7 +2,7 @@
 use Prim.Native.Nat.{ℕ, suc, _+_, _≤_}
 use mathlib.Core.Path.{_≡_, refl, ap, _∙_, sym}
 use mathlib.Core.List.{List, [], _∷_, _++_, List·Memᴰ·head, List·Memᴰ·tail}
-use mathlib.Core.Bool.{Bool, true, false, cond, not, true≢false}
+use mathlib.Core.Bool.{Bool, true, false, cond, true≢false}
 use native.Mathlib.Omega.{arith}
 use lib.ListN.{length}
 use Rattle.sequences.specs.Sequence.{_∈_, All, Different, filter}
@@ -83,16 +83,3 @@ pub filter-same : (test other : ℕ → Bool) (s : List ℕ) → All (λ x. othe
 unfolding filter
 filter-same test other [] h = refl
 filter-same test other (x ∷ s) h = rw (h .0, filter-same test other s (h .1))
-
--- the members are those that pass and those that do not
-pub filter-split : (test : ℕ → Bool) (s : List ℕ) → length (filter test s) + length (filter (λ x. not (test x)) s) ≡ length s
-unfolding filter
-filter-split test [] = refl
-filter-split test (x ∷ s) = by (test x) (filter-split test s)
-  where
-    by : (b : Bool) → length (filter test s) + length (filter (λ x. not (test x)) s) ≡ length s
-        → length (cond b (x ∷ filter test s) (filter test s))
-        + length (cond (not b) (x ∷ filter (λ x. not (test x)) s) (filter (λ x. not (test x)) s))
-        ≡ suc (length s)
-    by true e = omega arith
-    by false e = omega arith

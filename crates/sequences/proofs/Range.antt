@@ -1,7 +1,7 @@
 -- A range has the numbers between its ends, each once, as many as it says.
 use Prim.Native.Nat.{ℕ, zero, suc, _+_, _<_, _≤_}
 use mathlib.Core.Path.{_≡_, refl, ap, _∙_}
-use mathlib.Core.List.{List, [], _∷_, _++_, List·Memᴰ·head, List·Memᴰ·tail}
+use mathlib.Core.List.{List, _∷_, _++_, List·Memᴰ·head, List·Memᴰ·tail}
 use native.Mathlib.Decide.{ℕ-discrete}
 use native.Mathlib.Omega.{arith}
 use lib.ListN.{length}
@@ -47,7 +47,3 @@ range-append a (suc m) n =
 pub range-first : (a n : ℕ) → range a (suc n) ≡ a ∷ range (suc a) n
 unfolding range
 range-first a n = refl
-
-pub range-none : (a : ℕ) → range a 0 ≡ []
-unfolding range
-range-none a = refl

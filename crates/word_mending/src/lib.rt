@@ -1,5 +1,5 @@
 // Recovery of a store in words, decided in the lent words: each list is walked there, and the mends are kept in short rows. Only if a
-// node in no list may carry an identifier, the identifiers are read into a column and the members erased there.
+// node in no list may be in use by its identifier, the identifiers are read into a column and the members erased there.
 use layout::Layout;
 use mending::Mends;
 use spans::Grid;
@@ -37,7 +37,7 @@ fn make(
     Answer::Done(n + m)
 }
 
-// Recovers a store where a node in no list may carry an identifier: the mends, and then the clears.
+// Recovers a store where a node in no list may be in use by its identifier: the mends, and then the clears.
 fn recover_left(
     words: &mut [u16],
     l: Layout,

@@ -15,7 +15,7 @@ use Rattle.layout.specs.declared.Opened.{Opened}
 use Rattle.layout.specs.declared.Opened.the-variants as O
 use Rattle.layout.specs.Words.{Node, sizeOf, cellAt, cellWords, identAt, wornIdent, layoutOf, opened, afterOpen, ask}
 use Rattle.layout.proofs.Laws.{opened-open}
-use Rattle.lists.specs.Lists.{Sound, SameCells, KeepsWorn}
+use Rattle.lists.specs.Lists.{SameCells, KeepsWorn}
 use Rattle.lists.proofs.Decided.{sound-lists}
 use Rattle.lists.proofs.Unique.{list-sequence}
 use Rattle.requests.specs.declared.Site.{Site}

@@ -1,40 +1,38 @@
 -- A mark is for good. After any calls the words are such that every list has exactly one sequence that fits, and the nodes that were worn are in
 -- none of these; so none of the stores of a recovery goes to one of them. A call that stores otherwise finds a sound store.
-use Prim.Native.Nat.{ℕ, zero, suc, _+_, _<_}
+use Prim.Native.Nat.{ℕ, zero, suc, _<_}
 use mathlib.Core.Path.{_≡_, refl, ap, _∙_, sym, subst}
-use mathlib.Core.List.{List, [], _∷_, List·Memᴰ·head}
+use mathlib.Core.List.{List, [], _∷_}
 use mathlib.Core.Bool.{Bool, true, false, cond}
 use native.Mathlib.Decide.{decLt}
 use native.Mathlib.Omega.{arith}
 use lib.Dec.{eqb}
 use lib.ListN.{length, getD}
 use Rattle.sequences.specs.Sequence.{_∈_}
-use Rattle.stores.specs.Stores.{Plan, refuse, stores, applied, wordsAfter}
+use Rattle.stores.specs.Stores.{Plan, applied, wordsAfter}
 use Rattle.layout.specs.declared.Layout.{Layout}
 use Rattle.layout.specs.declared.Opened.the-variants as O
 use Rattle.layout.specs.Words.{Node, InRange, sizeOf, identAt, wornIdent, worn, layoutOf, opened}
 use Rattle.layout.proofs.Laws.{opened-open}
-use Rattle.layout.proofs.Apart.{links-words}
 use Rattle.lists.specs.Lists.{Sound, SoundLists, KeepsWorn}
 use Rattle.lists.specs.Decide.{viewOf, countIn, soundOf}
-use Rattle.lists.proofs.Nodes.{list-used}
+use Rattle.lists.proofs.Nodes.{unlisted-out}
 use Rattle.lists.proofs.Decided.{sound-lists}
-use Rattle.lists.proofs.Unique.{member-ident}
-use Rattle.lists.proofs.Same.{ident-word}
+use Rattle.lists.proofs.Same.{kept-worn}
 use Rattle.requests.specs.declared.Looked.the-variants as K
 use Rattle.requests.specs.declared.Looked.{Looked}
 use Rattle.requests.specs.declared.Request.{Request}
 use Rattle.requests.specs.declared.Request.the-variants.{Member, Gap, Gaps, Mark}
 use Rattle.requests.specs.Requests.{listOf, lookOf}
 use Rattle.requests.proofs.Laws.{site-unlisted, site-unsound, look-refused}
-use Rattle.edits.specs.Edits.{markWrites, markStores}
+use Rattle.edits.specs.Edits.{markStores}
 use Rattle.edits.proofs.Done.{looked, mark-facts}
 use Rattle.edits.proofs.Worn.{mark-keeps}
-use Rattle.recovery.specs.Plan.{joined, recoverStores, recoverPlan, Accepted}
+use Rattle.recovery.specs.Plan.{joined, recoverPlan}
 use Rattle.recovery.proofs.Joined.{joined-one}
 use Rattle.recovery.proofs.Whole.{sound-accepted}
 use Rattle.axle_store.specs.Calls.{markPlan}
-use Rattle.axle_store.proofs.Cases.{insert-refused, several-refused, delete-refused, mark-refused, mark-at}
+use Rattle.axle_store.proofs.Cases.{insert-refused, several-refused, delete-refused, mark-refused}
 use Rattle.axle_store.proofs.Calls.{sound-opened}
 use Rattle.courses.specs.Course.{Edit, insert, several, delete, named, editPlan, allStores, due, Alteration, untouched, alteredBelow}
 use Rattle.courses.proofs.Standing.{Standing, standing-plan, standing-after}
@@ -43,7 +41,7 @@ use Rattle.courses.proofs.Demand3.{after-applied, left-cut, left-keeps}
 use Rattle.courses.proofs.Course as C
 use Rattle.demands.specs.Demand2.{FreeNode}
 use Rattle.worn.specs.Worn.{Call, edit, mark, recover, wordsBy, wordsByAll}
-use Rattle.worn.proofs.Mark.{mark-plan, mark-sound, marks}
+use Rattle.worn.proofs.Mark.{mark-plan, marks}
 use Rattle.worn.proofs.Kept.{cut-kept}
 
 -- the nodes that are worn in w are in none of the sequences t
@@ -56,12 +54,6 @@ record After (l : Layout) (w y : List ℕ) : Type 0 where
   standing : Standing l sequence y
   out : Out l w sequence
   kept : KeepsWorn l w y
-
--- a worn node that is kept is worn
-kept-worn : (l : Layout) (w y : List ℕ) → KeepsWorn l w y → (c : ℕ) → Node l c → getD w (identAt l c) 0 ≡ wornIdent → getD y (identAt l c) 0 ≡ wornIdent
-kept-worn l w y h c n z =
-    ap (λ (a : ℕ). getD y a 0) (ident-word l c) ∙ h c n z c 0 (List·Memᴰ·head refl) (links-words l c 0 (omega arith))
-    ∙ ap (λ (a : ℕ). getD w a 0) (sym (ident-word l c)) ∙ z
 
 -- one call after another
 kept-both : (l : Layout) (w y v : List ℕ) → KeepsWorn l w y → KeepsWorn l y v → KeepsWorn l w v
@@ -80,8 +72,7 @@ after-both l w y v h a =
 sound-out : (w : List ℕ) (s : Sound w) → Out (layoutOf w) w (s .lists .sequence)
 sound-out w s c n z m =
     let k = joined-one (s .lists .sequence) (layoutOf w .lists) c m in
-    list-used (s .inRange) (k .1)
-    (member-ident (layoutOf w) w (k .0) (s .lists .sequence (k .0)) c (s .lists .lists (k .0) (k .1)) (k .2)) (worn z)
+    unlisted-out (layoutOf w) w (k .0) (s .lists .sequence (k .0)) (s .inRange) (k .1) (s .lists .lists (k .0) (k .1)) c (worn z) (k .2)
 
 sound-after : (w : List ℕ) → Sound w → After (layoutOf w) w w
 sound-after w s =

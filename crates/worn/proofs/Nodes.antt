@@ -2,7 +2,7 @@
 use Prim.Native.Nat.{ℕ, zero, suc, _+_, _*_, _/_, _%_, _<_, _≤_}
 use mathlib.Core.Path.{_≡_, refl, ap, _∙_, sym}
 use mathlib.Core.List.{List, _++_}
-use mathlib.Core.Bool.{true, and-eq-true-iff}
+use mathlib.Core.Bool.{and-eq-true-iff}
 use mathlib.Core.Logic.{_⊎_, inl, inr, _↔_}
 use native.Mathlib.Decide.{decLt}
 use native.Mathlib.Omega.{arith}
@@ -12,22 +12,21 @@ use lib.ListN.{length, getD, take}
 use lib.Seq.{length-take-le}
 use borrow.Author.Tests.{eq-eqb, eqb-true, lt-ltb, le-leb, lt-leb}
 use Rattle.sequences.specs.Sequence.{_∈_}
-use Rattle.stores.specs.Stores.{Write, Plan, refuse, stores}
+use Rattle.stores.specs.Stores.{Write, refuse, stores}
 use Rattle.layout.specs.declared.Layout.{Layout}
-use Rattle.layout.specs.Words.{Node, firstNode, identAt, wornIdent, Unlisted, free, worn, isFree, isWorn, layoutOf}
+use Rattle.layout.specs.Words.{Node, firstNode, identAt, Unlisted, free, worn, layoutOf}
 use Rattle.layout.proofs.Laws.{node-is}
 use Rattle.lists.specs.Lists.{Sound}
-use Rattle.lists.specs.Decide.{View, viewOf, countIn, sequenceIn, sequenceOf, allHold, members, used, soundIn, soundOf}
-use Rattle.lists.proofs.Nodes.{list-used, cells-sum}
-use Rattle.lists.proofs.Unique.{member-ident, list-sequence}
+use Rattle.lists.specs.Decide.{View, viewOf, countIn, sequenceIn, sequenceOf, allHold, members, used, soundIn}
+use Rattle.lists.proofs.Nodes.{unlisted-out, cells-sum}
+use Rattle.lists.proofs.Unique.{list-sequence}
 use Rattle.requests.specs.declared.Free.{Free}
 use Rattle.requests.specs.declared.Free.the-variants.{Cell, Full}
 use Rattle.requests.specs.declared.Sited.the-variants.{Refused}
 use Rattle.requests.specs.declared.Request.the-variants.{Gap, Gaps}
 use Rattle.requests.specs.Requests.{around, firstFree, freeCells, gapAt, gapsAt, siteIn, siteOf}
 use Rattle.requests.proofs.Laws.{look-refused}
-use Rattle.requests.proofs.Turn.{around-nodes, free-count}
-use Rattle.edits.specs.Edited.{FirstFree}
+use Rattle.requests.proofs.Turn.{free-count}
 use Rattle.edits.proofs.Free.{first-free}
 use Rattle.edits.proofs.OneByOne.{turn-free}
 use Rattle.recovery.specs.Plan.{joined}
@@ -64,7 +63,7 @@ module _ (w : List ℕ) (s : Sound w) where
       from : FreeNode w i ⊎ WornNode w i → i ∈ joined (s .lists .sequence) (l .lists) → ⊥
       from u m =
           let k = joined-one (s .lists .sequence) (l .lists) i m in
-          list-used (s .inRange) (k .1) (member-ident l w (k .0) (s .lists .sequence (k .0)) i (s .lists .lists (k .0) (k .1)) (k .2)) (unlisted u)
+          unlisted-out l w (k .0) (s .lists .sequence (k .0)) (s .inRange) (k .1) (s .lists .lists (k .0) (k .1)) i (unlisted u) (k .2)
 
   -- as many nodes are in use as the lists have members
   members-used : length (joined (s .lists .sequence) (l .lists)) ≡ length (used (viewOf l w) (firstNode l) (l .nodes))

@@ -2,9 +2,10 @@
 use Rattle.axle_store.proofs.Worn.{insert-worn, several-worn}
 use Rattle.worn.specs.Worn.{Worn}
 use Rattle.worn.proofs.Nodes.{kinds, sum, full, several-full}
-use Rattle.worn.proofs.Mark.{marks, marks-bytes}
+use Rattle.worn.proofs.Mark.{marks}
 use Rattle.worn.proofs.Kept.{deletes, recovers}
 use Rattle.worn.proofs.Later.{later}
+use Rattle.worn.proofs.Bytes.{marks-bytes, later-bytes}
 
 pub worn : Worn
 worn =
@@ -20,4 +21,5 @@ worn =
       marks = marks;
       later = later;
       marksBytes = marks-bytes;
+      laterBytes = later-bytes;
     }

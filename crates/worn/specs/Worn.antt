@@ -21,7 +21,8 @@ use Rattle.recovery.specs.Plan.{joined, fittingOf, recoverPlan}
 use Rattle.axle_store.specs.Calls.{insertPlan, severalPlan, deletePlan, markPlan}
 use Rattle.demands.specs.Demand2.{FreeNode}
 use Rattle.courses.specs.Course.{Edit, editPlan}
-use Rattle.axle.specs.Interface.{codeOf, byteMark}
+use Rattle.axle.specs.Interface.{codeOf, byteMark, byteRecover}
+use Rattle.byte_courses.specs.ByteCourse.{byteEdit}
 
 -- a node with identifier 65,535
 pub record WornNode (w : List ℕ) (i : ℕ) : Type 0 where
@@ -64,6 +65,16 @@ unfoldable pub wordsByAll : List Call → List ℕ → List ℕ
 wordsByAll [] w = w
 wordsByAll (c ∷ cs) w = wordsByAll cs (wordsBy c w)
 
+-- The same from C: the store and the record are bytes.
+abbrev pub bytesBy : Call → List ℕ → List ℕ
+bytesBy (edit e m) b = bytesAfter (byteEdit b e) m b
+bytesBy (mark c) b = bytesAfter (byteMark b c) markStores b
+bytesBy (recover m) b = bytesAfter (byteRecover b) m b
+
+unfoldable pub bytesByAll : List Call → List ℕ → List ℕ
+bytesByAll [] b = b
+bytesByAll (c ∷ cs) b = bytesByAll cs (bytesBy c b)
+
 pub record Worn : Type 0 where
   -- "A sound store may have such nodes": each of its nodes is in a list, or else it is free or worn;
   pub kinds : (w : List ℕ) (s : Sound w) (i : ℕ) → Node (layoutOf w) i
@@ -92,7 +103,9 @@ pub record Worn : Type 0 where
   -- The mark is for good: after any calls, whatever they are given, refused, cut or whole, the nodes that were worn in a sound store have all
   -- their words.
   pub later : (w : List ℕ) → Sound w → (calls : List Call) → KeepsWorn (layoutOf w) w (wordsByAll calls w)
-  -- The same of the call from C: b has the bytes of a sound store.
+  -- The same of the calls from C: b has the bytes of a sound store.
   pub marksBytes : (b : List ℕ) → Sound (wordsIn b) → length b % 2 ≡ 0 → (c : ℕ) → FreeNode (wordsIn b) c
       → (codeOf (answerOf (byteMark b c) markStores) ≡ 65537)
       × (wordsIn (bytesAfter (byteMark b c) markStores b) ≡ set (wordsIn b) (identAt (layoutOf (wordsIn b)) c) wornIdent)
+  pub laterBytes : (b : List ℕ) → Sound (wordsIn b) → length b % 2 ≡ 0 → (calls : List Call)
+      → KeepsWorn (layoutOf (wordsIn b)) (wordsIn b) (wordsIn (bytesByAll calls b))

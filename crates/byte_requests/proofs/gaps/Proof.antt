@@ -1,5 +1,5 @@
 -- `byte_requests::gaps` meets its contract: questions 7 to 9, then as many free nodes as have no identifier, and then the gap.
-use Prim.Native.Nat.{ℕ, _+_, _%_, _≤_, _<_}
+use Prim.Native.Nat.{ℕ, _%_, _≤_, _<_}
 use mathlib.Core.Path.{_≡_, ap, _∙_, sym}
 use mathlib.Core.List.{List}
 use native.Mathlib.Omega.{arith}

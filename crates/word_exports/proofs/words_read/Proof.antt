@@ -1,7 +1,6 @@
 -- `word_exports::words_read` meets its contract: the part is empty, or its first word is a word.
-use mathlib.Core.Path.{_≡_, ap, _∙_, sym}
+use mathlib.Core.Path.{ap, _∙_, sym}
 use native.Mathlib.Omega.{arith}
-use lib.ListN.{length, getD}
 use borrow.Author.Tests.{eq-eqb, ne-eqb}
 use borrow.Author.Needs.{needs}
 use Rattle.word_exports.specs.Codes.{partCode}

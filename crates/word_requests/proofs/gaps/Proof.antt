@@ -1,5 +1,5 @@
 -- `word_requests::gaps` meets its contract: questions 7 to 9, then question 10 by the number of free nodes, and the search, which then finds one.
-use Prim.Native.Nat.{ℕ, _+_, _≤_}
+use Prim.Native.Nat.{ℕ, _≤_}
 use mathlib.Core.Path.{_≡_, ap, _∙_, sym}
 use mathlib.Core.List.{List}
 use native.Mathlib.Omega.{arith}
