@@ -38,6 +38,6 @@ format-words l b h = rw (eq-eqb (length b % 2) 0 h) (by (inRange l) (eqb (length
     by : (r e : Bool) → eqb (length (wordsIn b)) (sizeOf l) ≡ e
         → wordsIn (wholeBytes (ask r (refuse 3) (ask e (refuse 4) (stores (inRow 0 (formatted l))))) b)
         ≡ formattedWords l (wordsIn b) (ask r (F.Refused 3) (ask e (F.Refused 4) F.Done))
-    by true true z = words-run (inRow 0 (formatted l)) b h ∙ row-all (formatted l) (wordsIn b) (length-formatted l ∙ sym (eqb-true _ _ z))
+    by true true z = words-run (inRow 0 (formatted l)) b ∙ row-all (formatted l) (wordsIn b) (length-formatted l ∙ sym (eqb-true _ _ z))
     by true false z = refl
     by false e z = refl

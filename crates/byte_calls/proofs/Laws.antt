@@ -33,11 +33,11 @@ pub byte-run
 byte-run m b e x y = (x ∙ ap (λ (p : Plan). answerOf p m) (sym e), y ∙ ap (λ (p : Plan). bytesAfter p m b) (sym e))
 
 -- and of an insert, which keeps the worn nodes
-pub byte-kept : (p : Plan) (m : ℕ) (b : List ℕ) {x : Answer} {b′ : List ℕ} → length b % 2 ≡ 0
+pub byte-kept : (p : Plan) (m : ℕ) (b : List ℕ) {x : Answer} {b′ : List ℕ}
     → KeepsWorn (layoutOf (wordsIn b)) (wordsIn b) (wordsAfter p m (wordsIn b)) → (x ≡ answerOf p m) × (b′ ≡ bytesAfter p m b)
     → (x ≡ answerOf p m) × ((b′ ≡ bytesAfter p m b) × KeepsWorn (layoutOf (wordsIn b)) (wordsIn b) (wordsIn b′))
-byte-kept p m b even h q =
-    (q .0, (q .1, subst (KeepsWorn (layoutOf (wordsIn b)) (wordsIn b)) (sym (ap wordsIn (q .1) ∙ words-after p m b even)) h))
+byte-kept p m b h q =
+    (q .0, (q .1, subst (KeepsWorn (layoutOf (wordsIn b)) (wordsIn b)) (sym (ap wordsIn (q .1) ∙ words-after p m b)) h))
 
 -- the layout that a look found is read again from the words
 pub look-again : {l : Layout} {t : Site} (w : List ℕ) (q : Request) → lookOf w q ≡ K.At l t → (headWords ≤ length w) × (lookOf w q ≡ K.At (layoutOf w) t)

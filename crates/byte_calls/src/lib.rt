@@ -48,7 +48,6 @@ pub fn insert(
     rec: &[u8],
     allowance: u16,
 ) -> Answer
-    requires { ⌜ length (now bytes) % 2 ≡ 0 ⌝ }
     ensures answer { λ r. ⌜ r ≡ answerOf (insertPlan (wordsIn (now (bytes .entry))) list position start (recordWords (now (rec .entry)))) allowance ⌝ }
     ensures bytes { λ _. ⌜ now (bytes .exit) ≡ bytesAfter (insertPlan (wordsIn (now (bytes .entry))) list position start (recordWords (now (rec .entry)))) allowance (now (bytes .entry)) ⌝ }
     ensures worn { λ _. ⌜ KeepsWorn (layoutOf (wordsIn (now (bytes .entry)))) (wordsIn (now (bytes .entry))) (wordsIn (now (bytes .exit))) ⌝ }
@@ -69,7 +68,6 @@ pub fn insert_several(
     records: &[u8],
     allowance: u16,
 ) -> Answer
-    requires { ⌜ length (now bytes) % 2 ≡ 0 ⌝ }
     ensures answer { λ r. ⌜ r ≡ answerOf (severalPlan (wordsIn (now (bytes .entry))) list position start (recordWords (now (records .entry)))) allowance ⌝ }
     ensures bytes { λ _. ⌜ now (bytes .exit) ≡ bytesAfter (severalPlan (wordsIn (now (bytes .entry))) list position start (recordWords (now (records .entry)))) allowance (now (bytes .entry)) ⌝ }
     ensures worn { λ _. ⌜ KeepsWorn (layoutOf (wordsIn (now (bytes .entry)))) (wordsIn (now (bytes .entry))) (wordsIn (now (bytes .exit))) ⌝ }

@@ -131,7 +131,7 @@ fn step(bytes: &mut [u8], l: Layout, i: u16)
     requires { ⌜ Laid l (wordsIn (now bytes)) × Node l i ⌝ }
     ensures { λ _. ⌜ now (bytes .exit) ≡ run (byteWrites (write (identAt l i) 0 ∷ [])) (now (bytes .entry)) ⌝ }
 {
-    byte_form::put(bytes, l.node(i), 0);
+    byte_form::put(bytes, l.node(i), Layout::FREE);
 }
 
 // Clears each node whose entry says in use, lowest cell first, up to the allowance.

@@ -34,10 +34,10 @@ recover-plan y h = rw (eq-eqb (length y % 2) 0 h)
 
 -- one call
 pub edit-words : (b : List ℕ) (e : Edit) (m : ℕ) → length b % 2 ≡ 0 → wordsIn (bytesAfter (byteEdit b e) m b) ≡ wordsAfter (editPlan (wordsIn b) (inWords e)) m (wordsIn b)
-edit-words b e m h = words-after (byteEdit b e) m b h ∙ ap (λ (p : Plan). wordsAfter p m (wordsIn b)) (edit-plan b e h)
+edit-words b e m h = words-after (byteEdit b e) m b ∙ ap (λ (p : Plan). wordsAfter p m (wordsIn b)) (edit-plan b e h)
 
 pub recover-words : (y : List ℕ) (m : ℕ) → length y % 2 ≡ 0 → wordsIn (bytesAfter (byteRecover y) m y) ≡ wordsAfter (recoverPlan (wordsIn y)) m (wordsIn y)
-recover-words y m h = words-after (byteRecover y) m y h ∙ ap (λ (p : Plan). wordsAfter p m (wordsIn y)) (recover-plan y h)
+recover-words y m h = words-after (byteRecover y) m y ∙ ap (λ (p : Plan). wordsAfter p m (wordsIn y)) (recover-plan y h)
 
 even-after : (y : List ℕ) (m : ℕ) → length y % 2 ≡ 0 → length (bytesAfter (byteRecover y) m y) % 2 ≡ 0
 even-after y m h = ap (λ (n : ℕ). n % 2) (length-after (byteRecover y) m y) ∙ h

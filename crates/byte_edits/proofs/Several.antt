@@ -1,5 +1,5 @@
 -- The loop over several records (edits/proofs/Underway.antt) in bytes: the words of a part of the bytes, and what the stores leave.
-use Prim.Native.Nat.{ℕ, zero, suc, _+_, _*_, _-_, _%_, _≤_, _<_}
+use Prim.Native.Nat.{ℕ, zero, suc, _+_, _*_, _-_, _≤_, _<_}
 use mathlib.Core.Path.{_≡_, refl, ap, ap₂, _∙_, sym}
 use mathlib.Core.List.{List, [], _∷_, _++_}
 use native.Mathlib.Omega.{arith}
@@ -56,11 +56,11 @@ module _ {l : Layout} {k : ℕ} {ps made : List Write} {w : List ℕ} {t : Site}
   bytes-done z = sym (going-on First (underway-last u z))
 
   -- they are all made
-  pub bytes-next : length b % 2 ≡ 0 → length First ≤ m - n → {b′ : List ℕ} → b′ ≡ appliedBytes First (m - n) b
+  pub bytes-next : length First ≤ m - n → {b′ : List ℕ} → b′ ≡ appliedBytes First (m - n) b
       → (wordsIn b′ ≡ run First (wordsIn b)) × (b′ ≡ run (byteWrites (made ++ First)) b₀)
-  bytes-next even g a =
+  bytes-next g a =
       let q = a ∙ bytes-all First (m - n) b g in (
-        ap wordsIn q ∙ words-run First b even,
+        ap wordsIn q ∙ words-run First b,
         q
             ∙ ap (run (byteWrites First)) e
             ∙ sym (run-append (byteWrites made) (byteWrites First) b₀)

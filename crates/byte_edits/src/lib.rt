@@ -47,7 +47,7 @@ pub fn insert_all(
     records: &[u8],
     allowance: u16,
 ) -> Answer
-    requires { ⌜ Room l (wordsIn (now bytes)) list first (length (wordsIn (now records)) / l .width) × (0 < length (wordsIn (now records))) × (length (wordsIn (now records)) ≡ length (wordsIn (now records)) / l .width * l .width) × (length (now records) % 2 ≡ 0) × (length (now bytes) % 2 ≡ 0) ⌝ }
+    requires { ⌜ Room l (wordsIn (now bytes)) list first (length (wordsIn (now records)) / l .width) × (0 < length (wordsIn (now records))) × (length (wordsIn (now records)) ≡ length (wordsIn (now records)) / l .width * l .width) × (length (now records) % 2 ≡ 0) ⌝ }
     ensures answer { λ r. ⌜ r ≡ answerOf (stores (chainFrom l (wordsIn (now (bytes .entry))) list first (length (wordsIn (now (records .entry))) / l .width) (wordsIn (now (records .entry))))) allowance ⌝ }
     ensures bytes { λ _. ⌜ now (bytes .exit) ≡ appliedBytes (chainFrom l (wordsIn (now (bytes .entry))) list first (length (wordsIn (now (records .entry))) / l .width) (wordsIn (now (records .entry)))) allowance (now (bytes .entry)) ⌝ }
     ensures worn { λ _. ⌜ KeepsWorn l (wordsIn (now (bytes .entry))) (wordsIn (now (bytes .exit))) ⌝ }

@@ -5,7 +5,7 @@ use mathlib.Core.List.{List, [], _∷_, _++_}
 use native.Mathlib.Omega.{arith}
 use native.Mathlib.Nat.{div-add-mod'}
 use native.Mathlib.Numerals.{add-one}
-use lib.ListN.{length, getD, set, take, drop, length-set, take-append-drop}
+use lib.ListN.{length, getD, set, take, drop, take-append-drop}
 use lib.Seq.{take-suc, take-all, take-take, drop-nil}
 use Rattle.stores.specs.Stores.{Write, write, run, Plan, refuse, stores, wordsAfter, madeBy}
 use Rattle.stores.proofs.Laws.{run-append, length-run}
@@ -40,34 +40,36 @@ pub same-words : (b c : List ℕ) → length b ≡ length c → length (wordsIn 
 same-words b c e = length-words b ∙ ap (λ (n : ℕ). n / 2) e ∙ sym (length-words c)
 
 -- the two bytes of a word stored; beyond the last word nothing is
-pub words-put : (b : List ℕ) (a low high : ℕ) → length b % 2 ≡ 0 → wordsIn (set (set b (2 * a) low) (2 * a + 1) high) ≡ set (wordsIn b) a (low + 256 * high)
+pub words-put : (b : List ℕ) (a low high : ℕ) → wordsIn (set (set b (2 * a) low) (2 * a + 1) high) ≡ set (wordsIn b) a (low + 256 * high)
 unfolding wordsIn
-words-put [] a low high e = refl
-words-put (x ∷ []) a low high e = absurd (omega arith)
-words-put (x ∷ y ∷ b) zero low high e = refl
-words-put (x ∷ y ∷ b) (suc a) low high e =
+words-put [] a low high = refl
+words-put (x ∷ []) zero low high = refl
+words-put (x ∷ []) (suc a) low high =
+    let m : 2 * suc a ≡ suc (suc (2 * a)) = omega arith in
+    let n : 2 * suc a + 1 ≡ suc (suc (2 * a + 1)) = omega arith in
+    ap₂ (λ (i j : ℕ). wordsIn (set (set (x ∷ []) i low) j high)) m n
+words-put (x ∷ y ∷ b) zero low high = refl
+words-put (x ∷ y ∷ b) (suc a) low high =
     let m : 2 * suc a ≡ suc (suc (2 * a)) = omega arith in
     let n : 2 * suc a + 1 ≡ suc (suc (2 * a + 1)) = omega arith in
     ap₂ (λ (i j : ℕ). wordsIn (set (set (x ∷ y ∷ b) i low) j high)) m n
-    ∙ ap (λ (w : List ℕ). (x + 256 * y) ∷ w) (words-put b a low high (omega arith))
+    ∙ ap (λ (w : List ℕ). (x + 256 * y) ∷ w) (words-put b a low high)
 
 -- a word store made as two byte stores is the word store
-pub words-run : (ps : List Write) (b : List ℕ) → length b % 2 ≡ 0 → wordsIn (run (byteWrites ps) b) ≡ run ps (wordsIn b)
+pub words-run : (ps : List Write) (b : List ℕ) → wordsIn (run (byteWrites ps) b) ≡ run ps (wordsIn b)
 unfolding run byteWrites
-words-run [] b e = refl
-words-run (p ∷ ps) b e =
+words-run [] b = refl
+words-run (p ∷ ps) b =
     let v : p .value % 256 + 256 * (p .value / 256) ≡ p .value = omega (arith, div-add-mod' (p .value) 256) in
     let c = set b (2 * p .at) (p .value % 256) in
-    let n : length (set c (2 * p .at + 1) (p .value / 256)) ≡ length b =
-    length-set c (2 * p .at + 1) (p .value / 256) ∙ length-set b (2 * p .at) (p .value % 256) in
-    words-run ps (set c (2 * p .at + 1) (p .value / 256)) (ap (λ (n : ℕ). n % 2) n ∙ e)
+    words-run ps (set c (2 * p .at + 1) (p .value / 256))
     ∙ ap (λ (w : List ℕ). run ps w)
-    (words-put b (p .at) (p .value % 256) (p .value / 256) e ∙ ap (λ (x : ℕ). set (wordsIn b) (p .at) x) v)
+    (words-put b (p .at) (p .value % 256) (p .value / 256) ∙ ap (λ (x : ℕ). set (wordsIn b) (p .at) x) v)
 
 -- what a call leaves in the bytes is, read as words, what the call on words leaves
-pub words-after : (p : Plan) (m : ℕ) (b : List ℕ) → length b % 2 ≡ 0 → wordsIn (bytesAfter p m b) ≡ wordsAfter p m (wordsIn b)
-words-after (refuse n) m b e = refl
-words-after (stores ps) m b e = words-run (take m ps) b e
+pub words-after : (p : Plan) (m : ℕ) (b : List ℕ) → wordsIn (bytesAfter p m b) ≡ wordsAfter p m (wordsIn b)
+words-after (refuse n) m b = refl
+words-after (stores ps) m b = words-run (take m ps) b
 
 pub length-after : (p : Plan) (m : ℕ) (b : List ℕ) → length (bytesAfter p m b) ≡ length b
 length-after (refuse n) m b = refl

@@ -71,6 +71,6 @@ pub fn delete_links(l: Layout, k: u16, t: Site) -> Four
     let count = count_place(l, k);
     let ident = place(l, t.cell, Layout::IDENTIFIER);
     let at = [back, forward, count, ident];
-    let values = [t.before, t.after, less_one(t.count), 0];
+    let values = [t.before, t.after, less_one(t.count), Layout::FREE];
     Four { at, values }
 }

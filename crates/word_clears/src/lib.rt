@@ -129,7 +129,7 @@ fn step(words: &mut [u16], l: Layout, i: u16)
     requires { ⌜ Laid l (now words) × Node l i ⌝ }
     ensures { λ _. ⌜ now (words .exit) ≡ store (now (words .entry)) (write (identAt l i) 0) ⌝ }
 {
-    words[l.node(i)] = 0;
+    words[l.node(i)] = Layout::FREE;
 }
 
 // Clears each node whose entry says in use, lowest cell first, up to the allowance.

@@ -27,7 +27,7 @@ byte-plan b c even = rw (eq-eqb (length b % 2) 0 even)
 mark-bytes : (b : List ℕ) (c : ℕ) → length b % 2 ≡ 0
     → wordsIn (bytesAfter (byteMark b c) markStores b) ≡ wordsAfter (markPlan (wordsIn b) c) markStores (wordsIn b)
 mark-bytes b c even =
-    words-after (byteMark b c) markStores b even ∙ ap (λ (p : Plan). wordsAfter p markStores (wordsIn b)) (byte-plan b c even)
+    words-after (byteMark b c) markStores b ∙ ap (λ (p : Plan). wordsAfter p markStores (wordsIn b)) (byte-plan b c even)
 
 pub marks-bytes : (b : List ℕ) → Sound (wordsIn b) → length b % 2 ≡ 0 → (c : ℕ) → FreeNode (wordsIn b) c
     → (codeOf (answerOf (byteMark b c) markStores) ≡ 65537)

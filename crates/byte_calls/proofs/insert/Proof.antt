@@ -76,7 +76,7 @@ returns : tie.Need-returns
 returns c =
     let k = c .before .before .before in
     let a = k .before .before .before .before .before .args in
-    byte-kept (insertPlan (wordsIn (a .bytes .now)) (a .list) (a .position) (a .start) (recordWords (a .rec .now))) (a .allowance) (a .bytes .now) (k .before .before .before .before .before .pre)
+    byte-kept (insertPlan (wordsIn (a .bytes .now)) (a .list) (a .position) (a .start) (recordWords (a .rec .now))) (a .allowance) (a .bytes .now)
     (insert-worn (wordsIn (a .bytes .now)) (a .list) (a .position) (a .start) (recordWords (a .rec .now)) (a .allowance))
     (byte-refused (a .allowance) (a .bytes .now)
     (insert-refused (wordsIn (a .bytes .now)) (a .list) (a .position) (a .start) (recordWords (a .rec .now)) (looked k ∙ c .before .r .given .1)))
@@ -91,7 +91,7 @@ returns-2 c =
     let a = start t .args in
     let w = wordsIn (a .bytes .now) in
     let e = rw (r .before .layout-of .ensures) at (r .insert-at .ensures) in
-    byte-kept (insertPlan (wordsIn (a .bytes .now)) (a .list) (a .position) (a .start) (recordWords (a .rec .now))) (a .allowance) (a .bytes .now) (start t .pre)
+    byte-kept (insertPlan (wordsIn (a .bytes .now)) (a .list) (a .position) (a .start) (recordWords (a .rec .now))) (a .allowance) (a .bytes .now)
     (insert-worn (wordsIn (a .bytes .now)) (a .list) (a .position) (a .start) (recordWords (a .rec .now)) (a .allowance))
     (byte-run (a .allowance) (a .bytes .now)
     (insert-at w (a .list) (a .position) (a .start) (recordWords (a .rec .now)) (found t .1)

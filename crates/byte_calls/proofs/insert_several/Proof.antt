@@ -71,7 +71,7 @@ insert-all-requires c κs =
     let all : List ℕ → Type 0 =
     λ x. Room (layoutOf w) w (a .list) (t .t .given .0 .1 .0) (length x / n) × (0 < length x) × (length x ≡ length x / n * n) in
     let q : all (wordsIn (a .records .now)) = subst all (words t) (r .room, r .some, r .whole) in
-    rw (c .layout-of .ensures) (q .0, q .1, q .2, record-pairs (a .records .now) (r .some), start t .pre)
+    rw (c .layout-of .ensures) (q .0, q .1, q .2, record-pairs (a .records .now) (r .some))
 
 same-length : tie.Need-same-length
 same-length c = search needs
@@ -80,7 +80,7 @@ returns : tie.Need-returns
 returns c =
     let k = c .before .before .before in
     let a = k .before .before .before .before .before .args in
-    byte-kept (severalPlan (wordsIn (a .bytes .now)) (a .list) (a .position) (a .start) (recordWords (a .records .now))) (a .allowance) (a .bytes .now) (k .before .before .before .before .before .pre)
+    byte-kept (severalPlan (wordsIn (a .bytes .now)) (a .list) (a .position) (a .start) (recordWords (a .records .now))) (a .allowance) (a .bytes .now)
     (several-worn (wordsIn (a .bytes .now)) (a .list) (a .position) (a .start) (recordWords (a .records .now)) (a .allowance))
     (byte-refused (a .allowance) (a .bytes .now)
     (several-refused (wordsIn (a .bytes .now)) (a .list) (a .position) (a .start) (recordWords (a .records .now)) (looked k ∙ c .before .r .given .1)))
@@ -98,7 +98,7 @@ returns-2 c =
     let u = t .t .given .0 .1 .0 in
     let n = length (recordWords (a .records .now)) / l .width in
     let e = rw (r .before .layout-of .ensures) at (r .insert-all .ensures) in
-    byte-kept (severalPlan (wordsIn (a .bytes .now)) (a .list) (a .position) (a .start) (recordWords (a .records .now))) (a .allowance) (a .bytes .now) (start t .pre)
+    byte-kept (severalPlan (wordsIn (a .bytes .now)) (a .list) (a .position) (a .start) (recordWords (a .records .now))) (a .allowance) (a .bytes .now)
     (several-worn (wordsIn (a .bytes .now)) (a .list) (a .position) (a .start) (recordWords (a .records .now)) (a .allowance))
     (byte-run (a .allowance) (a .bytes .now)
     (several-at w (a .list) (a .position) (a .start) (recordWords (a .records .now)) (found t .1)

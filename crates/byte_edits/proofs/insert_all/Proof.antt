@@ -133,7 +133,7 @@ worn s e =
     let w = wordsIn (a .bytes .now) in
     let ws = wordsIn (a .records .now) in
     let ps = chainFrom (a .l) w (a .list) (a .first) (length ws / a .l .width) ws in
-    subst (KeepsWorn (a .l) w) (sym (ap wordsIn e ∙ words-after (stores ps) (a .allowance) (a .bytes .now) (s .pre .4)))
+    subst (KeepsWorn (a .l) w) (sym (ap wordsIn e ∙ words-after (stores ps) (a .allowance) (a .bytes .now)))
     (room-keeps (a .l) w (a .list) (a .first) (length ws / a .l .width) (s .pre .0) ws (sym (s .pre .2)) (a .allowance))
 
 enum-known-n : tie.Need-enum-known-n Inv-loop μ-loop
@@ -197,8 +197,7 @@ loop-again c =
     let h = at x in
     let a = start h .args in
     let i = h .loop .inv .1 in
-    let even : length (h .loop .bytes) % 2 ≡ 0 = ap (λ (m : ℕ). m % 2) (kept h) ∙ start h .pre .4 in
-    let b = bytes-next (i .0) (a .allowance) (i .1) (i .2) (a .bytes .now) (i .3) even (whole n .0) (tried x .1) in (
+    let b = bytes-next (i .0) (a .allowance) (i .1) (i .2) (a .bytes .now) (i .3) (whole n .0) (tried x .1) in (
       h .loop .inv .0 ++ first h,
       (
         underway-next (i .0) (λ z. c .before .before .if1 .left (omega (arith, z, left-length h, record-in h, i .4, start h .pre .3)))
