@@ -12,7 +12,7 @@ use Rattle.layout.specs.declared.Layout.{Layout}
 use Rattle.layout.specs.declared.Opened.the-variants as O
 use Rattle.layout.specs.Words.{InRange, layoutOf, sizeOf, opened, ask, formatted}
 use Rattle.layout.proofs.Laws.{opened-open, open-opened}
-use Rattle.lists.specs.Lists.{Sound}
+use Rattle.lists.specs.Lists.{Sound, SoundLists}
 use Rattle.lists.specs.Decide.{soundOf, sequenceOf}
 use Rattle.lists.proofs.Unique.{list-sequence}
 use Rattle.lists.proofs.Decided.{sound-lists, lists-sound}
@@ -45,6 +45,16 @@ sound-check w s =
     let e : siteOf (layoutOf w) w Check ≡ At (record { before = 0; cell = 0; after = 0; count = 0 }) = rw (sound-decided w s) in
     sym (check-at w (sym (look-at w Check (sound-opened w s) e)))
 
+pub decided-sound : (w : List ℕ) (l : Layout) → opened w ≡ O.Open l → soundOf l w ≡ true → Sound w
+decided-sound w l o e =
+    let q = opened-open w l o in
+    record {
+      marked = q .1;
+      inRange = subst InRange (q .0) (q .2);
+      exact = q .3 ∙ ap sizeOf (q .0);
+      lists = subst (λ (m : Layout). SoundLists m w) (q .0) (sound-lists l (q .2) w e);
+    }
+
 pub check-sound : (w : List ℕ) → checkAnswer w ≡ C.Sound → Sound w
 unfolding checkAnswer siteIn
 check-sound w = by (lookOf w Check) refl
@@ -57,16 +67,7 @@ check-sound w = by (lookOf w Check) refl
     by (K.Refused n) p e = let z : _≡_ {A = ℕ} 0 1 = cc in absurd (omega arith)
     by (K.At l t) p e =
         let a = looked w Check l t p in
-        let q = opened-open w l (a .0) in
-        let g : soundOf (layoutOf w) w ≡ true =
-        subst (λ (m : Layout). soundOf m w ≡ true) (q .0)
-        (yes-at l (soundOf l w) t (record { before = 0; cell = 0; after = 0; count = 0 }) (a .1)) in
-        record {
-          marked = q .1;
-          inRange = subst InRange (q .0) (q .2);
-          exact = q .3 ∙ ap sizeOf (q .0);
-          lists = sound-lists (layoutOf w) (subst InRange (q .0) (q .2)) w g;
-        }
+        decided-sound w l (a .0) (yes-at l (soundOf l w) t (record { before = 0; cell = 0; after = 0; count = 0 }) (a .1))
 
 pub check-decides : (w : List ℕ) → (checkAnswer w ≡ C.Sound) ↔ Sound w
 check-decides w = (check-sound w, sound-check w)

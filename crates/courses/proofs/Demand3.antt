@@ -7,7 +7,7 @@ use lib.Seq.{take-nil}
 use Rattle.stores.specs.Stores.{Write, Plan, refuse, stores, run, applied, answerOf, wordsAfter}
 use Rattle.layout.specs.Words.{layoutOf}
 use Rattle.lists.specs.Lists.{Sound, KeepsWorn}
-use Rattle.edits.proofs.Worn.{gap-keeps, chain-keeps, delete-keeps}
+use Rattle.edits.proofs.Worn.{gap-keeps, chain-keeps, member-keeps}
 use Rattle.recovery.specs.Plan.{recoverPlan}
 use Rattle.courses.specs.Course.{named, editPlan, allStores, needed, due, alteredBelow, wordsThrough}
 use Rattle.courses.specs.Demand3.{Course, Demand3}
@@ -48,7 +48,7 @@ left-keeps w s k d ps (nothing _) m = subst (KeepsWorn (layoutOf w) w) (sym (app
 left-keeps w s k d ps (inserts hk p hp i hi free words size) m = gap-keeps (layoutOf w) (s .inRange) w (s .exact) (s .lists) k hk p hp i hi free words size m
 left-keeps w s k d ps (insertsAll hk p hp cells free words size) m =
     chain-keeps (layoutOf w) (s .inRange) w (s .exact) (s .lists) k hk p hp cells words free size m
-left-keeps w s k d ps (deletes hk p hp) m = delete-keeps (layoutOf w) (s .inRange) w (s .exact) (s .lists) k hk p hp m
+left-keeps w s k d ps (deletes hk p hp) m = member-keeps (layoutOf w) (s .inRange) w (s .exact) (s .lists) k hk p hp m
 
 pub left-demand3 : LeftDemand3
 left-demand3 w s k d ps f m alts allowed y ms last q =

@@ -1,7 +1,7 @@
 -- What the whole plan leaves of an accepted store: the words of each list as its sequence asks them, and the rest as it was.
 use Prim.Native.Nat.{ℕ, _+_, _<_, _≤_}
 use mathlib.Core.Path.{_≡_, ap, _∙_, sym, subst}
-use mathlib.Core.List.{List, _∷_, List·Memᴰ, List·Memᴰ·head, List·Memᴰ·tail}
+use mathlib.Core.List.{List, _∷_, List·Memᴰ, List·Memᴰ·head, List·Memᴰ·tail, Memᴰ·cast}
 use mathlib.Core.Bool.{Bool, cond}
 use mathlib.Core.Logic.{_⊎_, inl, inr}
 use native.Mathlib.Decide.{decLt}
@@ -20,7 +20,7 @@ use Rattle.recovery.specs.Fits.{wrong}
 use Rattle.recovery.specs.Plan.{joined, recoverStores, Accepted, Kind, mend, clear}
 use Rattle.recovery.proofs.Required.{Right, wrong-in}
 use Rattle.recovery.proofs.Slots.{Value, ident, forward, back, count, slot, asked-word}
-use Rattle.recovery.proofs.Joined.{one-joined}
+use Rattle.recovery.proofs.Joined.{one-joined, ring-out}
 use Rattle.recovery.proofs.Count.{plan-kinds}
 use Rattle.recovery.proofs.Suffix.{worn-kept}
 use Rattle.recovery.proofs.Whole.{whole-sound}
@@ -76,11 +76,7 @@ module _ (l : Layout) (y : List ℕ) (exact : length y ≡ sizeOf l) (s : ℕ �
       → List·Memᴰ p (wrong y (asked l k (s k))) → cellAt l c + f ≡ p .at → ⊥
   mend-apart c f n o g p k hk m e =
       let t = slot l k (s k) hk (wrong-in y (asked l k (s k)) m .0) in
-      cells-apart l c (t .cell) f (t .word) (member (t .cell) (t .within)) g (t .fits) (e ∙ t .at)
-    where
-      member : (d : ℕ) → d ∈ (k ∷ s k) → c ≡ d → ⊥
-      member d (List·Memᴰ·head e) q = omega (arith, n .low)
-      member d (List·Memᴰ·tail i) q = o (one-joined s (l .lists) k c hk (subst (λ (x : ℕ). x ∈ s k) (sym q) i))
+      cells-apart l c (t .cell) f (t .word) (λ q. ring-out l s k c hk (n .low) o (Memᴰ·cast q (t .within))) g (t .fits) (e ∙ t .at)
 
   -- so such a node keeps all words but its identifier,
   pub final-outside : (c f : ℕ) → Node l c → (c ∈ joined s (l .lists) → ⊥) → 1 ≤ f → f < cellWords l c → getD Final (cellAt l c + f) 0 ≡ getD y (cellAt l c + f) 0

@@ -1,14 +1,14 @@
 -- One altered word is put back: every list still takes its sequence, so what is wrong of the required words is that word alone.
 use Prim.Native.Nat.{ℕ, zero, suc, _+_, _<_, _≤_}
 use mathlib.Core.Path.{_≡_, refl, ap, _∙_, sym, subst}
-use mathlib.Core.List.{List, [], _∷_, List·Memᴰ·head, List·Memᴰ·tail}
+use mathlib.Core.List.{List, [], _∷_}
 use mathlib.Core.Bool.{Bool, true, false, cond}
 use mathlib.Core.Logic.{_⊎_, inl, inr}
 use native.Mathlib.Decide.{ℕ-discrete}
 use native.Mathlib.Omega.{arith}
 use lib.Dec.{eqb, ltb}
 use lib.ListN.{length, getD, set, length-set}
-use lib.Seq.{getD-set-other, set-set, set-getD}
+use lib.Seq.{set-set, set-getD}
 use borrow.Author.Tests.{eq-eqb, ne-eqb, lt-ltb, le-ltb, ltb-true, ltb-false}
 use Rattle.sequences.specs.Sequence.{_∈_}
 use Rattle.sequences.proofs.Members.{all-in, member?}
@@ -17,9 +17,9 @@ use Rattle.stores.specs.Stores.{Write, write, run, Plan, stores, answerOf, word
 use Rattle.stores.proofs.Laws.{applied-all}
 use Rattle.layout.specs.declared.Layout.{Layout}
 use Rattle.layout.specs.Words.{Node, InRange, cellAt, identAt, layoutOf}
-use Rattle.layout.proofs.Apart.{cells-apart, links-words}
 use Rattle.lists.specs.Lists.{SoundLists, Sound}
 use Rattle.lists.proofs.Same.{ident-word, list-same}
+use Rattle.lists.proofs.Unlisted.{given-list}
 use Rattle.edits.specs.Edited.{replaced}
 use Rattle.edits.proofs.Edited.{replaced-other}
 use Rattle.recovery.specs.Fits.{wrong, Fits}
@@ -89,35 +89,34 @@ module _ (l : Layout) (range : InRange l) (w : List ℕ) (x : SoundLists l w) (j
       kept : (i : ℕ) → i < l .lists → replaced (x .sequence) (l .lists) [] i ≡ x .sequence i
       kept i g = replaced-other (x .sequence) (l .lists) [] i (λ e. omega (arith, e))
 
--- the identifier of a node in no list is altered: every list has all its words
-outside-accepted : (l : Layout) (w : List ℕ) (x : SoundLists l w) (i v : ℕ) → Node l i → (i ∈ joined (x .sequence) (l .lists) → ⊥)
-    → Accepted l (set w (identAt l i) v) (x .sequence)
-outside-accepted l w x i v n o =
-    lists-accepted l (set w (identAt l i) v) (x .sequence)
-    (λ k h.
-    list-same l w k h (x .sequence k) (x .lists k h) (set w (identAt l i) v)
-    (λ c f m g.
-    getD-set-other w (identAt l i) (cellAt l c + f) v 0
-    (λ e.
-    cells-apart l c i f 0 (λ q. apart k h c m q) g (links-words l i 0 (omega arith)) (e ∙ ident-word l i))))
+-- any such word is altered; of a node in no list it is the identifier, and every list has all its words
+place-accepted : (w : List ℕ) (s : Sound w) (a v : ℕ) → Place (layoutOf w) (s .lists .sequence) a → Accepted (layoutOf w) (set w a v) (s .lists .sequence)
+place-accepted w s a v = by
   where
-    apart : (k : ℕ) → k < l .lists → (c : ℕ) → c ∈ (k ∷ x .sequence k) → c ≡ i → ⊥
-    apart k h c (List·Memᴰ·head e) q = omega (arith, n .low)
-    apart k h c (List·Memᴰ·tail m) q = o (one-joined (x .sequence) (l .lists) k i h (subst (λ (d : ℕ). d ∈ x .sequence k) q m))
+    l : Layout
+    l = layoutOf w
 
-place-accepted : (l : Layout) → InRange l → (w : List ℕ) (x : SoundLists l w) (a v : ℕ) → Place l (x .sequence) a → Accepted l (set w a v) (x .sequence)
-place-accepted l r w x a v (header k f h g e) =
-    subst (λ (b : ℕ). Accepted l (set w b v) (x .sequence)) (sym e) (list-accepted l r w x k h k f v (inl (refl, g)))
-place-accepted l r w x a v (link k c f h m g e) =
-    subst (λ (b : ℕ). Accepted l (set w b v) (x .sequence)) (sym e) (list-accepted l r w x k h c f v (inr (m, g)))
-place-accepted l r w x a v (identifier i n e) = by (member? i (joined (x .sequence) (l .lists)))
-  where
-    by : (i ∈ joined (x .sequence) (l .lists)) ⊎ (i ∈ joined (x .sequence) (l .lists) → ⊥) → Accepted l (set w a v) (x .sequence)
-    by (inl m) =
-        let k = joined-one (x .sequence) (l .lists) i m in
-        subst (λ (b : ℕ). Accepted l (set w b v) (x .sequence)) (sym (e ∙ ident-word l i))
-        (list-accepted l r w x (k .0) (k .1) i 0 v (inr (k .2, omega arith)))
-    by (inr o) = subst (λ (b : ℕ). Accepted l (set w b v) (x .sequence)) (sym e) (outside-accepted l w x i v n o)
+    sequence : ℕ → List ℕ
+    sequence = s .lists .sequence
+
+    here : {b : ℕ} → a ≡ b → Accepted l (set w b v) sequence → Accepted l (set w a v) sequence
+    here e = subst (λ (b : ℕ). Accepted l (set w b v) sequence) (sym e)
+
+    node : (i : ℕ) → Node l i → a ≡ identAt l i → (i ∈ joined sequence (l .lists)) ⊎ (i ∈ joined sequence (l .lists) → ⊥) → Accepted l (set w a v) sequence
+    node i n e (inl m) =
+        let k = joined-one sequence (l .lists) i m in
+        here (e ∙ ident-word l i) (list-accepted l (s .inRange) w (s .lists) (k .0) (k .1) i 0 v (inr (k .2, omega arith)))
+    node i n e (inr o) =
+        here e
+        (lists-accepted l (set w (identAt l i) v) sequence
+        (λ k h.
+        list-same l w k h (sequence k) (s .lists .lists k h) (set w (identAt l i) v)
+        (given-list w s i n (λ k h m. o (one-joined sequence (l .lists) k i h m)) v k h)))
+
+    by : Place l sequence a → Accepted l (set w a v) sequence
+    by (header k f h g e) = here e (list-accepted l (s .inRange) w (s .lists) k h k f v (inl (refl, g)))
+    by (link k c f h m g e) = here e (list-accepted l (s .inRange) w (s .lists) k h c f v (inr (m, g)))
+    by (identifier i n e) = node i n e (member? i (joined sequence (l .lists)))
 
 module _ (w : List ℕ) (s : Sound w) (w′ : List ℕ) (c : Changed w s w′) (one : differing w w′ ≡ 1) where
   abbrev l : Layout
@@ -150,7 +149,7 @@ module _ (w : List ℕ) (s : Sound w) (w′ : List ℕ) (c : Changed w s w′) (
       let q = place-asked l w sequence a place (changed-unworn w s w′ c a (some .2)) in
       let old : getD w a 0 ≡ q .0 = all-in (λ (p : Write). getD w (p .at) 0 ≡ p .value) (required l w sequence) (sound-agrees l w (s .lists)) (q .1) in
       accepted-plan l w′ sequence (changed-opened w s w′ c)
-      (subst (λ (y : List ℕ). Accepted l y sequence) (sym changed) (place-accepted l (s .inRange) w (s .lists) a v place))
+      (subst (λ (y : List ℕ). Accepted l y sequence) (sym changed) (place-accepted w s a v place))
       ∙ ap stores
       (ap (wrong w′) (changed-required w s w′ c)
       ∙ ap (λ (y : List ℕ). wrong y (required l w sequence)) changed

@@ -9,9 +9,9 @@ use lib.ListN.{length}
 use borrow.Author.Tests.{eq-eqb, ne-eqb, eqb-true}
 use Rattle.sequences.specs.Sequence.{_∈_, All}
 use Rattle.layout.specs.declared.Layout.{Layout}
-use Rattle.layout.specs.Words.{linkWords, identWord, forwardWord, backWord, countWord, mostLists, Node, identOf, Unlisted, free, worn}
+use Rattle.layout.specs.Words.{linkWords, identWord, forwardWord, backWord, countWord, mostLists, Node, identOf, Unlisted}
 use Rattle.lists.specs.Decide.{View}
-use Rattle.lists.proofs.Nodes.{in-use}
+use Rattle.lists.proofs.Nodes.{in-use, ident-used}
 use Rattle.fitting.specs.declared.Faults.{Faults}
 use Rattle.fitting.specs.declared.Faults.the-variants as F
 use Rattle.fitting.specs.Fitting.{plus, fault, turnFaults, faultsOf, lengthBy, carries, Each}
@@ -76,14 +76,10 @@ pub members-carry : (v : View) (k n : ℕ) (s : List ℕ) → Few (faultsOf v fo
 unfolding faultsOf
 members-carry v k n s few c h x m z = by (faultsOf v forwardWord backWord k n s) has few c
   where
-    other : v .ident x ≡ identOf k → Unlisted (v .ident x) → ⊥
-    other e (free z) = omega (arith, e, z)
-    other e (worn z) = omega (arith, e, z)
-
     has : Has x identWord (faultsOf v forwardWord backWord k n s)
     has =
         has-right x identWord (fault (v .ident k) k identWord (identOf k)) (plus (turnFaults v forwardWord backWord k k s) (fault n k countWord (length s)))
-        (has-left x identWord (turnFaults v forwardWord backWord k k s) (fault n k countWord (length s)) (turn-has v forwardWord backWord k k s x m (λ e. other e z)))
+        (has-left x identWord (turnFaults v forwardWord backWord k k s) (fault n k countWord (length s)) (turn-has v forwardWord backWord k k s x m (λ e. ident-used h e z)))
 
     by : (f : Faults) → Has x identWord f → Few f → carries (v .ident) f ≡ true → ⊥
     by F.None p few c = p

@@ -10,7 +10,7 @@ use Rattle.sequences.specs.Sequence.{_∈_, range, filter}
 use Rattle.sequences.proofs.Range.{length-range, in-range, range-between}
 use Rattle.sequences.proofs.Filter.{filter-in, in-filter, filter-length}
 use Rattle.layout.specs.declared.Layout.{Layout}
-use Rattle.layout.specs.Words.{InRange, identAt, identOf, wornIdent, Unlisted, free, worn, isFree, isWorn, inUse}
+use Rattle.layout.specs.Words.{mostLists, InRange, identAt, identOf, wornIdent, Unlisted, free, worn, isFree, isWorn, inUse}
 use Rattle.lists.specs.Lists.{IsList}
 use Rattle.lists.specs.Decide.{View, cellsWith, used}
 use Rattle.lists.proofs.Unique.{member-ident}
@@ -36,9 +36,12 @@ use-in x n = by (inUse x) refl
     by false e = absurd (n (unused x e))
 
 -- a list's identifier is that of a node in use
+pub ident-used : {k x : ℕ} → k < mostLists → x ≡ identOf k → Unlisted x → ⊥
+ident-used h e (free z) = omega (arith, e, z)
+ident-used h e (worn z) = omega (arith, e, z)
+
 pub list-used : {l : Layout} {k x : ℕ} → InRange l → k < l .lists → x ≡ identOf k → Unlisted x → ⊥
-list-used r h e (free z) = omega (arith, e, z)
-list-used r h e (worn z) = omega (arith, e, z, r .lists)
+list-used r h = ident-used (omega (arith, h, r .lists))
 
 -- so a free or worn node is no member
 pub unlisted-out : (l : Layout) (w : List ℕ) (k : ℕ) (s : List ℕ) → InRange l → k < l .lists → IsList l w k s

@@ -20,7 +20,7 @@ use Rattle.recovery.specs.Plan.{joined, nodesOut, listsAsked, clearsAske
 use Rattle.recovery.proofs.Disjoint.{fits-disjoint}
 use Rattle.recovery.proofs.Required.{wrong-in, in-wrong, Once, once-append, wrong-differs}
 use Rattle.recovery.proofs.Slots.{slot, ident-cell, cells-once, asked-once}
-use Rattle.recovery.proofs.Joined.{one-joined, joined-one, out-is, out-different}
+use Rattle.recovery.proofs.Joined.{joined-one, ring-out, out-is, out-different}
 
 -- the requirements, one by one: the words asked of a list, and the identifiers of nodes in none that are not worn
 module _ (l : Layout) (w : List ℕ) (s : ℕ → List ℕ) {p : Write} where
@@ -75,11 +75,6 @@ module _ (l : Layout) (w : List ℕ) (s : ℕ → List ℕ) (fits : (k : ℕ) �
       (λ c. omega (arith, i .1, one-list (i .0) n (x .cell) (omega (arith, i .1)) (omega arith) (x .within) (Memᴰ·cast c (y .within))))
       (x .fits) (y .fits) (sym (x .at) ∙ e ∙ y .at))
 
-  -- a cell of a list is no node outside
-  member-out : (k c : ℕ) → k < l .lists → firstNode l ≤ c → (c ∈ joined s (l .lists) → ⊥) → c ∈ (k ∷ s k) → ⊥
-  member-out k c h low out (List·Memᴰ·head e) = omega arith
-  member-out k c h low out (List·Memᴰ·tail m) = out (one-joined s (l .lists) k c h m)
-
   -- no word is required twice
   pub required-once : Once (required l w s)
   required-once =
@@ -90,7 +85,7 @@ module _ (l : Layout) (w : List ℕ) (s : ℕ → List ℕ) (fits : (k : ℕ) �
       let i = in-lists l w s m in
       let x = slot l (i .0) (s (i .0)) (i .1) (i .2) in
       let c = in-clears l w s m′ in
-      cells-apart l (x .cell) (c .0) (x .word) 0 (λ z. member-out (i .0) (c .0) (i .1) (c .1 .low) (c .2) (Memᴰ·cast (sym z) (x .within)))
+      cells-apart l (x .cell) (c .0) (x .word) 0 (λ z. ring-out l s (i .0) (c .0) (i .1) (c .1 .low) (c .2) (Memᴰ·cast (sym z) (x .within)))
       (x .fits) (links-words l (c .0) 0 (omega arith)) (sym (x .at) ∙ e ∙ ap (λ (r : Write). r .at) (sym (c .4)) ∙ ident-word l (c .0)))
 
   -- and all are words of the store

@@ -13,7 +13,8 @@ use Rattle.sequences.specs.Sequence.{_∈_, Different, range, filter}
 use Rattle.sequences.proofs.Members.{in-all}
 use Rattle.sequences.proofs.Range.{length-range, in-range, range-between, range-different, range-first}
 use Rattle.sequences.proofs.Filter.{filter-yes, filter-no, filter-in, in-filter, filter-different, filter-length, filter-same}
-use Rattle.layout.specs.Words.{wornIdent, isWorn}
+use Rattle.layout.specs.declared.Layout.{Layout}
+use Rattle.layout.specs.Words.{firstNode, wornIdent, isWorn}
 use Rattle.recovery.specs.Plan.{joined, isIn, outOf}
 
 -- a member of joined sequences is in one of them
@@ -36,6 +37,11 @@ pub joined-same {ℓ} : {A : Type ℓ} (s t : ℕ → List A) (n : ℕ) → ((k 
 unfolding joined
 joined-same s t zero h = refl
 joined-same s t (suc n) h = ap₂ _++_ (joined-same s t n (λ k q. h k (omega arith))) (h n (omega arith))
+
+-- a node in none of the sequences is no cell of a list
+pub ring-out : (l : Layout) (s : ℕ → List ℕ) (k c : ℕ) → k < l .lists → firstNode l ≤ c → (c ∈ joined s (l .lists) → ⊥) → c ∈ (k ∷ s k) → ⊥
+ring-out l s k c h low out (List·Memᴰ·head e) = omega arith
+ring-out l s k c h low out (List·Memᴰ·tail m) = out (one-joined s (l .lists) k c h m)
 
 -- membership as it is tested
 in-isIn : (x : ℕ) (s : List ℕ) → x ∈ s → isIn x s ≡ true

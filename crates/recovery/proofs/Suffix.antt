@@ -1,7 +1,7 @@
 -- The suffix law: after the first stores of its plan every list still has its only sequence, so the plan is the rest.
 use Prim.Native.Nat.{ℕ, _+_, _<_, _≤_}
 use mathlib.Core.Path.{_≡_, ap, _∙_, sym, subst}
-use mathlib.Core.List.{List, [], _∷_, _++_, map, List·Memᴰ, List·Memᴰ·head, List·Memᴰ·tail, List·Memᴰ·eq-of-singleton, Memᴰ·append-left, Memᴰ·cast}
+use mathlib.Core.List.{List, [], _∷_, _++_, map, List·Memᴰ, List·Memᴰ·eq-of-singleton, Memᴰ·append-left, Memᴰ·cast}
 use mathlib.Core.Logic.{_⊎_, inl, inr, ⊎-elim}
 use native.Mathlib.Omega.{arith}
 use lib.ListN.{length, getD, take, drop, take-append-drop}
@@ -21,7 +21,7 @@ use Rattle.recovery.specs.Plan.{joined, listsAsked, clearsAsked, require
 use Rattle.recovery.proofs.Candidates.{sequence-dec, wrong-parts, right-idents, forward-candidate, back-candidate, candidates, rivals}
 use Rattle.recovery.proofs.Required.{Right, right?, agrees-wrong, wrong-in, in-wrong, wrong-same, wrong-fewer, wrong-rest}
 use Rattle.recovery.proofs.Slots.{slot, same-cell}
-use Rattle.recovery.proofs.Joined.{one-joined, out-same}
+use Rattle.recovery.proofs.Joined.{one-joined, ring-out, out-same}
 use Rattle.recovery.proofs.Count.{plan-kinds, required-once, required-inside}
 
 -- the same words in all cells of a sequence: it fits alike
@@ -94,18 +94,12 @@ module _ (l : Layout) (w : List ℕ) (s : ℕ → List ℕ) (a : Accepted l w s)
       ⊎-elim (λ e. ap isWorn e)
       (λ q. stored (q .0) (all-in (Kind l w s) (recoverStores l w s) (plan-kinds l w s) (q .1)) (q .2) (q .3)) (made (identAt l c))
     where
-      words : (d : ℕ) → 0 < cellWords l d
-      words d = links-words l d 0 (omega arith)
-
-      member : (k d : ℕ) → k < l .lists → d ∈ (k ∷ s k) → c ≡ d → ⊥
-      member k d h (List·Memᴰ·head e) i = omega (arith, n .low)
-      member k d h (List·Memᴰ·tail m) i = o (one-joined s (l .lists) k c h (Memᴰ·cast i m))
-
       stored : (p : Write) → Kind l w s p → p .at ≡ identAt l c → getD x (identAt l c) 0 ≡ p .value
           → isWorn (getD x (identAt l c) 0) ≡ isWorn (getD w (identAt l c) 0)
       stored p (mend k h t) e v =
           let y = slot l k (s k) h (wrong-in w (asked l k (s k)) t .0) in
-          absurd (member k (y .cell) h (y .within) (same-cell l c (y .cell) 0 (y .word) (words c) (y .fits) (sym (ident-word l c) ∙ sym e ∙ y .at)))
+          let here = same-cell l c (y .cell) 0 (y .word) (links-words l c 0 (omega arith)) (y .fits) (sym (ident-word l c) ∙ sym e ∙ y .at) in
+          absurd (ring-out l s k c h (n .low) o (Memᴰ·cast here (y .within)))
       stored p (clear d low out nz z) e v =
           let there : identAt l c ≡ identAt l d = sym e ∙ ap (λ (t : Write). t .at) z in
           let now : getD x (identAt l c) 0 ≡ 0 = v ∙ ap (λ (t : Write). t .value) z in

@@ -37,7 +37,7 @@ free-unworn : {x : ℕ} → isFree x ≡ true → x ≡ wornIdent → ⊥
 free-unworn {x} e z = omega (arith, eqb-true x 0 e, z)
 
 -- the search
-pub found-unworn : (ident : ℕ → ℕ) (cells : List ℕ) → foundUnworn ident (firstFree ident cells)
+found-unworn : (ident : ℕ → ℕ) (cells : List ℕ) → foundUnworn ident (firstFree ident cells)
 unfolding firstFree
 found-unworn ident [] = tt
 found-unworn ident (c ∷ cs) = by (isFree (ident c)) refl (found-unworn ident cs)
@@ -60,25 +60,25 @@ module _ (ident : ℕ → ℕ) where
 
 -- the gaps
 module _ (l : Layout) (ident : ℕ → ℕ) (k p c : ℕ) (s : List ℕ) where
-  pub free-gap-unworn : sitedUnworn ident (freeGap l ident k p c s)
+  free-gap-unworn : sitedUnworn ident (freeGap l ident k p c s)
   free-gap-unworn = by (firstFree ident (around l c (l .nodes))) (found-unworn ident (around l c (l .nodes)))
     where
       by : (f : Free) → foundUnworn ident f → sitedUnworn ident (withFree f (Refused 10) (λ i. At (gapSite k p i s)))
       by Full h = tt
       by (Cell i) h = h
 
-  pub gap-unworn : (m : ℕ) → sitedUnworn ident (gapAt l ident k p c m s)
+  gap-unworn : (m : ℕ) → sitedUnworn ident (gapAt l ident k p c m s)
   unfolding gapAt
   gap-unworn m = three-asked ident (leb p (length s)) (isNode l c) (eqb m (l .width)) (freeGap l ident k p c s) free-gap-unworn
 
-  pub gaps-unworn : (m : ℕ) → sitedUnworn ident (gapsAt l ident k p c m s)
+  gaps-unworn : (m : ℕ) → sitedUnworn ident (gapsAt l ident k p c m s)
   unfolding gapsAt
   gaps-unworn m =
       let enough = leb (m / l .width) (length (freeCells ident (around l c (l .nodes)))) in
       three-asked ident (leb p (length s)) (isNode l c) (ltb 0 m && eqb (m % l .width) 0) (ask enough (Refused 10) (freeGap l ident k p c s))
       (asked ident enough 10 (freeGap l ident k p c s) (λ _. free-gap-unworn))
 
-pub mark-unworn : (l : Layout) (ident : ℕ → ℕ) (c : ℕ) → sitedUnworn ident (markAt l ident c)
+mark-unworn : (l : Layout) (ident : ℕ → ℕ) (c : ℕ) → sitedUnworn ident (markAt l ident c)
 mark-unworn l ident c =
     let site = At (record { before = 0; cell = c; after = 0; count = 0 }) in
     asked ident (isNode l c) 8 (ask (isFree (ident c)) (Refused 13) site) (λ _. asked ident (isFree (ident c)) 13 site free-unworn)
@@ -113,7 +113,7 @@ module _ (l : Layout) (r : InRange l) (v : View) (count : ℕ → ℕ) where
       asked (v .ident) (ltb k (l .lists)) 5 (ask (soundIn l v count) (Refused 6) (rest (sequenceIn l v k)))
       (λ g. asked (v .ident) (soundIn l v count) 6 (rest (sequenceIn l v k)) (λ e. h (ltb-true k (l .lists) g) e))
 
-  pub site-unworn : (q : Request) → sitedUnworn (v .ident) (siteIn l v count q)
+  site-unworn : (q : Request) → sitedUnworn (v .ident) (siteIn l v count q)
   unfolding siteIn
   site-unworn Check =
       asked (v .ident) (soundIn l v count) 6 (At (record { before = 0; cell = 0; after = 0; count = 0 }))
@@ -126,7 +126,7 @@ module _ (l : Layout) (r : InRange l) (v : View) (count : ℕ → ℕ) where
   site-unworn (Mark c) = asked (v .ident) (soundIn l v count) 6 (markAt l (v .ident) c) (λ e. mark-unworn l (v .ident) c)
 
 -- and of all questions
-pub look-unworn : (w : List ℕ) (q : Request) → lookedUnworn w (lookOf w q)
+look-unworn : (w : List ℕ) (q : Request) → lookedUnworn w (lookOf w q)
 unfolding lookOf
 look-unworn w q = by (opened w) refl
   where

@@ -4,6 +4,7 @@ use Prim.Native.Nat.{ℕ, zero, suc, _<_}
 use mathlib.Core.Path.{_≡_, refl, ap, _∙_, sym, subst}
 use mathlib.Core.List.{List, [], _∷_}
 use mathlib.Core.Bool.{Bool, true, false, cond}
+use mathlib.Core.Logic.{inr}
 use native.Mathlib.Decide.{decLt}
 use native.Mathlib.Omega.{arith}
 use lib.Dec.{eqb}
@@ -12,12 +13,10 @@ use Rattle.sequences.specs.Sequence.{_∈_}
 use Rattle.stores.specs.Stores.{Plan, applied, wordsAfter}
 use Rattle.layout.specs.declared.Layout.{Layout}
 use Rattle.layout.specs.declared.Opened.the-variants as O
-use Rattle.layout.specs.Words.{Node, InRange, sizeOf, identAt, wornIdent, worn, layoutOf, opened}
+use Rattle.layout.specs.Words.{Node, identAt, wornIdent, layoutOf, opened}
 use Rattle.layout.proofs.Laws.{opened-open}
-use Rattle.lists.specs.Lists.{Sound, SoundLists, KeepsWorn}
+use Rattle.lists.specs.Lists.{Sound, KeepsWorn}
 use Rattle.lists.specs.Decide.{viewOf, countIn, soundOf}
-use Rattle.lists.proofs.Nodes.{unlisted-out}
-use Rattle.lists.proofs.Decided.{sound-lists}
 use Rattle.lists.proofs.Same.{kept-worn}
 use Rattle.requests.specs.declared.Looked.the-variants as K
 use Rattle.requests.specs.declared.Looked.{Looked}
@@ -29,11 +28,10 @@ use Rattle.edits.specs.Edits.{markStores}
 use Rattle.edits.proofs.Done.{looked, mark-facts}
 use Rattle.edits.proofs.Worn.{mark-keeps}
 use Rattle.recovery.specs.Plan.{joined, recoverPlan}
-use Rattle.recovery.proofs.Joined.{joined-one}
 use Rattle.recovery.proofs.Whole.{sound-accepted}
 use Rattle.axle_store.specs.Calls.{markPlan}
 use Rattle.axle_store.proofs.Cases.{insert-refused, several-refused, delete-refused, mark-refused}
-use Rattle.axle_store.proofs.Calls.{sound-opened}
+use Rattle.axle_store.proofs.Calls.{sound-opened, decided-sound}
 use Rattle.courses.specs.Course.{Edit, insert, several, delete, named, editPlan, allStores, due, Alteration, untouched, alteredBelow}
 use Rattle.courses.proofs.Standing.{Standing, standing-plan, standing-after}
 use Rattle.courses.proofs.Calls.{call-left}
@@ -41,6 +39,7 @@ use Rattle.courses.proofs.Demand3.{after-applied, left-cut, left-keeps}
 use Rattle.courses.proofs.Course as C
 use Rattle.demands.specs.Demand2.{FreeNode}
 use Rattle.worn.specs.Worn.{Call, edit, mark, recover, wordsBy, wordsByAll}
+use Rattle.worn.proofs.Nodes.{kinds}
 use Rattle.worn.proofs.Mark.{mark-plan, marks}
 use Rattle.worn.proofs.Kept.{cut-kept}
 
@@ -70,9 +69,7 @@ after-both l w y v h a =
 
 -- sound words
 sound-out : (w : List ℕ) (s : Sound w) → Out (layoutOf w) w (s .lists .sequence)
-sound-out w s c n z m =
-    let k = joined-one (s .lists .sequence) (layoutOf w .lists) c m in
-    unlisted-out (layoutOf w) w (k .0) (s .lists .sequence (k .0)) (s .inRange) (k .1) (s .lists .lists (k .0) (k .1)) c (worn z) (k .2)
+sound-out w s c n z = kinds w s c n .1 (inr (record { node = n; worn = z }))
 
 sound-after : (w : List ℕ) → Sound w → After (layoutOf w) w w
 sound-after w s =
@@ -160,22 +157,12 @@ module _ (y : List ℕ) (l : Layout) (o : opened y ≡ O.Open l) (u : soundOf l 
 
 -- any call
 module _ (l : Layout) (w y : List ℕ) (a : After l w y) where
-  its : (l ≡ layoutOf y) × (InRange l)
-  its = let o = opened-open y l (a .standing .opens) in (o .0, o .2)
-
   is-sound : soundOf l y ≡ true → Sound y
-  is-sound e =
-      let o = opened-open y l (a .standing .opens) in
-      record {
-        marked = o .1;
-        inRange = subst InRange (o .0) (o .2);
-        exact = o .3 ∙ ap sizeOf (o .0);
-        lists = subst (λ (m : Layout). SoundLists m y) (o .0) (sound-lists l (o .2) y e);
-      }
+  is-sound = decided-sound y l (a .standing .opens)
 
   -- what is left of sound words y
   whole : (v : List ℕ) → After (layoutOf y) y v → After l w v
-  whole v b = after-both l w y v (a .kept) (subst (λ (m : Layout). After m y v) (sym (its .0)) b)
+  whole v b = after-both l w y v (a .kept) (subst (λ (m : Layout). After m y v) (sym (opened-open y l (a .standing .opens) .0)) b)
 
   call-after : (c : Call) → After l w (wordsBy c y)
   call-after (recover m) = recover-after l w y a m
