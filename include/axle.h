@@ -54,9 +54,9 @@
  *     13    AXLE_NOT_FREE       Is the node to mark free?                           mark_worn
  *
  * POWER CUTS. Insert, delete and recover change the store by word stores, one after the other, each low byte before high.
- * One of them is central: number P + 5 of the P + 6 of an insert, number 2 of the 4 of a delete. An insert of several records
- * makes the P + 6 stores of the first, then those of the second and so on, and has a central store for each record. A cut
- * leaves the first of the stores made and the others not. Then:
+ * One of them is central: number P + 5 of the P + 6 of an insert, number 2 of the P + 4 of a delete. An insert of several
+ * records makes the P + 6 stores of the first, then those of the second and so on, and has a central store for each record.
+ * A cut leaves the first of the stores made and the others not. Then:
  *
  *   - axle_check answers 0 if the store is sound as it was left, and AXLE_UNSOUND if not; axle_length, the inserts,
  *     axle_delete and axle_mark_worn never work on a store that is not sound (AXLE_NO_LIST, where it applies, comes first).
@@ -70,7 +70,7 @@
  *   - axle_recover may be cut too, any number of times. The final words are the same.
  *
  * Call axle_recover at every power-up. On a sound store it stores nothing and answers AXLE_DONE + 0. It needs at most
- * L + N word stores.
+ * L + N + P * N word stores.
  *
  * What is asked of the memory: it takes the stores in the order in which the processor makes them (no write-back cache
  * between, no reordering), and the two bytes of a word together, with the second. A process that is killed, over a shared
@@ -84,15 +84,16 @@
  *     links happen to fit becomes a member by its identifier, the count, the forward before it and the back behind it.
  *   - If one of them has changed, wherever it stands, axle_recover puts it back with one store: AXLE_DONE + 1, and the words
  *     are those of before. Cut by allowance 0 it answers AXLE_STOPPED + 0 and changes nothing.
- *   - One change is excepted in both: of the identifier of a node in no list to AXLE_WORN or from it. From 0 to AXLE_WORN or
- *     back it leaves a sound store, with a mark more or less; a mark changed to anything else is noticed, and axle_recover
- *     frees the node: mark it again.
+ *   - One change is excepted in both: of the identifier of a node in no list to AXLE_WORN or from it. From 0 to AXLE_WORN it
+ *     leaves a sound store, with a mark more, and back again with a mark less. A mark changed to anything else, or to 0 where
+ *     the node has a record word that is not 0, is noticed, and axle_recover frees the node: mark it again.
  *   - If more have changed, but at most one in each list and none of a node in no list, axle_recover puts all of them back:
  *     that is a power cut that hit no call, see above. Two in one list may be refused (11, 12), or mended to another list
  *     that fits; so where this may have happened, a store that axle_recover left sound need not be the old one.
  *
- * The other words are not among them. Records and the links of nodes in no list may hold anything: axle_check does not look
- * at what they hold, so damage there is neither found nor put back. Nothing is said of words 0 to 7.
+ * The other words are not among them. The records of lists, those of worn nodes and the links of nodes in no list may hold
+ * anything: axle_check does not look at what they hold, so damage there is neither found nor put back. Nothing is said of
+ * words 0 to 7.
  *
  * NOT PROMISED. That damage inside records is found: they are the caller's, and have no check word. That anything is left
  * after a cut during axle_format: format again. That damage beyond the above is mended: it may be refused (11, 12), or
@@ -109,10 +110,20 @@
  *
  * A version before 1.4 answers AXLE_UNSOUND for a store with worn nodes, and its axle_recover clears the marks.
  *
- * COST. A call that asks question 6 looks at every node's identifier and goes once through every list. To a position it goes
- * link by link from the nearer end of the list: in min(p + 1, n - p) steps to delete at position p of n records, in
- * min(p, n + 1 - p) to insert there, never more than half of n, rounded up. The last records cost no more than the first, and
- * a record is appended in one step.
+ * DELETED RECORDS do not stay readable. axle_delete stores 0 to the P words of the record, behind its other stores, and a
+ * sound store has 0 in every record word of every free node. What a cut insert or delete left in a node in no list is wiped
+ * by axle_recover: once it is done, no free node holds a word of a record. A worn node is not written, so what it held stays
+ * there; axle_mark_worn takes free nodes alone, whose records are wiped. Links of free nodes stay as they were, and other
+ * copies of the memory (caches, images, backups) are the caller's.
+ *
+ * A store left by a version before 1.5 may have remains in its free nodes. Then axle_check answers AXLE_UNSOUND and every call
+ * that asks question 6 is refused, until axle_recover has wiped them: it changes nothing else in such a store, whole or
+ * cut. Versions 1.4 and 1.5 work on each other's stores; after the older one recover again.
+ *
+ * COST. A call that asks question 6 looks at every node's identifier and at the record of every free node, and goes once
+ * through every list. To a position it goes link by link from the nearer end of the list: in min(p + 1, n - p) steps to
+ * delete at position p of n records, in min(p, n + 1 - p) to insert there, never more than half of n, rounded up. The last
+ * records cost no more than the first, and a record is appended in one step.
  *
  * THREADS. The calls have no state of their own and may run at the same time on different stores. On one store the caller
  * must let one call at a time through, the reading ones too, from interrupts as from threads. While a call runs nobody else
@@ -141,7 +152,7 @@ extern "C" {
 
 /* The version of the library: in numbers, and as text "MAJOR.MINOR.PATCH". */
 #define AXLE_VERSION_MAJOR 1
-#define AXLE_VERSION_MINOR 4
+#define AXLE_VERSION_MINOR 5
 #define AXLE_VERSION_PATCH 0
 #define AXLE_VERSION AXLE_DOTTED(AXLE_VERSION_MAJOR, AXLE_VERSION_MINOR, AXLE_VERSION_PATCH)
 #define AXLE_DOTTED(a, b, c) AXLE_QUOTED(a) "." AXLE_QUOTED(b) "." AXLE_QUOTED(c)
@@ -188,9 +199,9 @@ static inline uint16_t axle_number(uint32_t answer) { return (uint16_t)(answer &
 #define AXLE_INSERT_STORES(record_words) ((record_words) + 6)
 #define AXLE_INSERT_CENTRAL(record_words) ((record_words) + 5)
 #define AXLE_INSERT_SEVERAL_STORES(record_words, records) (AXLE_INSERT_STORES(record_words) * (records))
-#define AXLE_DELETE_STORES 4
+#define AXLE_DELETE_STORES(record_words) ((record_words) + 4)
 #define AXLE_DELETE_CENTRAL 2
-#define AXLE_RECOVER_STORES(lists, nodes) ((lists) + (nodes))
+#define AXLE_RECOVER_STORES(lists, nodes, record_words) ((lists) + (nodes) + (record_words) * (nodes))
 
 /*
  * The layout, for a caller that reads records itself once axle_check has answered 0. Cells are numbered: 0 to L - 1 are the
@@ -200,7 +211,7 @@ static inline uint16_t axle_number(uint32_t answer) { return (uint16_t)(answer &
  *     header k        from word 8 + 4k:                  identifier, forward, back, count
  *     node i          from word 8 + 4L + (3 + P)(i - L): identifier, forward, back, P record words
  *
- * The identifier of list k is 42,400 + k; a node in no list has identifier 0, or AXLE_WORN if it is worn.
+ * The identifier of list k is 42,400 + k; a node in no list has identifier 0 and record words 0, or AXLE_WORN if it is worn.
  */
 #define AXLE_IDENTIFIER 42400u
 #define AXLE_WORN 65535u
@@ -217,8 +228,8 @@ uint32_t axle_format(uint8_t *store, size_t store_len, uint16_t lists, uint16_t 
 
 /*
  * Is the store sound? Each list's header and members carry its identifier, forward leads from the header through the
- * members and back to it, back leads the other way round, the count is right, and every other node is free (identifier 0)
- * or worn (AXLE_WORN).
+ * members and back to it, back leads the other way round, the count is right, and every other node is free (identifier 0,
+ * all record words 0) or worn (AXLE_WORN).
  * What it can be trusted for where words were altered stands above.
  * Answers: 0, 1 to 4, 6.
  */
@@ -251,9 +262,9 @@ uint32_t axle_insert_several(uint8_t *store, size_t store_len, uint16_t list, ui
                              const uint8_t *records, size_t records_len, uint16_t allowance);
 
 /*
- * Deletes the record at the position. Its node is free then. The stores: the back behind it, the forward before it
- * (central), the count, its identifier.
- * Answers: AXLE_DONE + 4, AXLE_STOPPED + the allowance, 1 to 7.
+ * Deletes the record at the position, and wipes it. Its node is free then. The stores: the back behind it, the forward
+ * before it (central), the count, its identifier, and 0 to each of its P record words, first word first.
+ * Answers: AXLE_DONE + P + 4, AXLE_STOPPED + the allowance, 1 to 7.
  */
 uint32_t axle_delete(uint8_t *store, size_t store_len, uint16_t list, uint16_t position, uint16_t allowance);
 
@@ -266,10 +277,11 @@ uint32_t axle_delete(uint8_t *store, size_t store_len, uint16_t list, uint16_t p
 uint32_t axle_mark_worn(uint8_t *store, size_t store_len, uint16_t cell);
 
 /*
- * After a power cut: puts every list right, and frees the nodes in none, but for worn ones. A sequence of different
- * nodes fits a list if at most one word differs from what it asks of the header and its members. If exactly one fits
- * each list, the differing words are stored, list 0 first, then 0 to each identifier of a node in no list that is
- * neither 0 nor AXLE_WORN, lowest cell first.
+ * After a power cut: puts every list right, and frees and wipes the nodes in none, but for worn ones. A sequence of
+ * different nodes fits a list if at most one word differs from what it asks of the header and its members. If exactly one
+ * fits each list, the differing words are stored, list 0 first, then 0 to each identifier of a node in no list that is
+ * neither 0 nor AXLE_WORN, lowest cell first, and last 0 to each record word of these nodes and of the free ones that is not
+ * 0, lowest word first.
  * Answers: AXLE_DONE + the number of stores, AXLE_STOPPED + the allowance, 1 to 4, 11, 12.
  */
 uint32_t axle_recover(uint8_t *store, size_t store_len, uint16_t allowance);

@@ -20,9 +20,11 @@ pub const NOTHING: &str = "recover, nothing to do";
 pub const BEFORE: &str = "recover, insert cut before its central store";
 pub const AFTER: &str = "recover, insert cut after its central store";
 pub const FAULTS: &str = "recover, one fault in every list";
+pub const OLDER: &str = "recover, an older store";
 
 /// All that is measured.
-pub const NAMES: [&str; 12] = [FORMAT, CHECK, LENGTH, EDIT, MARK, TWELVE, SINGLY, THOUSAND, NOTHING, BEFORE, AFTER, FAULTS];
+pub const NAMES: [&str; 13] =
+    [FORMAT, CHECK, LENGTH, EDIT, MARK, TWELVE, SINGLY, THOUSAND, NOTHING, BEFORE, AFTER, FAULTS, OLDER];
 
 /// The calls of a turn: the sum of their answers.
 pub type Turn = dyn Fn(&Engine, &mut [u8]) -> u32;
@@ -52,12 +54,12 @@ impl Case {
     }
 
     /// Recovery of the found store. The bytes that it changes are made wrong again before each turn.
-    fn recovery(name: &'static str, sample: &Sample, found: Vec<u8>, stores: u32) -> Case {
+    fn recovery(name: &'static str, sample: &Sample, found: Vec<u8>, stores: usize) -> Case {
         let mut recovered = found.clone();
         plain::recover(&mut recovered, ENOUGH);
-        let wrong: Vec<(usize, u8)> = (0..).zip(found.clone()).filter(|&(i, byte)| byte != recovered[i]).collect();
-        Case::new(name, sample, found, DONE + stores, move |engine, bytes| {
-            wrong.iter().for_each(|&(at, byte)| bytes[at] = byte);
+        let wrong = changed(&found, &recovered);
+        Case::new(name, sample, found, DONE + stores as u32, move |engine, bytes| {
+            put_back(bytes, &wrong);
             (engine.recover)(bytes, ENOUGH)
         })
     }
@@ -117,18 +119,18 @@ pub fn cases(sample: &Sample) -> Vec<Case> {
     let Sample { shape, list, position, start, .. } = *sample;
     let (lists, nodes, width) = (shape.lists as u16, shape.nodes as u16, shape.width as u16);
     let record = sample.record.clone();
-    let inserted = u32::from(width) + 6;
+    let (inserted, deleted) = (u32::from(width) + 6, u32::from(width) + 4);
     let sound = || sample.bytes.clone();
     let mut cases = vec![
         Case::new(CHECK, sample, sound(), 0, |engine, bytes| (engine.check)(bytes)),
         Case::new(LENGTH, sample, sound(), DONE + sample.length() as u32, move |engine, bytes| (engine.length)(bytes, list)),
-        Case::new(EDIT, sample, sound(), DONE + inserted + DONE + 4, move |engine, bytes| {
+        Case::new(EDIT, sample, sound(), DONE + inserted + DONE + deleted, move |engine, bytes| {
             (engine.insert)(bytes, list, position, start, &record, ENOUGH) + (engine.delete)(bytes, list, position, ENOUGH)
         }),
         Case::recovery(NOTHING, sample, sound(), 0),
-        Case::recovery(BEFORE, sample, sample.cut(shape.width + 4), 2),
+        Case::recovery(BEFORE, sample, sample.cut(shape.width + 4), 2 + shape.width),
         Case::recovery(AFTER, sample, sample.cut(shape.width + 5), 1),
-        Case::recovery(FAULTS, sample, sample.faulty(), lists.into()),
+        Case::recovery(FAULTS, sample, sample.faulty(), shape.lists),
     ];
     let one_call = move |engine: &Engine, bytes: &mut [u8], records: &[u8]| {
         (engine.insert_several)(bytes, list, position, start, records, ENOUGH)
@@ -138,6 +140,7 @@ pub fn cases(sample: &Sample) -> Vec<Case> {
         records.map(|(position, record)| (engine.insert)(bytes, list, position, start, record, ENOUGH)).sum()
     };
     if sample.fill == Fill::Half {
+        cases.push(Case::recovery(OLDER, sample, sample.older(), sample.free() * shape.width));
         cases.push(Case::mark(sample));
     }
     if sample.free() >= 12 {

@@ -1,8 +1,8 @@
 //! The eight calls and read in plain Rust, as a careful engineer writes them who wants them quick: the benchmark's baseline.
 //!
 //! Arguments and answers are those of the C interface, with slices; read, which it lacks, answers the record's bytes. A word
-//! is two bytes, low byte first. The cells are read once, in order, and all is decided on that copy before the first store:
-//! it stays in the nearest cache while the links lead up and down. No call walks a list further than N nodes.
+//! is two bytes, low byte first. The cells are read once, in order, with the records of the free nodes, and all is decided on that copy
+//! before the first store: it stays in the nearest cache while the links lead up and down. No call walks a list further than N nodes.
 
 /// Added to the number of stores made, or to a length.
 const DONE: u32 = 65_536;
@@ -56,6 +56,13 @@ fn free(cell: &Cell) -> bool {
     cell[IDENT] == FREE
 }
 
+/// Is some byte not 0? Eight at a time, and one test for all.
+fn any(bytes: &[u8]) -> bool {
+    let eights = bytes.chunks_exact(8);
+    let rest = eights.remainder().chunks_exact(2).fold(0, |all, two| all | u64::from(word(two, 0)));
+    eights.fold(rest, |all, eight| all | u64::from_le_bytes(eight.try_into().expect("eight bytes"))) != 0
+}
+
 /// L, N and P.
 #[derive(Clone, Copy)]
 struct Shape {
@@ -90,6 +97,11 @@ impl Shape {
     /// The stores of an inserted record.
     fn insert_stores(self) -> usize {
         self.width + 6
+    }
+
+    /// The stores of a deleted record.
+    fn delete_stores(self) -> usize {
+        self.width + 4
     }
 
     /// The node after this one, the first after the last.
@@ -141,11 +153,12 @@ fn open(store: &[u8]) -> Result<Shape, u32> {
     Ok(shape)
 }
 
-/// The cells as read, and how many nodes are in use.
+/// The cells as read, how many nodes are in use, and whether something remains in the record of a free one.
 struct Survey<'a> {
     shape: Shape,
     cells: &'a mut [Cell],
     used: usize,
+    remains: bool,
 }
 
 /// Works in room for the cells. There is enough for the largest store, but a small one does not pay for setting it to 0.
@@ -165,12 +178,15 @@ fn load<'a>(store: &[u8], shape: Shape, room: &'a mut [Cell]) -> Survey<'a> {
     for (cell, bytes) in headers.iter_mut().zip(from_headers.chunks_exact(8)) {
         *cell = first_words(bytes);
     }
-    let mut used = 0;
+    let (mut used, mut remains) = (0, false);
     for (cell, bytes) in nodes.iter_mut().zip(from_nodes.chunks_exact(shape.node_size())) {
         *cell = first_words(bytes);
         used += usize::from(in_use(cell[IDENT]));
+        if free(cell) {
+            remains |= any(&bytes[2 * RECORD..]);
+        }
     }
-    Survey { shape, cells, used }
+    Survey { shape, cells, used, remains }
 }
 
 fn first_words(bytes: &[u8]) -> Cell {
@@ -208,13 +224,13 @@ impl Survey<'_> {
         (usize::from(at) == list && back == before && usize::from(count) == length).then_some(length)
     }
 
-    /// Question 6: every list is as it must be, and no node but their members is in use.
+    /// Question 6: every list is as it must be, no node but their members is in use, and nothing remains in the free ones.
     fn sound(&self) -> Result<(), u32> {
         let mut members = 0;
         for list in 0..self.shape.lists {
             members += self.length(list).ok_or(6u32)?;
         }
-        if members == self.used {
+        if members == self.used && !self.remains {
             Ok(())
         } else {
             Err(6)
@@ -448,13 +464,16 @@ fn deleted(store: &mut [u8], list: usize, position: u16, allowance: usize) -> Re
     let shape = open(store)?;
     let site = with_room(shape, |room| load(store, shape, room).member(list, position))?;
     let Site { before, cell, after, count } = site;
-    let stores = [
+    let links = [
         (shape.at(after, BACK), before as u16),
         (shape.at(before, FORWARD), after as u16),
         (shape.at(list, COUNT), count - 1),
         (shape.at(cell, IDENT), FREE),
     ];
-    Ok(answer(make(store, stores.into_iter(), allowance), stores.len()))
+    let made = make(store, links.into_iter(), allowance);
+    let wiped = shape.width.min(allowance - made);
+    store[shape.at(cell, RECORD)..][..2 * wiped].fill(0);
+    Ok(answer(made + wiped, shape.delete_stores()))
 }
 
 #[inline(never)]
@@ -564,8 +583,8 @@ impl Survey<'_> {
     }
 }
 
-/// What recovery is to store: the wrong word of each list that has one, and then, if there are orphans, 0 to each identifier
-/// in the copy that says in use.
+/// What recovery is to store before it wipes: the wrong word of each list that has one, and then, if there are orphans, 0 to each
+/// identifier in the copy that says in use.
 struct Mends {
     wrong: [Store; 8],
     len: usize,
@@ -595,20 +614,42 @@ fn mends(survey: &mut Survey) -> Result<Mends, u32> {
     Ok(mends)
 }
 
+/// Wipes the free nodes, up to the allowance: the answer. So many stores were made before: the lists are mended and the orphans cleared, so
+/// no other node has identifier 0.
+fn wipe(store: &mut [u8], shape: Shape, mut made: usize, allowance: usize) -> u32 {
+    for node in store[shape.nodes_at()..].chunks_exact_mut(shape.node_size()) {
+        let (links, record) = node.split_at_mut(2 * RECORD);
+        if word(links, 2 * IDENT) != FREE {
+            continue;
+        }
+        let remains = record.chunks_exact(2).filter(|&word| word != [0, 0]).count();
+        if made + remains > allowance {
+            let rest = record.chunks_exact_mut(2).filter(|word| **word != [0, 0]);
+            rest.take(allowance - made).for_each(|word| word.fill(0));
+            return answer(allowance, allowance + 1);
+        }
+        if remains > 0 {
+            record.fill(0);
+            made += remains;
+        }
+    }
+    answer(made, made)
+}
+
 /// Recovers the store that the cells were read from.
 fn recover_by(mut survey: Survey, store: &mut [u8], allowance: usize) -> Result<u32, u32> {
     let shape = survey.shape;
     let Mends { wrong, len, orphans } = mends(&mut survey)?;
     let mut made = make(store, wrong[..len].iter().copied(), allowance);
-    if made < len || !orphans {
+    if made < len || !(orphans || survey.remains) {
         return Ok(answer(made, len));
     }
-    for cell in (shape.lists..shape.cells()).filter(|&cell| in_use(survey.cells[cell][IDENT])) {
+    for cell in (shape.lists..shape.cells()).filter(|&cell| orphans && in_use(survey.cells[cell][IDENT])) {
         if made == allowance {
             return Ok(answer(made, made + 1));
         }
         put(store, (shape.at(cell, IDENT), FREE));
         made += 1;
     }
-    Ok(answer(made, made))
+    Ok(wipe(store, shape, made, allowance))
 }

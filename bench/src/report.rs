@@ -135,9 +135,13 @@ A time is that of the batch that was disturbed least, divided by its turns. The 
 lie in shuffled order. A full store has one free node; in a half full one every second node is free. Insert + delete is two calls: a record
 is inserted in the middle of a list and deleted again; the search for a free node starts at the first. 12 records are inserted in the
 middle of a list by one call and by 12; 1,000 records fill the half full store of 2,000 nodes. Mark worn is one call, on the first free
-node of a half full store. Before each of these turns the bytes that it changes are put back, and before each recovery the few bytes that
-it changes are made wrong again, which is counted for both. Both gave the same answers and left the same bytes before they were
-measured. (!) marks a ratio above {GOAL}.
+node of a half full store. An older store has a record in every free node, which recovery wipes: in a half full one as many words as the
+members' records have. Before each of these turns the bytes that it changes are put back, and before each recovery the bytes that
+it changes are made wrong again, which is counted for both; in an older store that is a copy of half the store. Both gave the same answers
+and left the same bytes before they were measured. (!) marks a ratio above {GOAL}.
+
+A call that asks whether the store is sound reads the records of the free nodes too: in a half full store half of all records, in a full
+one a single record. Recovery reads them as well.
 
 Some Intel processors are slow at jumps that cross or end at a 32-byte boundary. The plain implementation is compiled without such jumps
 (bench/.cargo/config.toml), so that its times do not depend on where it comes to lie; the archive is linked as it is.
@@ -156,8 +160,8 @@ shorter way round: to position p of n records it should take min(p + 1, n - p) s
 The steps are counted in the machine code of the archives: valgrind's tool lackey lists what a call reads, and a step is a cell whose link is
 read. The cells that the check reads are those of the same call at position 2,000, which is refused once the store is checked; they are
 subtracted, and with delete the cell that it takes out, whose own links name its neighbours. The walk's time is the time above the refused
-call's; with delete it includes the four stores. At both ends that is a few nanoseconds, about what two measurements of one call differ by,
-and can come out below 0.
+call's; with delete it includes the stores, four and one for each of the 13 words of the record. With read at both ends that is a few
+nanoseconds, about what two measurements of one call differ by, and can come out below 0.
 
 The C interface has no read: it is called on words, in an archive of its own (`make archives` builds it), and the plain one reads the
 same bytes. Before each delete the bytes that it changes are put back, which is counted for both. The plain one walks forward to every

@@ -78,10 +78,14 @@ impl Sample {
         Sample { shape, fill, bytes, list, position, start, record, lists }
     }
 
-    /// The first node in no list.
+    /// The nodes in no list.
+    fn free_cells(&self) -> impl Iterator<Item = usize> + '_ {
+        self.shape.node_cells().filter(|cell| !self.lists.iter().any(|list| list.contains(cell)))
+    }
+
+    /// The first of them.
     pub fn free_cell(&self) -> u16 {
-        let mut nodes = self.shape.node_cells();
-        nodes.find(|cell| !self.lists.iter().any(|list| list.contains(cell))).expect("a free node") as u16
+        self.free_cells().next().expect("a free node") as u16
     }
 
     pub fn length(&self) -> usize {
@@ -97,6 +101,15 @@ impl Sample {
     pub fn cut(&self, stores: usize) -> Vec<u8> {
         let mut bytes = self.bytes.clone();
         plain::insert(&mut bytes, self.list, self.position, self.start, &self.record, stores as u16);
+        bytes
+    }
+
+    /// The store as older versions left it: every free node holds a record.
+    pub fn older(&self) -> Vec<u8> {
+        let mut bytes = self.bytes.clone();
+        for record in self.free_cells().map(|cell| self.shape.record(cell)) {
+            bytes[2 * record.start..2 * record.end].copy_from_slice(&self.record);
+        }
         bytes
     }
 

@@ -68,7 +68,7 @@ impl Call {
                     put_back(bytes, &places);
                     (engine.delete)(bytes, 0, position, ENOUGH)
                 });
-                case(if position < LENGTH { DONE + 4 } else { 7 }, turn)
+                case(if position < LENGTH { DONE + 4 + shape.width as u32 } else { 7 }, turn)
             }
         }
     }

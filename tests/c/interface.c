@@ -267,23 +267,25 @@ static void marked_store(void)
     /* C4 and C5: the second insert cut after 5 and after 6 stores; and after every other number. */
     struct bytes cut = WITH(c2, {23, 512}, {21, 0}, {22, 2}, {20, 42400}, {11, 2});
     refused(cut, plain(CHECK), 6);
-    struct bytes back = STORES(cut, plain(RECOVER), {11, 1}, {20, 0});
+    struct bytes back = STORES(cut, plain(RECOVER), {11, 1}, {20, 0}, {23, 0});
     gives(back, length_of(0), 0, AXLE_DONE + 1, back);
     cut = WITH(cut, {17, 3});
     refused(cut, plain(CHECK), 6);
     STORES(cut, plain(RECOVER), {10, 3});
     cut = WITH(c2, {23, 512}, {21, 0}, {22, 2}, {20, 42400});
-    STORES(cut, plain(RECOVER), {20, 0});
+    STORES(cut, plain(RECOVER), {20, 0}, {23, 0});
     stores(c3, plain(RECOVER), NULL, 0);
-    stores(WITH(c2, {23, 512}, {21, 0}, {22, 2}), plain(RECOVER), NULL, 0);
+    STORES(WITH(c2, {23, 512}, {21, 0}, {22, 2}), plain(RECOVER), {23, 0});
+    STORES(WITH(c2, {23, 512}), plain(RECOVER), {23, 0});
 
-    /* C6 and C7: a delete cut after 1 and after 2 stores; and after 3. */
-    struct bytes deleted = STORES(c3, delete_of(0, 0), {22, 0}, {9, 3}, {11, 1}, {16, 0});
+    /* C6 and C7: a delete cut after 1 and after 2 stores; and after 3 and 4. */
+    struct bytes deleted = STORES(c3, delete_of(0, 0), {22, 0}, {9, 3}, {11, 1}, {16, 0}, {19, 0});
     gives(deleted, length_of(0), 0, AXLE_DONE + 1, deleted);
     STORES(WITH(c3, {22, 0}), plain(RECOVER), {22, 2});
-    STORES(WITH(c3, {22, 0}, {9, 3}), plain(RECOVER), {11, 1}, {16, 0});
-    STORES(WITH(c3, {22, 0}, {9, 3}, {11, 1}), plain(RECOVER), {16, 0});
-    STORES(c3, delete_of(0, 1), {10, 2}, {17, 0}, {11, 1}, {20, 0});
+    STORES(WITH(c3, {22, 0}, {9, 3}), plain(RECOVER), {11, 1}, {16, 0}, {19, 0});
+    STORES(WITH(c3, {22, 0}, {9, 3}, {11, 1}), plain(RECOVER), {16, 0}, {19, 0});
+    STORES(WITH(c3, {22, 0}, {9, 3}, {11, 1}, {16, 0}), plain(RECOVER), {19, 0});
+    STORES(c3, delete_of(0, 1), {10, 2}, {17, 0}, {11, 1}, {20, 0}, {23, 0});
 
     /* C8: positions for insert. */
     refused(c3, insert_of(0, 3, 2, 9), 7);
@@ -320,7 +322,7 @@ static void several_records(void)
     /* Cut on both sides of the second record's central store, the thirteenth: with the first record alone, and with both. */
     struct bytes cut = WITH(c2, {23, 512}, {21, 0}, {22, 2}, {20, 42400}, {11, 2});
     gives(c1, several_of(0, 0, 2, 2, words), 12, AXLE_STOPPED + 12, cut);
-    struct bytes first = STORES(cut, plain(RECOVER), {11, 1}, {20, 0});
+    struct bytes first = STORES(cut, plain(RECOVER), {11, 1}, {20, 0}, {23, 0});
     gives(first, length_of(0), 0, AXLE_DONE + 1, first);
     cut = WITH(cut, {17, 3});
     gives(c1, several_of(0, 0, 2, 2, words), 13, AXLE_STOPPED + 13, cut);
@@ -345,7 +347,7 @@ static void worn_nodes(void)
     refused(c1, mark_of(4), AXLE_NO_NODE);
     refused(c1, mark_of(65535), AXLE_NO_NODE);
 
-    struct bytes w1 = marks(WITH(c1, {17, 3}, {18, 0x8001}, {19, 77}), 2, 16);
+    struct bytes w1 = WITH(marks(WITH(c1, {17, 3}, {18, 0x8001}), 2, 16), {19, 77});
     gives(w1, plain(CHECK), 0, 0, w1);
     stores(w1, plain(RECOVER), NULL, 0);
     gives(w1, length_of(0), 0, AXLE_DONE, w1);
@@ -367,30 +369,32 @@ static void worn_nodes(void)
     /* Members and worn nodes are not free; what is deleted is. */
     for (uint16_t cell = 1; cell < 4; cell++)
         refused(w3, mark_of(cell), AXLE_NOT_FREE);
-    struct bytes deleted = STORES(w3, delete_of(0, 0), {14, 0}, {9, 1}, {11, 1}, {20, 0});
+    struct bytes deleted = STORES(w3, delete_of(0, 0), {14, 0}, {9, 1}, {11, 1}, {20, 0}, {23, 0});
     struct bytes last = marks(deleted, 3, 20);
     refused(last, insert_of(0, 0, 3, 9), AXLE_FULL);
     gives(last, length_of(0), 0, AXLE_DONE + 1, last);
 
     /* Cuts: the worn node keeps its words. */
-    STORES(WITH(w2, {15, 512}, {13, 0}, {14, 3}, {12, 42400}), plain(RECOVER), {12, 0});
-    STORES(WITH(w2, {15, 512}, {13, 0}, {14, 3}, {12, 42400}, {11, 2}), plain(RECOVER), {11, 1}, {12, 0});
+    STORES(WITH(w2, {15, 512}, {13, 0}, {14, 3}, {12, 42400}), plain(RECOVER), {12, 0}, {15, 0});
+    STORES(WITH(w2, {15, 512}, {13, 0}, {14, 3}, {12, 42400}, {11, 2}), plain(RECOVER), {11, 1}, {12, 0}, {15, 0});
     STORES(WITH(w2, {15, 512}, {13, 0}, {14, 3}, {12, 42400}, {11, 2}, {21, 1}), plain(RECOVER), {10, 1});
-    STORES(WITH(w3, {14, 0}, {9, 1}), plain(RECOVER), {11, 1}, {20, 0});
+    STORES(WITH(w3, {14, 0}, {9, 1}), plain(RECOVER), {11, 1}, {20, 0}, {23, 0});
 
     /* Worn is judged after membership: cells 3 and 1 are members, and the header is one's too. */
     STORES(WITH(w3, {20, AXLE_WORN}), plain(RECOVER), {20, 42400});
     STORES(WITH(w3, {8, AXLE_WORN}), plain(RECOVER), {8, 42400});
     STORES(WITH(w2, {20, AXLE_WORN}, {12, 7}), plain(RECOVER), {20, 42400}, {12, 0});
     refused(WITH(w3, {20, AXLE_WORN}), plain(CHECK), AXLE_UNSOUND);
-    /* In no list: to 65,535 and from it to 0 the store is sound, from it to another value the mark is lost. */
-    struct bytes two = WITH(w2, {12, AXLE_WORN}), none = WITH(w2, {16, 0});
+    /* In no list: to 65,535 the store is sound, and from it to 0 if the record is 0. From it to another value the mark is lost. */
+    struct bytes two = WITH(w2, {12, AXLE_WORN}), none = WITH(w2, {16, 0}, {19, 0});
     gives(two, plain(CHECK), 0, 0, two);
     stores(two, plain(RECOVER), NULL, 0);
     gives(none, plain(CHECK), 0, 0, none);
     stores(none, plain(RECOVER), NULL, 0);
+    refused(WITH(w2, {16, 0}), plain(CHECK), AXLE_UNSOUND);
+    STORES(WITH(w2, {16, 0}), plain(RECOVER), {19, 0});
     refused(WITH(w2, {16, 65534}), plain(CHECK), AXLE_UNSOUND);
-    STORES(WITH(w2, {16, 65534}), plain(RECOVER), {16, 0});
+    STORES(WITH(w2, {16, 65534}), plain(RECOVER), {16, 0}, {19, 0});
 
     /* All nodes worn. */
     struct bytes all_worn = WITH(c1, {12, AXLE_WORN}, {16, AXLE_WORN}, {20, AXLE_WORN}, {21, AXLE_WORN}, {23, 5});
@@ -402,6 +406,88 @@ static void worn_nodes(void)
         refused(all_worn, several_of(0, 0, cell, 1, words), AXLE_FULL);
         refused(all_worn, mark_of(cell), AXLE_NOT_FREE);
     }
+}
+
+/* The calls that ask whether the store is sound answer so. */
+static void unsound(struct bytes b)
+{
+    static const uint16_t word = 9;
+    refused(b, plain(CHECK), AXLE_UNSOUND);
+    refused(b, length_of(0), AXLE_UNSOUND);
+    refused(b, insert_of(0, 0, 1, word), AXLE_UNSOUND);
+    refused(b, several_of(0, 0, 1, 1, &word), AXLE_UNSOUND);
+    refused(b, delete_of(0, 0), AXLE_UNSOUND);
+    refused(b, mark_of(1), AXLE_UNSOUND);
+}
+
+/* Older stores, in which what was deleted is left: refused until they are recovered. */
+static void older_stores(void)
+{
+    struct bytes older = WITH(c3, {22, 0}, {9, 3}, {11, 1}, {16, 0});
+    unsound(older);
+    struct bytes wiped = STORES(older, plain(RECOVER), {19, 0});
+    gives(wiped, plain(CHECK), 0, 0, wiped);
+    gives(wiped, length_of(0), 0, AXLE_DONE + 1, wiped);
+    marks(wiped, 2, 16);
+    STORES(wiped, delete_of(0, 0), {10, 0}, {9, 0}, {11, 0}, {20, 0}, {23, 0});
+
+    /* Both records left, an orphan among them, and a wrong count: identifiers are cleared before records. */
+    older = WITH(c1, {11, 7}, {12, 5}, {15, 1}, {19, 700}, {20, 42400}, {23, 0xff00});
+    unsound(older);
+    STORES(older, plain(RECOVER), {11, 0}, {12, 0}, {20, 0}, {15, 0}, {19, 0}, {23, 0});
+
+    /* A word in a free node's record, in a worn one's and in a member's. */
+    for (size_t bit = 0; bit < 16; bit++) {
+        uint16_t word = (uint16_t)(1u << bit);
+        struct bytes b = WITH(c3, {15, word});
+        unsound(b);
+        STORES(b, plain(RECOVER), {15, 0});
+        b = WITH(b, {12, AXLE_WORN});
+        gives(b, plain(CHECK), 0, 0, b);
+        stores(b, plain(RECOVER), NULL, 0);
+        b = WITH(c3, {19, word});
+        gives(b, plain(CHECK), 0, 0, b);
+        stores(b, plain(RECOVER), NULL, 0);
+    }
+}
+
+/* Is a word of the record in these bytes, at any place? */
+static int found(const uint8_t *at, size_t len, const uint8_t *record, size_t record_len)
+{
+    for (size_t i = 0; i + 2 <= len; i++)
+        for (size_t j = 0; j + 2 <= record_len; j += 2)
+            if (memcmp(at + i, record + j, 2) == 0)
+                return 1;
+    return 0;
+}
+
+/* A record of five words between two others, deleted; the power fails after any store of it, and of the recovery. From the central store
+   on no word of it is left once the store is recovered. */
+static void nothing_remains(void)
+{
+    enum { LEN = 2 * (8 + 4 * 2 + 8 * 4) };
+    uint8_t full[LEN], record[3][10];
+    holds(axle_format(full, LEN, 2, 4, 5) == 0, "format", 0, 0);
+    for (unsigned i = 0; i < 3; i++) {
+        for (unsigned j = 0; j < 10; j++)
+            record[i][j] = (uint8_t)(0x60 + 0x20 * (i % 2) + 10 * (i / 2) + j);
+        uint32_t answer = axle_insert(full, LEN, 1, (uint16_t)i, 3, record[i], 10, AXLE_WHOLE);
+        holds(answer == AXLE_DONE + AXLE_INSERT_STORES(5), "a record of five words", answer, i);
+    }
+    for (uint16_t n = 0; n <= AXLE_DELETE_STORES(5); n++)
+        for (uint16_t m = 0; m <= AXLE_RECOVER_STORES(2, 4, 5); m++) {
+            uint8_t store[LEN];
+            memcpy(store, full, LEN);
+            uint32_t answer = axle_delete(store, LEN, 1, 1, n);
+            holds(answer == (n < 9 ? AXLE_STOPPED : AXLE_DONE) + n, "a delete of five words", answer, n);
+            holds(n < 9 || !found(store, LEN, record[1], 10), "what is left after a delete", n, m);
+            axle_recover(store, LEN, m);
+            answer = axle_recover(store, LEN, AXLE_WHOLE);
+            holds(axle_is_done(answer) && axle_check(store, LEN) == 0, "recovery of a cut delete", answer, n);
+            int there = n < AXLE_DELETE_CENTRAL;
+            holds(there ? memcmp(store, full, LEN) == 0 : !found(store, LEN, record[1], 10), "what is left of it", n, m);
+            holds(found(store, LEN, record[0], 10) && found(store, LEN, record[2], 10), "the other records", n, m);
+        }
 }
 
 /* The largest store with its nodes worn but for the last: from the first node on it is used. Then it is marked too. */
@@ -420,7 +506,7 @@ static void wear_out(uint8_t *large, size_t len)
     answer = axle_mark_worn(large, len, 2007);
     holds(answer == AXLE_NOT_FREE, "a mark of a member", answer, 0);
     answer = axle_delete(large, len, 4, 0, AXLE_WHOLE);
-    holds(answer == AXLE_DONE + 4, "its delete", answer, 0);
+    holds(answer == AXLE_DONE + AXLE_DELETE_STORES(13), "its delete", answer, 0);
     answer = axle_mark_worn(large, len, 2007);
     holds(answer == AXLE_DONE + 1 && large[last] == 0xff && large[last + 1] == 0xff, "a mark of the last node", answer, 0);
     answer = axle_insert(large, len, 4, 0, 8, record, sizeof record, AXLE_WHOLE);
@@ -551,13 +637,14 @@ static void formats(void)
     axle_format(large, len, 8, 2000, 13);
     for (uint16_t list = 0; list < 8; list++)
         large[2 * AXLE_HEADER_WORD(list) + 6] = 1; /* every count */
-    for (uint16_t cell = 8; cell < 2008; cell++)
-        large[2 * AXLE_NODE_WORD(8, 13, cell)] = 1;
-    answer = axle_recover(large, len, 2007);
-    holds(answer == AXLE_STOPPED + 2007, "the most stores, cut before the last", answer, 0);
+    memset(large + 2 * AXLE_NODE_WORD(8, 13, 8), 1, 2000 * 2 * (3 + 13)); /* every word of every node */
+    uint16_t most = AXLE_RECOVER_STORES(8, 2000, 13);
+    answer = axle_recover(large, len, (uint16_t)(most - 1));
+    holds(answer == AXLE_STOPPED + 28007, "the most stores, cut before the last", answer, 0);
+    holds(axle_check(large, len) == AXLE_UNSOUND, "a word is left", 0, 0);
     answer = axle_recover(large, len, AXLE_WHOLE);
     holds(answer == AXLE_DONE + 1, "the most stores, the last", answer, 0);
-    holds(axle_check(large, len) == 0 && AXLE_RECOVER_STORES(8, 2000) == 2008, "sound then", 0, 0);
+    holds(axle_check(large, len) == 0 && most == 28008, "sound then", 0, 0);
     free(large);
 }
 
@@ -628,6 +715,8 @@ static void questions(void)
     struct bytes one = STORES(two, with_record_of(insert_of(1, 0, 4, 0), 4), {29, 0x1111}, {30, 0x1111}, {27, 1}, {28, 1},
                               {26, 42401}, {15, 1}, {13, 4}, {14, 4});
     STORES(WITH(one, {9, 77}, {15, 0}, {16, 1}), plain(RECOVER), {9, 0}, {15, 1}, {16, 0});
+    STORES(one, delete_of(1, 0), {14, 1}, {13, 1}, {15, 0}, {26, 0}, {29, 0}, {30, 0});
+    STORES(WITH(one, {19, 5}, {20, 6}, {21, 1}, {25, 7}), plain(RECOVER), {21, 0}, {19, 0}, {20, 0}, {25, 0});
     refused(WITH(one, {9, 77}, {10, 77}, {13, 77}, {14, 77}), plain(RECOVER), 11);
 }
 
@@ -645,6 +734,8 @@ static void parts_of_answers(void)
     holds(AXLE_STORE_BYTES(1, 3, 1) == 48 && AXLE_RECORD_BYTES(13) == 26, "sizes", 0, 0);
     holds(AXLE_INSERT_STORES(1) == 7 && AXLE_INSERT_CENTRAL(1) == 6, "stores", 0, 0);
     holds(AXLE_INSERT_SEVERAL_STORES(1 + 1, 2 + 1) == 24, "stores of several records", 0, 0);
+    holds(AXLE_DELETE_STORES(1) == 5 && 2 * AXLE_DELETE_STORES(13) == 34 && AXLE_DELETE_CENTRAL == 2, "stores of delete", 0, 0);
+    holds(AXLE_RECOVER_STORES(1, 3, 1) == 7 && 2 * AXLE_RECOVER_STORES(1 + 1, 2 + 1, 1 + 1) == 22, "stores of recover", 0, 0);
     holds(AXLE_NOT_FREE == 13 && AXLE_WORN == 65535 && AXLE_DONE + 1 == 65537, "the numbers of a mark", 0, 0);
     char version[20];
     sprintf(version, "%d.%d.%d", AXLE_VERSION_MAJOR, AXLE_VERSION_MINOR, AXLE_VERSION_PATCH);
@@ -674,6 +765,8 @@ int main(void)
     marked_store();
     several_records();
     worn_nodes();
+    older_stores();
+    nothing_remains();
     lengths_and_heads();
     formats();
     questions();

@@ -37,8 +37,8 @@ module _ (w : List ℕ) (s : Sound w) (k : ℕ) (hk : k < layoutOf w .lists) whe
   abbrev members : List ℕ
   members = sequenceOf its w k
 
-  members-are : members ≡ s .lists .sequence k
-  members-are = list-sequence its w k hk (s .lists .sequence k) (s .lists .lists k hk)
+  members-are : members ≡ s .ordered .lists .sequence k
+  members-are = list-sequence its w k hk (s .ordered .lists .sequence k) (s .ordered .lists .lists k hk)
 
   held : HeldList its (linksIn w) k (length members)
   held =

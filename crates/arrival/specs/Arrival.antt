@@ -45,4 +45,4 @@ pub record Walks (w : List ℕ) (k : ℕ) (s : List ℕ) : Type 0 where
       × (ps ≡ chain (layoutOf w) k a (linksIn w .forward a) (length s) cells words)
 
 abbrev pub Arrival : Type 0
-Arrival = (w : List ℕ) (s : Sound w) (k : ℕ) → k < layoutOf w .lists → Walks w k (s .lists .sequence k)
+Arrival = (w : List ℕ) (s : Sound w) (k : ℕ) → k < layoutOf w .lists → Walks w k (s .ordered .lists .sequence k)

@@ -12,10 +12,10 @@ use Rattle.layout.specs.declared.Layout.{Layout}
 use Rattle.layout.specs.declared.Opened.the-variants as O
 use Rattle.layout.specs.Words.{InRange, layoutOf, sizeOf, opened, ask, formatted}
 use Rattle.layout.proofs.Laws.{opened-open, open-opened}
-use Rattle.lists.specs.Lists.{Sound, SoundLists}
+use Rattle.lists.specs.Lists.{Sound, SoundLists, Wiped}
 use Rattle.lists.specs.Decide.{soundOf, sequenceOf}
 use Rattle.lists.proofs.Unique.{list-sequence}
-use Rattle.lists.proofs.Decided.{sound-lists, lists-sound}
+use Rattle.lists.proofs.Decided.{sound-lists, sound-wiped, lists-sound}
 use Rattle.lists.proofs.Empty.{formatted-sound}
 use Rattle.requests.specs.declared.Site.{Site}
 use Rattle.requests.specs.declared.Sited.the-variants.{At, Refused}
@@ -33,10 +33,10 @@ use Rattle.axle_store.proofs.Cases.{check-at, length-at, read-at}
 
 -- a sound store passes questions 1 to 4 and 6
 pub sound-opened : (w : List ℕ) → Sound w → opened w ≡ O.Open (layoutOf w)
-sound-opened w s = open-opened w (s .marked) (s .inRange) (s .exact)
+sound-opened w s = let o = s .ordered in open-opened w (o .marked) (o .inRange) (o .exact)
 
 pub sound-decided : (w : List ℕ) → Sound w → soundOf (layoutOf w) w ≡ true
-sound-decided w s = lists-sound (layoutOf w) (s .inRange) w (s .lists)
+sound-decided w s = lists-sound (layoutOf w) (s .ordered .inRange) w (s .ordered .lists) (s .wiped)
 
 -- check's definition decides soundness
 pub sound-check : (w : List ℕ) → Sound w → checkAnswer w ≡ C.Sound
@@ -45,14 +45,25 @@ sound-check w s =
     let e : siteOf (layoutOf w) w Check ≡ At (record { before = 0; cell = 0; after = 0; count = 0 }) = rw (sound-decided w s) in
     sym (check-at w (sym (look-at w Check (sound-opened w s) e)))
 
+-- a store that passes questions 1 to 4 and is not sound is answered 6
+pub unsound-check : (w : List ℕ) (l : Layout) → opened w ≡ O.Open l → soundOf l w ≡ false → checkAnswer w ≡ C.Refused 6
+unfolding checkAnswer lookOf siteIn
+unsound-check w l o e = rw (o, e)
+
 pub decided-sound : (w : List ℕ) (l : Layout) → opened w ≡ O.Open l → soundOf l w ≡ true → Sound w
 decided-sound w l o e =
     let q = opened-open w l o in
+    let x = sound-lists l (q .2) w e in
+    let y = subst (λ (m : Layout). (s : SoundLists m w) × Wiped m w (s .sequence)) (q .0) (x, sound-wiped l (q .2) w e x) in
     record {
-      marked = q .1;
-      inRange = subst InRange (q .0) (q .2);
-      exact = q .3 ∙ ap sizeOf (q .0);
-      lists = subst (λ (m : Layout). SoundLists m w) (q .0) (sound-lists l (q .2) w e);
+      ordered =
+          record {
+            marked = q .1;
+            inRange = subst InRange (q .0) (q .2);
+            exact = q .3 ∙ ap sizeOf (q .0);
+            lists = y .0;
+          };
+      wiped = y .1;
     }
 
 pub check-sound : (w : List ℕ) → checkAnswer w ≡ C.Sound → Sound w
@@ -75,10 +86,10 @@ check-decides w = (check-sound w, sound-check w)
 -- of a sound store: length is the sequence's length, read the record of the sequence's cell at the position
 module _ (w : List ℕ) (s : Sound w) (k : ℕ) (h : k < layoutOf w .lists) where
   abbrev members : List ℕ
-  members = s .lists .sequence k
+  members = s .ordered .lists .sequence k
 
   members-are : sequenceOf (layoutOf w) w k ≡ members
-  members-are = list-sequence (layoutOf w) w k h members (s .lists .lists k h)
+  members-are = list-sequence (layoutOf w) w k h members (s .ordered .lists .lists k h)
 
   pub sound-length : lengthAnswer w k ≡ L.Length (length members)
   unfolding siteIn

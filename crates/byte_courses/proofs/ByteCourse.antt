@@ -12,7 +12,7 @@ use Rattle.stores.proofs.Laws.{run-append}
 use Rattle.byte_form.specs.Bytes.{wordsIn, byteWrites, bytesAfter}
 use Rattle.byte_form.proofs.Laws.{words-after, length-after, byte-append, bytes-made}
 use Rattle.layout.specs.Words.{layoutOf}
-use Rattle.lists.specs.Lists.{Sound}
+use Rattle.lists.specs.Lists.{Ordered}
 use Rattle.recovery.specs.Plan.{recoverPlan}
 use Rattle.courses.specs.Course.{Edit, insert, several, delete, named, editPlan, allStores, needed, dueWords, Alteration, AllowedBut, alteredBelow, found, wordsThrough, answersThrough, storesThrough, NotRefused}
 use Rattle.courses.specs.Demand3.{Course}
@@ -80,7 +80,7 @@ not-refusals : (answers : List Answer) → All NotRefused answers → All NotRef
 not-refusals [] h = tt
 not-refusals (a ∷ answers) h = ((a, h .0, refl), not-refusals answers (h .1))
 
-module _ (b : List ℕ) (h : length b % 2 ≡ 0) (s : Sound (wordsIn b)) (e : Edit) (m : ℕ) (alts : ℕ → Alteration)
+module _ (b : List ℕ) (h : length b % 2 ≡ 0) (s : Ordered (wordsIn b)) (e : Edit) (m : ℕ) (alts : ℕ → Alteration)
     (allowed : AllowedBut (named (inWords e)) (layoutOf (wordsIn b) .lists) (s .lists .sequence) alts)
     (y : List ℕ) (f : Found b e m alts y) (ms : List ℕ) (last : ℕ) (enough : needed (byteRecover (bytesThrough ms y)) ≤ last) where
   abbrev runs : List ℕ

@@ -9,7 +9,7 @@ use Rattle.stores.specs.declared.Answer.the-variants as A
 use Rattle.stores.specs.Stores.{run, answerOf}
 use Rattle.byte_form.specs.Bytes.{wordsIn, byteWrites}
 use Rattle.layout.specs.Words.{layoutOf}
-use Rattle.lists.specs.Lists.{Sound}
+use Rattle.lists.specs.Lists.{Ordered}
 use Rattle.courses.specs.Course.{Edit, named, allStores, needed, dueWords, Alteration, AllowedBut, answersThrough, NotRefused}
 use Rattle.courses.specs.Demand3.{Course}
 use Rattle.axle.specs.Interface.{codeOf, byteRecover}
@@ -19,9 +19,10 @@ use Rattle.byte_courses.specs.ByteCourse.{inWords, Found, bytesThrough, 
 abbrev pub NotRefusal : ℕ → Type 0
 NotRefusal n = (a : Answer) × NotRefused a × (n ≡ codeOf a)
 
--- What is so of a course in bytes. It starts from the sound store b; its call names list k, and x has the words that are due to that list; y
--- is the found store. Recoveries with the allowances ms follow, and last one with the allowance `last`, which leaves z and is answered r.
-pub record ByteCourse (b : List ℕ) (s : Sound (wordsIn b)) (k : ℕ) (x y ms : List ℕ) (last : ℕ) (z : List ℕ) (r : ℕ) : Type 0 where
+-- What is so of a course in bytes. It starts from the store b, which is sound but for the records of nodes in no list; its call names list k, and x
+-- has the words that are due to that list; y is the found store. Recoveries with the allowances ms follow, and last one with the allowance `last`,
+-- which leaves z and is answered r.
+pub record ByteCourse (b : List ℕ) (s : Ordered (wordsIn b)) (k : ℕ) (x y ms : List ℕ) (last : ℕ) (z : List ℕ) (r : ℕ) : Type 0 where
   -- "None is refused, and the last is answered done": with the number of stores that it needs
   pub accepted : All NotRefusal (codesThrough ms y)
   pub done : r ≡ 65536 + needed (byteRecover (bytesThrough ms y))
@@ -33,9 +34,9 @@ pub record ByteCourse (b : List ℕ) (s : Sound (wordsIn b)) (k : ℕ) (x y ms :
 
 abbrev pub ByteDemand3 : Type 0
 ByteDemand3 =
-    -- "It starts from any sound store.
-    (b : List ℕ) → length b % 2 ≡ 0 → (s : Sound (wordsIn b))
-    -- One insert or delete runs on it, with any arguments and any allowance; refused, it stores nothing.
+    -- "It starts from any sound store." "Older stores get so by recovery", so nothing is asked of the records of nodes in no list.
+    (b : List ℕ) → length b % 2 ≡ 0 → (s : Ordered (wordsIn b))
+    -- "One insert or delete runs on it, with any arguments and any allowance; refused, it stores nothing.
     → (e : Edit) (m : ℕ)
     -- Then, in each list but the one it names, at most one word is altered, to any value: one of the header's four, or a member's
     -- identifier, forward or back. That is the found store.

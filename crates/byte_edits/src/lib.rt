@@ -70,7 +70,7 @@ pub fn insert_all(
     }
 }
 
-// Makes the stores of a delete, up to the allowance.
+// Makes the stores of a delete, the links and then zeros over the record, up to the allowance.
 pub fn delete_at(bytes: &mut [u8], l: Layout, list: u16, t: Site, allowance: u16) -> Answer
     requires { ⌜ Placed l list t × (length (wordsIn (now bytes)) ≡ sizeOf l) ⌝ }
     ensures answer { λ r. ⌜ r ≡ answerOf (stores (deleteWrites l list t)) allowance ⌝ }
@@ -79,5 +79,14 @@ pub fn delete_at(bytes: &mut [u8], l: Layout, list: u16, t: Site, allowance: u16
     let links = edits::delete_links(l, list, t);
     let at = links.at;
     let values = links.values;
-    byte_form::run(bytes, &at, &values, allowance)
+    let Answer::Done(n) = byte_form::run(bytes, &at, &values, allowance) else {
+        return Answer::Stopped(allowance);
+    };
+    let row = l.node(t.cell) + Layout::LINK_WORDS;
+    let size = 2 * (l.node_words() - Layout::LINK_WORDS);
+    let zeros = [0; 2 * Layout::MAX_WIDTH];
+    let Answer::Done(m) = byte_form::put_row(bytes, row, &zeros[..size], allowance - n) else {
+        return Answer::Stopped(allowance);
+    };
+    Answer::Done(n + m)
 }

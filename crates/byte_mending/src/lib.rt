@@ -1,5 +1,6 @@
 // Recovery of a store in byte form, decided in the lent bytes: each list is walked there, and the mends are kept in short rows. Only if
-// a node in no list may be in use by its identifier, the identifiers are read into a column and the members erased there.
+// a node in no list may be in use by its identifier, the identifiers are read into a column and the members erased there. The wipes need no
+// column: once the mends and the clears are made, the nodes to be wiped are the free ones.
 use layout::Layout;
 use mending::Mends;
 use spans::Grid;
@@ -9,13 +10,13 @@ ghost use mathlib.Core.Path.{_≡_};
 ghost use Prim.Native.Nat.{_+_};
 ghost use mathlib.Core.List.{_++_};
 ghost use lib.ListN.{length};
-ghost use Rattle.stores.specs.Stores.{stores, answerOf, writesIn, Held};
+ghost use Rattle.stores.specs.Stores.{run, stores, answerOf, writesIn, Held};
 ghost use Rattle.byte_form.specs.Bytes.{wordsIn, appliedBytes, bytesAfter};
 ghost use Rattle.layout.specs.Words.{mostCells, Laid, sizeOf};
 ghost use Rattle.lists.specs.Decide.{viewOf, countIn};
 ghost use Rattle.spans.specs.Spans.{Gridded};
 ghost use Rattle.recovery.specs.Plan.{recoverOf};
-ghost use Rattle.mending.specs.Mending.{clears, MendsOf};
+ghost use Rattle.mending.specs.Mending.{clears, wipes, MendsOf};
 
 // Makes the mends and then the clears, up to the allowance.
 fn make(
@@ -38,7 +39,7 @@ fn make(
     Answer::Done(n + m)
 }
 
-// Recovers a store where a node in no list may be in use by its identifier: the mends, and then the clears.
+// Recovers a store where a node in no list may be in use by its identifier: the mends, the clears, and then the wipes.
 fn recover_left(
     bytes: &mut [u8],
     l: Layout,
@@ -55,24 +56,38 @@ fn recover_left(
     let mends = m.rows;
     byte_clears::read_nodes(idents, bytes, l, g);
     byte_clears::erase_all(idents, bytes, l, g, back);
-    make(bytes, mends, idents, l, allowance)
+    let made = make(bytes, mends, idents, l, allowance);
+    byte_wipes::go_on(bytes, l, g, made, allowance)
 }
 
-// Recovers a store of this layout. The nodes in use are counted first: that fetches the bytes in order.
+// Recovers a store where none is: the mends, and then the wipes.
+fn recover_none_left(bytes: &mut [u8], l: Layout, g: Grid, mends: Rows, allowance: u16) -> Answer
+    requires { ⌜ Gridded l g × Laid l (wordsIn (now bytes)) × Held (sizeOf l) mends (writesIn mends) ⌝ }
+    ensures answer { λ r. ⌜ r ≡ answerOf (stores (writesIn mends ++ wipes l (run (writesIn mends) (wordsIn (now (bytes .entry)))))) allowance ⌝ }
+    ensures bytes { λ _. ⌜ now (bytes .exit) ≡ appliedBytes (writesIn mends ++ wipes l (run (writesIn mends) (wordsIn (now (bytes .entry))))) allowance (now (bytes .entry)) ⌝ }
+{
+    let made = byte_form::run_rows(bytes, mends, allowance);
+    byte_wipes::go_on(bytes, l, g, made, allowance)
+}
+
+// Recovers a store of this layout. The nodes are tallied first: that fetches the bytes in order.
 pub fn recover_in(bytes: &mut [u8], l: Layout, allowance: u16) -> Answer
     requires { ⌜ Laid l (wordsIn (now bytes)) ⌝ }
     ensures answer { λ r. ⌜ r ≡ answerOf (recoverOf l (wordsIn (now (bytes .entry)))) allowance ⌝ }
     ensures bytes { λ _. ⌜ now (bytes .exit) ≡ bytesAfter (recoverOf l (wordsIn (now (bytes .entry)))) allowance (now (bytes .entry)) ⌝ }
 {
     let g = Grid::of(l);
-    let used = byte_walks::tally(bytes, l, g).used;
+    let t = byte_walks::tally(bytes, l, g);
     let found = byte_mends::all_mends(bytes, l, g);
     if found.refusal != 0 {
         return Answer::Refused(found.refusal);
     }
-    if found.none_left(used) {
+    if found.none_left(t.used) {
         let mends = found.rows;
-        return byte_form::run_rows(bytes, mends, allowance);
+        if t.unwiped == 0 {
+            return byte_form::run_rows(bytes, mends, allowance);
+        }
+        return recover_none_left(bytes, l, g, mends, allowance);
     }
     let mut idents = mending::column();
     recover_left(bytes, l, g, found, &mut idents, allowance)

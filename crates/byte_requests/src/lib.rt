@@ -134,7 +134,7 @@ fn gaps(bytes: &[u8], l: Layout, g: Grid, k: u16, n: u16, p: u16, start: u16, si
     if refusal != 0 {
         return Sited::Refused(refusal);
     }
-    let free = byte_walks::tally(bytes, l, g).free as usize;
+    let free = byte_walks::free_nodes(bytes, l, g) as usize;
     if free < size / l.width as usize {
         return Sited::Refused(10);
     }

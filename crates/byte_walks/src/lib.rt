@@ -10,9 +10,9 @@ ghost use mathlib.Core.Path.{_≡_};
 ghost use Prim.Native.Nat.{_+_, _≤_, _<_};
 ghost use lib.ListN.{length, getD};
 ghost use Rattle.byte_form.specs.Bytes.{wordsIn};
-ghost use Rattle.layout.specs.Words.{Laid, Node, firstNode, cellCount, linkWords, identOf};
-ghost use Rattle.lists.specs.Decide.{viewOf, countIn, soundOf};
-ghost use Rattle.spans.specs.Spans.{Gridded, tallyOf, Decides, Held, countSum, cellOf, cellIn, wholeSpan, Spanned, Led, rounded};
+ghost use Rattle.layout.specs.Words.{mostWidth, Laid, Node, firstNode, cellCount, linkWords, identOf, isFree};
+ghost use Rattle.lists.specs.Decide.{blankFrom, viewOf, countIn, cellsWith, unwiped, soundOf};
+ghost use Rattle.spans.specs.Spans.{Gridded, tallyOf, identsOf, Decides, Held, countSum, cellOf, cellIn, wholeSpan, Spanned, Led, rounded};
 
 // The cell that the word at a names.
 fn link(bytes: &[u8], a: usize) -> usize
@@ -180,18 +180,95 @@ pub fn two_hold(bytes: &[u8], l: Layout, g: Grid, k: u16, j: u16) -> bool
     both_spanned(bytes, l, g, k, s, j, t)
 }
 
-// How many nodes are free, and how many are in use.
+// Are the n words from a on all 0? They are added up, and the sum is asked once.
+pub fn blank(bytes: &[u8], a: usize, n: u16) -> bool
+    requires { ⌜ (n ≤ mostWidth) × (a + n ≤ length (wordsIn (now bytes))) ⌝ }
+    ensures { λ r. ⌜ r ≡ blankFrom (wordsIn (now (bytes .entry))) a n ⌝ }
+{
+    let mut sum: u32 = 0;
+    let mut i: u16 = 0;
+    while i < n {
+        sum += byte_form::word(bytes, a + i as usize) as u32;
+        i += 1;
+    }
+    sum == 0
+}
+
+// Is the record of node y blank?
+fn is_blank(bytes: &[u8], l: Layout, g: Grid, y: usize) -> bool
+    requires { ⌜ Gridded l g × Laid l (wordsIn (now bytes)) × Node l y ⌝ }
+    ensures { λ r. ⌜ r ≡ viewOf l (wordsIn (now (bytes .entry))) .blank y ⌝ }
+{
+    blank(bytes, g.place(l, y) + Layout::LINK_WORDS, g.tail(l))
+}
+
+// The n nodes from cell c on, tallied by their identifiers: no record is read.
+fn by_idents(bytes: &[u8], l: Layout, g: Grid, c: usize, n: usize) -> Tally
+    requires { ⌜ Gridded l g × Laid l (wordsIn (now bytes)) × (firstNode l ≤ c) × (c + n ≤ cellCount l) ⌝ }
+    ensures { λ r. ⌜ r ≡ identsOf (viewOf l (wordsIn (now (bytes .entry)))) c n ⌝ }
+{
+    let mut t = Tally::none();
+    let mut j: usize = 0;
+    while j < n {
+        t = t.with(node(bytes, l, g, c + j).ident);
+        j += 1;
+    }
+    t
+}
+
+// How many nodes are free.
+pub fn free_nodes(bytes: &[u8], l: Layout, g: Grid) -> u32
+    requires { ⌜ Gridded l g × Laid l (wordsIn (now bytes)) ⌝ }
+    ensures { λ r. ⌜ r ≡ length (cellsWith isFree (viewOf l (wordsIn (now (bytes .entry)))) (firstNode l) (l .nodes)) ⌝ }
+{
+    by_idents(bytes, l, g, g.from, l.nodes as usize).free
+}
+
+// How many of the n nodes from cell c on are free and have a record that is not blank.
+fn unwiped(bytes: &[u8], l: Layout, g: Grid, c: usize, n: usize) -> u32
+    requires { ⌜ Gridded l g × Laid l (wordsIn (now bytes)) × (firstNode l ≤ c) × (c + n ≤ cellCount l) ⌝ }
+    ensures { λ r. ⌜ r ≡ length (unwiped (viewOf l (wordsIn (now (bytes .entry)))) c n) ⌝ }
+{
+    let mut found: u32 = 0;
+    let mut j: usize = 0;
+    while j < n {
+        let y = c + j;
+        let ident = node(bytes, l, g, y).ident;
+        if Layout::is_free(ident) {
+            found += spans::one(!is_blank(bytes, l, g, y));
+        }
+        j += 1;
+    }
+    found
+}
+
+// Their tally: where none of them is free, their records are not asked.
+fn part(bytes: &[u8], l: Layout, g: Grid, c: usize, n: usize) -> Tally
+    requires { ⌜ Gridded l g × Laid l (wordsIn (now bytes)) × (firstNode l ≤ c) × (c + n ≤ cellCount l) ⌝ }
+    ensures { λ r. ⌜ r ≡ tallyOf (viewOf l (wordsIn (now (bytes .entry)))) c n ⌝ }
+{
+    let t = by_idents(bytes, l, g, c, n);
+    if t.free == 0 {
+        return t;
+    }
+    Tally {
+        free: t.free,
+        used: t.used,
+        unwiped: unwiped(bytes, l, g, c, n),
+    }
+}
+
+// How many nodes are free, how many are in use, and how many of the free ones have a record that is not blank.
 pub fn tally(bytes: &[u8], l: Layout, g: Grid) -> Tally
     requires { ⌜ Gridded l g × Laid l (wordsIn (now bytes)) ⌝ }
     ensures { λ r. ⌜ r ≡ tallyOf (viewOf l (wordsIn (now (bytes .entry)))) (firstNode l) (l .nodes) ⌝ }
 {
-    let mut a = g.first;
-    let mut t = Tally { free: 0, used: 0 };
-    let mut i: u16 = 0;
-    while i < l.nodes {
-        t = t.with(byte_form::word(bytes, a));
-        a += g.step;
-        i += 1;
+    let mut t = Tally::none();
+    let mut c = g.from;
+    while c < g.to {
+        let n = Tally::portion(g.to - c);
+        t = t.plus(part(bytes, l, g, c, n));
+        c += n;
     }
     t
 }
@@ -210,13 +287,17 @@ fn counted(bytes: &[u8], l: Layout) -> u32
     n
 }
 
-// Are the lists sound?
+// Are the lists sound, and the records of the free nodes blank?
 pub fn sound_in(bytes: &[u8], l: Layout) -> bool
     requires { ⌜ Laid l (wordsIn (now bytes)) ⌝ }
     ensures { λ r. ⌜ r ≡ soundOf l (wordsIn (now (bytes .entry))) ⌝ }
 {
     let g = Grid::of(l);
-    if tally(bytes, l, g).used != counted(bytes, l) {
+    let t = tally(bytes, l, g);
+    if t.used != counted(bytes, l) {
+        return false;
+    }
+    if t.unwiped != 0 {
         return false;
     }
     let mut k: u16 = 0;

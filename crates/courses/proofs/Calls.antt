@@ -1,4 +1,4 @@
--- Whatever an insert, of one record or of several, or a delete is asked of a sound store, its stores are of those that a call may have left (`Left`).
+-- Whatever an insert, of one record or of several, or a delete is asked of an ordered store, its stores are of those that a call may have left (`Left`).
 use Prim.Native.Nat.{ℕ, _+_, _/_, _<_, _≤_}
 use mathlib.Core.Path.{_≡_, refl, ap, _∙_, sym, subst}
 use mathlib.Core.List.{List, List·Memᴰ·head, Memᴰ·append-right}
@@ -8,7 +8,7 @@ use Rattle.sequences.proofs.Members.{all-in}
 use Rattle.stores.specs.Stores.{Plan}
 use Rattle.layout.specs.declared.Layout.{Layout}
 use Rattle.layout.specs.Words.{tailWords, Node, layoutOf}
-use Rattle.lists.specs.Lists.{Sound}
+use Rattle.lists.specs.Lists.{Ordered}
 use Rattle.lists.specs.Decide.{viewOf}
 use Rattle.requests.specs.declared.Site.{Site}
 use Rattle.requests.specs.declared.Looked.{Looked}
@@ -30,7 +30,7 @@ first-node l w c i h f =
     all-in (Node l) (around l c (l .nodes)) (around-nodes l c (l .nodes) h)
     (subst (λ (x : List ℕ). i ∈ x) (sym (f .order)) (Memᴰ·append-right (f .passed) (List·Memᴰ·head refl)))
 
-module _ (w : List ℕ) (s : Sound w) where
+module _ (w : List ℕ) (s : Ordered w) where
   abbrev l : Layout
   l = layoutOf w
 

@@ -1,4 +1,4 @@
--- The course from any cut of a sound store, whatever the call was.
+-- The course from any cut of an ordered store, whatever the call was.
 use Prim.Native.Nat.{ℕ, _+_, _<_, _≤_}
 use mathlib.Core.Path.{_≡_, refl, ap, _∙_, sym, subst}
 use mathlib.Core.List.{List, [], _∷_, _++_, List·Memᴰ·head, List·Memᴰ·tail, List·Memᴰ·eq-of-singleton}
@@ -14,7 +14,7 @@ use Rattle.layout.specs.declared.Layout.{Layout}
 use Rattle.layout.specs.Words.{Node, cellAt, cellWords, identAt, wornIdent, worn, layoutOf}
 use Rattle.layout.proofs.Laws.{open-opened}
 use Rattle.layout.proofs.Apart.{cell-behind, links-words}
-use Rattle.lists.specs.Lists.{Sound, IsList, SameCells, KeepsWorn}
+use Rattle.lists.specs.Lists.{Ordered, Sound, Wiped, IsList, SameCells, KeepsWorn}
 use Rattle.lists.proofs.Nodes.{unlisted-out}
 use Rattle.lists.proofs.Same.{ident-word, kept-worn, same-opened, same-sound}
 use Rattle.edits.specs.Edited.{replaced}
@@ -27,11 +27,11 @@ use Rattle.courses.specs.Demand3.{Course}
 use Rattle.courses.proofs.Other.{Touches}
 use Rattle.courses.proofs.Cut.{Cut}
 use Rattle.courses.proofs.Found.{altered-out, length-altered, kept, kept-outside, found-accepted}
-use Rattle.courses.proofs.Final.{final-head, final-outside, final-worn, final-lists, final-ident, final-words}
+use Rattle.courses.proofs.Final.{final-head, final-outside, final-worn, final-lists, final-ident, final-wiped, final-record, final-words}
 use Rattle.courses.proofs.Recoveries.{recovered}
 use Rattle.courses.proofs.Standing.{Standing, standing-plan, standing-after}
 
-module _ (w : List ℕ) (s : Sound w) (k : ℕ) (own x y₀ : List ℕ) (cut : Cut (layoutOf w) w (s .lists) k own x y₀)
+module _ (w : List ℕ) (s : Ordered w) (k : ℕ) (own x y₀ : List ℕ) (cut : Cut (layoutOf w) w (s .lists) k own x y₀)
     (due : KeepsWorn (layoutOf w) w x) (left : KeepsWorn (layoutOf w) w y₀)
     (alts : ℕ → Alteration) (allowed : AllowedBut k (layoutOf w .lists) (s .lists .sequence) alts) where
   abbrev pub l : Layout
@@ -68,10 +68,12 @@ module _ (w : List ℕ) (s : Sound w) (k : ℕ) (own x y₀ : List ℕ) (cut : C
   abbrev Final : List ℕ
   Final = run ps y
 
-  sound : (v : Sound Final) × (v .lists .sequence ≡ t)
+  sound : (v : Sound Final) × (v .ordered .lists .sequence ≡ t)
   sound =
       let f = final-lists l y (standing .size) t accepted in
-      let r = same-sound w Final s (λ a h. final-head l y (standing .size) t accepted a h ∙ head a h) (length-run ps y ∙ size) (f .0) in
+      let r =
+      same-sound w Final s (λ a h. final-head l y (standing .size) t accepted a h ∙ head a h) (length-run ps y ∙ size) (f .0)
+      (subst (Wiped l Final) (sym (f .1)) (final-wiped l y (standing .size) t accepted)) in
       (r .0, r .1 ∙ f .1)
 
   -- the list named
@@ -106,7 +108,7 @@ module _ (w : List ℕ) (s : Sound w) (k : ℕ) (own x y₀ : List ℕ) (cut : C
           omega (arith, all-in (Node l) (s .lists .sequence j) (s .lists .lists j h .nodes) d .low, u .0, a .0)
       untouched-record (altered b i v) c f d g (inr a) u = omega (arith, u .1, a .1)
 
-  -- a node that is worn in the sound store is in no list, not even in what the one named becomes,
+  -- a node that is worn in w is in no list, not even in what the one named becomes,
   pub worn-out : (c : ℕ) → Node l c → getD w (identAt l c) 0 ≡ wornIdent → c ∈ joined t (l .lists) → ⊥
   worn-out c n z m =
       let r = joined-one t (l .lists) c m in
@@ -160,7 +162,8 @@ module _ (w : List ℕ) (s : Sound w) (k : ℕ) (own x y₀ : List ℕ) (cut : C
         outside =
             λ c n o. (
               final-ident l y (standing .size) t accepted c n o,
-              λ f g z. final-outside l y (standing .size) t accepted c f n o g z,
+              (λ f g z. final-outside l y (standing .size) t accepted c f n o g z),
+              final-record l y (standing .size) t accepted c n o,
             );
         worn = worn-kept;
         stored = subst (All (Kind l y t)) (sym (r .made)) (plan-kinds l y t);

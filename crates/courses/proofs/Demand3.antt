@@ -6,16 +6,16 @@ use native.Mathlib.Omega.{arith}
 use lib.Seq.{take-nil}
 use Rattle.stores.specs.Stores.{Write, Plan, refuse, stores, run, applied, answerOf, wordsAfter}
 use Rattle.layout.specs.Words.{layoutOf}
-use Rattle.lists.specs.Lists.{Sound, KeepsWorn}
+use Rattle.lists.specs.Lists.{Ordered, KeepsWorn}
 use Rattle.edits.proofs.Worn.{gap-keeps, chain-keeps, member-keeps}
 use Rattle.recovery.specs.Plan.{recoverPlan}
 use Rattle.courses.specs.Course.{named, editPlan, allStores, needed, due, alteredBelow, wordsThrough}
 use Rattle.courses.specs.Demand3.{Course, Demand3}
-use Rattle.courses.specs.Left.{Left, nothing, inserts, insertsAll, deletes, LeftDemand3}
+use Rattle.courses.specs.Left.{Left, nothing, inserts, insertsAll, deletes, bare, LeftDemand3}
 use Rattle.courses.proofs.Cut.{Cut, none-cut}
 use Rattle.courses.proofs.CutInsert.{insert-cut}
 use Rattle.courses.proofs.CutSeveral.{chain-cut}
-use Rattle.courses.proofs.CutDelete.{delete-cut}
+use Rattle.courses.proofs.CutDelete.{delete-cut, fourAtMost, as-bare, bare-cut}
 use Rattle.courses.proofs.Calls.{call-left}
 use Rattle.courses.proofs.Course.{cut-course}
 
@@ -28,8 +28,8 @@ pub after-applied : (p : Plan) (m : ℕ) (w : List ℕ) → wordsAfter p m w ≡
 after-applied (refuse n) m w = sym (applied-nothing m w)
 after-applied (stores ps) m w = refl
 
--- what it leaves, is a cut of the sound store
-pub left-cut : (w : List ℕ) (s : Sound w) (k : ℕ) (d : ℕ → ℕ) (ps : List Write) → Left w s k d ps → (m : ℕ)
+-- what it leaves, is a cut of the ordered store
+pub left-cut : (w : List ℕ) (s : Ordered w) (k : ℕ) (d : ℕ → ℕ) (ps : List Write) → Left w s k d ps → (m : ℕ)
     → (own : List ℕ) × Cut (layoutOf w) w (s .lists) k own (applied ps (d m) w) (applied ps m w)
 left-cut w s k d ps (nothing _) m = (
   s .lists .sequence k,
@@ -41,14 +41,18 @@ left-cut w s k d ps (inserts hk p hp i hi free words size) m = insert-cut (layou
 left-cut w s k d ps (insertsAll hk p hp cells free words size) m =
     chain-cut (layoutOf w) w (s .exact) (s .lists) k hk p hp cells free words (omega (arith, size)) m
 left-cut w s k d ps (deletes hk p hp) m = delete-cut (layoutOf w) w (s .exact) (s .lists) k hk p hp m
+left-cut w s k d ps (bare hk p hp) m = bare-cut (layoutOf w) w (s .exact) (s .lists) k hk p hp m
 
 -- and keeps the worn nodes
-pub left-keeps : (w : List ℕ) (s : Sound w) (k : ℕ) (d : ℕ → ℕ) (ps : List Write) → Left w s k d ps → (m : ℕ) → KeepsWorn (layoutOf w) w (applied ps m w)
+pub left-keeps : (w : List ℕ) (s : Ordered w) (k : ℕ) (d : ℕ → ℕ) (ps : List Write) → Left w s k d ps → (m : ℕ) → KeepsWorn (layoutOf w) w (applied ps m w)
 left-keeps w s k d ps (nothing _) m = subst (KeepsWorn (layoutOf w) w) (sym (applied-nothing m w)) (λ c n z x f i g. refl)
 left-keeps w s k d ps (inserts hk p hp i hi free words size) m = gap-keeps (layoutOf w) (s .inRange) w (s .exact) (s .lists) k hk p hp i hi free words size m
 left-keeps w s k d ps (insertsAll hk p hp cells free words size) m =
     chain-keeps (layoutOf w) (s .inRange) w (s .exact) (s .lists) k hk p hp cells words free size m
 left-keeps w s k d ps (deletes hk p hp) m = member-keeps (layoutOf w) (s .inRange) w (s .exact) (s .lists) k hk p hp m
+left-keeps w s k d ps (bare hk p hp) m =
+    subst (KeepsWorn (layoutOf w) w) (as-bare (layoutOf w) w (s .exact) (s .lists) k hk p hp m)
+    (member-keeps (layoutOf w) (s .inRange) w (s .exact) (s .lists) k hk p hp (fourAtMost (layoutOf w) w (s .exact) (s .lists) k hk p hp m))
 
 pub left-demand3 : LeftDemand3
 left-demand3 w s k d ps f m alts allowed y ms last q =

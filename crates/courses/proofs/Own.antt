@@ -56,7 +56,7 @@ own-unique l y k h s o r f = by (sequence-dec r s) (candidates l y k h r f) (o .
 pub own-same : (l : Layout) (y x : List ℕ) (k : ℕ) → k < l .lists → (s : List ℕ) → Own l y k s → SameCells l y x (k ∷ s) → Own l x k s
 own-same l y x k h s o a =
     record {
-      fits = fits-same l y x k h s a (o .fits);
+      fits = fits-same l y x k h s (λ c f m g _. a c f m g) (o .fits);
       forward = forward-same (viewOf l y .forward) (viewOf l x .forward) k s k (λ c m. a c 1 m (links-words l c 1 (omega arith))) (o .forward);
       other = o .other;
       nodes = o .nodes;

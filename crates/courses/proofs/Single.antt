@@ -1,5 +1,6 @@
--- One recovery: whatever store is not refused, a whole run leaves sound with at most L + N stores, and a sound store needs none.
-use Prim.Native.Nat.{ℕ, _+_, _<_, _≤_}
+-- One recovery: whatever store is not refused, a whole run leaves sound with at most L + N + P × N stores; a sound store needs none, an ordered
+-- one the wipes alone.
+use Prim.Native.Nat.{ℕ, _+_, _*_, _<_, _≤_}
 use mathlib.Core.Path.{_≡_, refl, ap, _∙_, sym, subst}
 use mathlib.Core.List.{List, []}
 use mathlib.Core.Bool.{Bool, true, false}
@@ -12,12 +13,13 @@ use Rattle.stores.proofs.Laws.{length-run}
 use Rattle.layout.specs.declared.Layout.{Layout}
 use Rattle.layout.specs.declared.Opened.{Opened}
 use Rattle.layout.specs.declared.Opened.the-variants as O
-use Rattle.layout.specs.Words.{InRange, layoutOf, sizeOf, opened, afterOpen, ask}
+use Rattle.layout.specs.Words.{tailWords, InRange, layoutOf, sizeOf, opened, afterOpen, ask}
 use Rattle.layout.proofs.Laws.{opened-open, open-opened}
-use Rattle.lists.specs.Lists.{Sound, SoundLists}
+use Rattle.lists.specs.Lists.{Ordered, Sound, SoundLists, Wiped}
 use Rattle.lists.proofs.Same.{same-marked, same-layout}
-use Rattle.recovery.specs.Plan.{recoverStores, fittingOf, refusalFrom, recoverOf, recoverPlan, Accepted}
-use Rattle.recovery.proofs.Whole.{number-accepted, accepted-plan, whole-sound, sound-accepted, sound-settled, few-stores}
+use Rattle.recovery.specs.Fits.{wrong}
+use Rattle.recovery.specs.Plan.{wipesAsked, recoverStores, fittingOf, refusalFrom, recoverOf, recoverPlan, Accepted}
+use Rattle.recovery.proofs.Whole.{number-accepted, accepted-plan, whole-sound, whole-wiped, sound-accepted, sound-settled, ordered-wipes, few-stores}
 use Rattle.courses.proofs.Final.{final-head}
 
 -- what a plan that is not a refusal tells
@@ -43,11 +45,13 @@ planned w ps = by (opened w) refl
           subst (λ (m : Layout). ps ≡ recoverStores m w (fittingOf m w)) q (a .1),
         )
 
--- "Words already right aren't stored, so recovery makes at most L + N stores."
-pub recover-few : (w : List ℕ) (ps : List Write) → recoverPlan w ≡ stores ps → length ps ≤ layoutOf w .lists + layoutOf w .nodes
+-- "Words already right aren't stored, so recovery makes at most L + N stores." "recovery's bound grows by P × N"
+pub recover-few : (w : List ℕ) (ps : List Write) → recoverPlan w ≡ stores ps
+    → let l = layoutOf w in length ps ≤ l .lists + l .nodes + tailWords l * l .nodes
 recover-few w ps e =
+    let l = layoutOf w in
     let p = planned w ps e in
-    subst (λ (qs : List Write). length qs ≤ layoutOf w .lists + layoutOf w .nodes) (sym (p .2)) (few-stores (layoutOf w) w (fittingOf (layoutOf w) w) (p .1))
+    subst (λ (qs : List Write). length qs ≤ l .lists + l .nodes + tailWords l * l .nodes) (sym (p .2)) (few-stores l w (fittingOf l w) (p .1))
 
 -- a whole run leaves a sound store
 pub recover-sound : (w : List ℕ) (ps : List Write) → recoverPlan w ≡ stores ps → Sound (run ps w)
@@ -59,15 +63,31 @@ recover-sound w ps e =
     subst (λ (qs : List Write). Sound (run qs w)) (sym (p .2))
     (let h : (a : ℕ) → a < 8 → getD (run (recoverStores l w t) w) a 0 ≡ getD w a 0 = final-head l w (o .3) t (p .1) in
     let y : layoutOf (run (recoverStores l w t) w) ≡ l = same-layout w (run (recoverStores l w t) w) h in
+    let x = whole-sound l w t (o .3) (p .1) in
+    let u =
+    subst (λ (m : Layout). (s : SoundLists m (run (recoverStores l w t) w)) × Wiped m (run (recoverStores l w t) w) (s .sequence)) (sym y)
+    (x .0, subst (Wiped l (run (recoverStores l w t) w)) (sym (x .1)) (whole-wiped l w t (o .3) (p .1))) in
     record {
-      marked = same-marked w (run (recoverStores l w t) w) h ∙ o .1;
-      inRange = subst InRange (sym y) (o .2);
-      exact = length-run (recoverStores l w t) w ∙ o .3 ∙ ap sizeOf (sym y);
-      lists = subst (λ (m : Layout). SoundLists m (run (recoverStores l w t) w)) (sym y) (whole-sound l w t (o .3) (p .1) .0);
+      ordered =
+          record {
+            marked = same-marked w (run (recoverStores l w t) w) h ∙ o .1;
+            inRange = subst InRange (sym y) (o .2);
+            exact = length-run (recoverStores l w t) w ∙ o .3 ∙ ap sizeOf (sym y);
+            lists = u .0;
+          };
+      wiped = u .1;
     })
 
--- recovering a sound store makes no store
+-- an ordered store, recovered: the wipes alone
+pub ordered-recover : (w : List ℕ) (s : Ordered w)
+    → recoverPlan w ≡ stores (wrong w (wipesAsked (layoutOf w) w (s .lists .sequence)))
+ordered-recover w s =
+    accepted-plan (layoutOf w) w (s .lists .sequence) (open-opened w (s .marked) (s .inRange) (s .exact)) (sound-accepted (layoutOf w) w (s .lists))
+    ∙ ap stores (ordered-wipes (layoutOf w) w (s .lists))
+
+-- and a sound one: none
 pub sound-recover : (w : List ℕ) → Sound w → recoverPlan w ≡ stores []
 sound-recover w s =
-    accepted-plan (layoutOf w) w (s .lists .sequence) (open-opened w (s .marked) (s .inRange) (s .exact)) (sound-accepted (layoutOf w) w (s .lists))
-    ∙ ap stores (sound-settled (layoutOf w) w (s .lists))
+    let o = s .ordered in
+    accepted-plan (layoutOf w) w (o .lists .sequence) (open-opened w (o .marked) (o .inRange) (o .exact)) (sound-accepted (layoutOf w) w (o .lists))
+    ∙ ap stores (sound-settled (layoutOf w) w (o .lists) (s .wiped))

@@ -52,11 +52,11 @@ abbrev pub dueOfSeveral : ℕ → ℕ → ℕ → ℕ
 dueOfSeveral n r m = n * min r ((m + 1) / n)
 
 -- Insert has "P + 6 stores. The central one is .. number P + 5.", for each of several records too. "Delete stores four words", of which the
--- second is.
+-- second is, and "gains P further stores".
 abbrev pub due : Layout → Edit → ℕ → ℕ
 due l (insert k p c words) = dueOf (insertCentral l) (tailWords l + 6)
 due l (several k p c words) = dueOfSeveral (tailWords l + 6) (length words / l .width)
-due l (delete k p) = dueOf deleteCentral 4
+due l (delete k p) = dueOf deleteCentral (4 + tailWords l)
 
 -- "Its old words are those in the sound store, its new words those with every store of the insert or delete made. In the final
 -- store the list named by the call has its old words if the call was refused or its allowance is below the central store's number,

@@ -8,15 +8,16 @@ use Rattle.sequences.specs.Sequence.{_∈_, All}
 use Rattle.stores.specs.declared.Answer.{Answer}
 use Rattle.stores.specs.declared.Answer.the-variants as A
 use Rattle.stores.specs.Stores.{run, answerOf, answerStores}
-use Rattle.layout.specs.Words.{headWords, Node, cellAt, cellWords, identAt, wornIdent, isWorn, layoutOf}
-use Rattle.lists.specs.Lists.{Sound, IsList, SameCells, KeepsWorn}
+use Rattle.layout.specs.Words.{headWords, linkWords, tailWords, Node, cellAt, identAt, recordAt, wornIdent, isWorn, layoutOf}
+use Rattle.lists.specs.Lists.{Ordered, Sound, IsList, SameCells, KeepsWorn}
 use Rattle.edits.specs.Edited.{replaced}
 use Rattle.recovery.specs.Plan.{joined, recoverPlan, Kind, differing}
 use Rattle.courses.specs.Course.{Edit, named, allStores, needed, dueWords, Alteration, AllowedBut, found, wordsThrough, answersThrough, storesThrough, NotRefused, total}
 
--- What is so of a course. It starts from the sound store w; its call names list k, and x has the words that are due to that list; y is the
--- found store. Recoveries with the allowances ms follow, and last one with the allowance `last`, which leaves z and is answered r.
-pub record Course (w : List ℕ) (s : Sound w) (k : ℕ) (x y ms : List ℕ) (last : ℕ) (z : List ℕ) (r : Answer) : Type 0 where
+-- What is so of a course. It starts from the store w, which is sound but for the records of nodes in no list; its call names list k, and x has the
+-- words that are due to that list; y is the found store. Recoveries with the allowances ms follow, and last one with the allowance `last`, which
+-- leaves z and is answered r.
+pub record Course (w : List ℕ) (s : Ordered w) (k : ℕ) (x y ms : List ℕ) (last : ℕ) (z : List ℕ) (r : Answer) : Type 0 where
   -- "None is refused, and the last is answered done": with the number of stores that it needs
   pub accepted : All NotRefused (answersThrough ms y)
   pub done : r ≡ A.Done (needed (recoverPlan (wordsThrough ms y)))
@@ -25,19 +26,21 @@ pub record Course (w : List ℕ) (s : Sound w) (k : ℕ) (x y ms : List ℕ) (la
   pub own : List ℕ
   pub list : k < layoutOf w .lists → IsList (layoutOf w) x k own
   pub sound : Sound z
-  pub sequences : sound .lists .sequence ≡ replaced (s .lists .sequence) k own
+  pub sequences : sound .ordered .lists .sequence ≡ replaced (s .lists .sequence) k own
   -- "In the final store the list named by the call has its old words if .., else its new words. Every other list has its old words."
   pub named : k < layoutOf w .lists → SameCells (layoutOf w) x z (k ∷ own)
   pub others : (j : ℕ) → j < layoutOf w .lists → (j ≡ k → ⊥) → SameCells (layoutOf w) w z (j ∷ s .lists .sequence j)
-  -- "Words 0 to 7 and all nodes in none of these lists are as found, with 0 where the rule above clears": not on a worn node, which is as
-  -- found, whole.
+  -- "Words 0 to 7 and all nodes in none of these lists are as found, with 0 where the rule above clears" and wipes: not on a worn node, which is
+  -- as found, whole.
   pub head : (a : ℕ) → a < headWords → getD z a 0 ≡ getD y a 0
   pub outside : (c : ℕ) → Node (layoutOf w) c → (c ∈ joined (replaced (s .lists .sequence) k own) (layoutOf w .lists) → ⊥)
       → (getD z (identAt (layoutOf w) c) 0 ≡ cond (isWorn (getD y (identAt (layoutOf w) c) 0)) wornIdent 0)
-      × ((f : ℕ) → 1 ≤ f → f < cellWords (layoutOf w) c → getD z (cellAt (layoutOf w) c + f) 0 ≡ getD y (cellAt (layoutOf w) c + f) 0)
-  -- The nodes that are worn in the sound store keep all their words.
+      × ((f : ℕ) → 1 ≤ f → f < linkWords → getD z (cellAt (layoutOf w) c + f) 0 ≡ getD y (cellAt (layoutOf w) c + f) 0)
+      × ((f : ℕ) → f < tailWords (layoutOf w)
+      → getD z (recordAt (layoutOf w) c + f) 0 ≡ cond (isWorn (getD y (identAt (layoutOf w) c) 0)) (getD y (recordAt (layoutOf w) c + f) 0) 0)
+  -- The nodes that are worn in w keep all their words.
   pub worn : KeepsWorn (layoutOf w) w z
-  -- every store goes to a faulty word of these lists or to the identifier of a cell in none, which is not worn
+  -- every store goes to a faulty word of these lists, or to the identifier or to a record word of a cell in none, which is not worn
   pub stored : All (Kind (layoutOf w) y (replaced (s .lists .sequence) k own)) (storesThrough (ms ++ last ∷ []) y)
   -- "The runs' numbers of stores, the last run's too, add up to the count of places where the found and the final store hold different
   -- words."
@@ -49,9 +52,9 @@ pub record Course (w : List ℕ) (s : Sound w) (k : ℕ) (x y ms : List ℕ) (la
 -- what demand 3 says of recoveries of the words y that leave z, the last of them answered r
 abbrev pub Demanded : (y ms : List ℕ) (last : ℕ) (z : List ℕ) (r : Answer) → Type 0
 Demanded y ms last z r =
-    -- "It starts from any sound store.
-    (w : List ℕ) (s : Sound w)
-    -- One insert or delete runs on it, with any arguments and any allowance; refused, it stores nothing.
+    -- "It starts from any sound store." "Older stores get so by recovery", so nothing is asked of the records of nodes in no list.
+    (w : List ℕ) (s : Ordered w)
+    -- "One insert or delete runs on it, with any arguments and any allowance; refused, it stores nothing.
     → (e : Edit) (m : ℕ)
     -- Then, in each list but the one it names, at most one word is altered, to any value: one of the header's four, or a member's
     -- identifier, forward or back.

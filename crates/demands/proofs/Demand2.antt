@@ -6,19 +6,20 @@ use mathlib.Core.Bool.{Bool, true, false, cond}
 use native.Mathlib.Omega.{arith}
 use native.Mathlib.Nat.{zero-mul, mul-div-left, mul-mod-left}
 use lib.Dec.{eqb, ltb}
-use lib.ListN.{length, getD, drop, take-append-drop}
+use lib.ListN.{length, getD, replicate, drop, take-append-drop, length-replicate}
 use borrow.Author.Tests.{ltb-true, ltb-false, eqb-true, eqb-false, lt-ltb, le-leb, eq-eqb}
 use Rattle.sequences.specs.Sequence.{_∈_}
 use Rattle.sequences.proofs.Members.{all-in, at-in}
 use Rattle.stores.specs.declared.Answer.the-variants as A
 use Rattle.stores.specs.Stores.{Write, stores, run, applied, answerOf}
-use Rattle.stores.proofs.Laws.{applied-all}
+use Rattle.stores.proofs.Laws.{applied-all, length-row}
 use Rattle.layout.specs.declared.Layout.{Layout}
-use Rattle.layout.specs.Words.{tailWords, Node, ask, inRange, sizeOf, layoutOf}
+use Rattle.layout.specs.Words.{tailWords, Node, ask, inRange, sizeOf, recordAt, layoutOf, free}
 use Rattle.layout.proofs.Laws.{node-is, in-range}
-use Rattle.lists.specs.Lists.{Sound}
+use Rattle.lists.specs.Lists.{Sound, Blank}
 use Rattle.lists.specs.Decide.{viewOf, sequenceOf}
 use Rattle.lists.proofs.Unique.{list-sequence}
+use Rattle.lists.proofs.Nodes.{unlisted-out}
 use Rattle.lists.proofs.Empty.{formatted-empty}
 use Rattle.requests.specs.declared.Free.{Free}
 use Rattle.requests.specs.declared.Free.the-variants.{Cell, Full}
@@ -30,11 +31,12 @@ use Rattle.requests.specs.declared.Request.the-variants.{Member, Gap, Gaps}
 use Rattle.requests.specs.Requests.{around, firstFree, freeCells, memberAt, gapAt, gapsAt, siteIn, siteOf, lookOf}
 use Rattle.requests.proofs.Laws.{look-refused, look-at}
 use Rattle.requests.proofs.Turn.{around-all, free-taken}
-use Rattle.edits.specs.Edits.{insertWrites, chainAt, deleteWrites}
+use Rattle.edits.specs.Edits.{insertWrites, chainAt, deleteLinks, deleteWrites}
 use Rattle.edits.specs.Edited.{insertAt, spliceAt, deleteAt, replaced, FreeNodes, recordIn, recordsOf, Edited}
 use Rattle.edits.proofs.Writes.{record-same}
-use Rattle.edits.proofs.Edited.{replaced-own, replaced-other}
+use Rattle.edits.proofs.Edited.{replaced-own, replaced-other, in-splice}
 use Rattle.edits.proofs.Free.{none-free}
+use Rattle.edits.proofs.Delete.{delete-member}
 use Rattle.edits.proofs.Done.{gap-facts, member-facts, insert-done, delete-done, insert-full}
 use Rattle.edits.proofs.Several.{insert-length, chain-length, several-inserted}
 use Rattle.edits.proofs.Gaps.{freeFrom, gaps-looked, free-most, gaps-full, gaps-position, gaps-cells, gaps-number, gaps-words, gaps-chain}
@@ -51,11 +53,11 @@ use Rattle.demands.proofs.Plain.{map-insert, map-splice, map-delete, ma
 
 -- format, done: not refused with 3 or 4
 formats : (l : Layout) (w : List ℕ) → formatAnswer l w ≡ F.Done
-    → (s : Sound (formatWords l w)) × (layoutOf (formatWords l w) ≡ l) × ((k : ℕ) → s .lists .sequence k ≡ [])
+    → (s : Sound (formatWords l w)) × (layoutOf (formatWords l w) ≡ l) × ((k : ℕ) → s .ordered .lists .sequence k ≡ [])
 formats l w = by (inRange l) (eqb (length w) (sizeOf l)) refl refl
   where
     by : (b d : Bool) → inRange l ≡ b → eqb (length w) (sizeOf l) ≡ d → formatAnswer l w ≡ F.Done
-        → (s : Sound (formatWords l w)) × (layoutOf (formatWords l w) ≡ l) × ((k : ℕ) → s .lists .sequence k ≡ [])
+        → (s : Sound (formatWords l w)) × (layoutOf (formatWords l w) ≡ l) × ((k : ℕ) → s .ordered .lists .sequence k ≡ [])
     by false d e q a = absurd (omega (arith, ap formattedNumber (format-range l w e .0 ∙ a)))
     by true false e q a = absurd (omega (arith, ap formattedNumber (format-exact l w e (eqb-false _ _ q) .0 ∙ a)))
     by true true e q a = rw (← (format-done l w e (eqb-true _ _ q) .1)) (formatted-empty l (in-range l e))
@@ -63,10 +65,10 @@ formats l w = by (inRange l) (eqb (length w) (sizeOf l)) refl refl
 -- length and read of list k of a sound store: questions 1 to 4 and 6 are answered yes
 module _ (w : List ℕ) (s : Sound w) (k : ℕ) where
   abbrev members : List ℕ
-  members = s .lists .sequence k
+  members = s .ordered .lists .sequence k
 
   members-are : k < layoutOf w .lists → sequenceOf (layoutOf w) w k ≡ members
-  members-are h = list-sequence (layoutOf w) w k h members (s .lists .lists k h)
+  members-are h = list-sequence (layoutOf w) w k h members (s .ordered .lists .lists k h)
 
   lengths : lengthAnswer w k ≡ ask (ltb k (layoutOf w .lists)) (L.Refused 5) (L.Length (length members))
   unfolding lengthAnswer lookOf siteIn
@@ -103,30 +105,30 @@ leaves w s k {cells} {w′} {records} hk e same =
       reads =
           λ p.
           read-in k hk p
-          ∙ ap (read-of p) (replaced-own (s .lists .sequence) k cells k refl)
+          ∙ ap (read-of p) (replaced-own (s .ordered .lists .sequence) k cells k refl)
           ∙ ap (λ (r : List (List ℕ)). getD r p []) same;
       readsOthers =
           λ j p h n.
           read-in j h p
-          ∙ ap (read-of p) (replaced-other (s .lists .sequence) k cells j n)
-          ∙ ap (λ (r : List (List ℕ)). getD r p []) (map-same _ _ (s .lists .sequence j) (kept j h n));
+          ∙ ap (read-of p) (replaced-other (s .ordered .lists .sequence) k cells j n)
+          ∙ ap (λ (r : List (List ℕ)). getD r p []) (map-same _ _ (s .ordered .lists .sequence j) (kept j h n));
     }
   where
     read-of : ℕ → List ℕ → List ℕ
     read-of p q = getD (map (recordIn (layoutOf w) w′) q) p []
 
-    read-in : (j : ℕ) → j < layoutOf w .lists → (p : ℕ) → readWords w′ j p ≡ read-of p (replaced (s .lists .sequence) k cells j)
+    read-in : (j : ℕ) → j < layoutOf w .lists → (p : ℕ) → readWords w′ j p ≡ read-of p (replaced (s .ordered .lists .sequence) k cells j)
     read-in j h p =
         reads w′ (e .sound) j p (subst (λ (l : Layout). j < l .lists) (sym (e .layout)) h) .1
         ∙ ap₂ (λ (l : Layout) (q : ℕ → List ℕ). getD (map (recordIn l w′) (q j)) p []) (e .layout) (e .sequences)
 
-    kept : (j : ℕ) → j < layoutOf w .lists → (j ≡ k → ⊥) → (x : ℕ) → x ∈ s .lists .sequence j
+    kept : (j : ℕ) → j < layoutOf w .lists → (j ≡ k → ⊥) → (x : ℕ) → x ∈ s .ordered .lists .sequence j
         → recordIn (layoutOf w) w′ x ≡ recordIn (layoutOf w) w x
     kept j h n x m =
-        record-same (layoutOf w) w w′ x (all-in (Node (layoutOf w)) (s .lists .sequence j) (s .lists .lists j h .nodes) m)
-        (e .sound .exact ∙ ap sizeOf (e .layout) ∙ sym (s .exact)) (λ i b. e .others j h n x (3 + i) (List·Memᴰ·tail m) b)
+        record-same (layoutOf w) w w′ x (all-in (Node (layoutOf w)) (s .ordered .lists .sequence j) (s .ordered .lists .lists j h .nodes) m)
+        (e .sound .ordered .exact ∙ ap sizeOf (e .layout) ∙ sym (s .ordered .exact)) (λ i b. e .others j h n x (3 + i) (List·Memᴰ·tail m) b)
 
--- done, all stores are made: P + 6 of an insert, 4 of a delete
+-- done, all stores are made: P + 6 of an insert, 4 + P of a delete
 stores-done : (ps : List Write) (m n : ℕ) (w : List ℕ) → answerOf (stores ps) m ≡ A.Done n → (n ≡ length ps) × (applied ps m w ≡ run ps w)
 stores-done ps m n w = by (ltb m (length ps)) refl
   where
@@ -135,9 +137,17 @@ stores-done ps m n w = by (ltb m (length ps)) refl
     by true q e = let z : _≡_ {A = ℕ} 0 1 = cc in absurd (omega arith)
     by false q e = (cc, applied-all ps m w (ltb-false _ _ q))
 
-delete-stores : (l : Layout) (k : ℕ) (t : Site) → length (deleteWrites l k t) ≡ 4
-unfolding deleteWrites
-delete-stores l k t = refl
+delete-stores : (l : Layout) (k : ℕ) (t : Site) → length (deleteWrites l k t) ≡ 4 + tailWords l
+unfolding deleteLinks deleteWrites
+delete-stores l k t =
+    omega (arith, length-row (recordAt l (t .cell)) (replicate (tailWords l) 0), length-replicate {A = ℕ} (tailWords l) 0)
+
+-- a free node is in no list and not worn, so in a sound store it has no record
+pub free-blank : (w : List ℕ) (s : Sound w) (i : ℕ) → FreeNode w i → Blank (layoutOf w) w i
+free-blank w s i f =
+    let o = s .ordered in
+    s .wiped i (f .node) (λ k h. unlisted-out (layoutOf w) w k (o .lists .sequence k) (o .inRange) h (o .lists .lists k h) i (free (f .free)))
+    (λ e. omega (arith, f .free, e))
 
 -- what is refused has no site, and is not done
 refused-at : {n : ℕ} {t : Site} → Refused n ≡ At t → ⊥
@@ -151,7 +161,7 @@ module _ (w : List ℕ) (s : Sound w) (k p : ℕ) where
   its = layoutOf w
 
   abbrev cells : List ℕ
-  cells = s .lists .sequence k
+  cells = s .ordered .lists .sequence k
 
   -- insert: where all questions are answered yes there is a site; a site gives the stores, and its absence the refusal
   module _ (c : ℕ) (words : List ℕ) where
@@ -189,7 +199,7 @@ module _ (w : List ℕ) (s : Sound w) (k p : ℕ) where
             let i = insert-done w s k p its t c words look in
             let same =
             map-insert (recordIn its (run (insertWrites its k t words) w)) p (t .cell) cells
-            ∙ ap₂ (insertAt p) (i .given) (map-same _ _ cells (i .edited .records)) in
+            ∙ ap₂ (insertAt p) (i .given) (map-same _ _ cells (λ x m. i .edited .records x m (in-splice p (t .cell ∷ []) cells x m))) in
             rw (insert-at w k p c words look)
             (record {
               accepted = λ hk hp hc hw j g. (insertWrites its k t words, refl);
@@ -204,24 +214,24 @@ module _ (w : List ℕ) (s : Sound w) (k p : ℕ) where
     abbrev gaps : Request
     gaps = Gaps k p c (length words)
 
-    abbrev free : List ℕ
-    free = freeCells (viewOf its w .ident) (around its c (its .nodes))
+    abbrev met : List ℕ
+    met = freeCells (viewOf its w .ident) (around its c (its .nodes))
 
     several-site : k < its .lists → p ≤ length cells → Node its c → 0 < length words → (nodes : List ℕ) → FreeNodes its w nodes
         → length words ≡ length nodes * its .width → (t : Site) × (siteOf its w gaps ≡ At t)
     unfolding siteIn gapsAt
     several-site hk hp hc some nodes f size = by (firstFree (viewOf its w .ident) (around its c (its .nodes))) refl
       where
-        most : length nodes ≤ length free
+        most : length nodes ≤ length met
         most = free-most its w c hc nodes f
 
         number : length words / its .width ≡ length nodes
-        number = ap (λ (n : ℕ). n / its .width) size ∙ mul-div-left (length nodes) (s .inRange .someWidth)
+        number = ap (λ (n : ℕ). n / its .width) size ∙ mul-div-left (length nodes) (s .ordered .inRange .someWidth)
 
         whole : length words % its .width ≡ 0
         whole = ap (λ (n : ℕ). n % its .width) size ∙ mul-mod-left (length nodes) (its .width)
 
-        enough : length words / its .width ≤ length free
+        enough : length words / its .width ≤ length met
         enough = omega (arith, number, most)
 
         by : (x : Free) → firstFree (viewOf its w .ident) (around its c (its .nodes)) ≡ x → (t : Site) × (siteOf its w gaps ≡ At t)
@@ -251,7 +261,7 @@ module _ (w : List ℕ) (s : Sound w) (k p : ℕ) where
             rw (several-refused w k p c words (sym (look-refused w gaps (sound-opened w s) e)))
             (record {
               accepted = λ hk hp hc some nodes f size. absurd (refused-at (sym e ∙ several-site hk hp hc some nodes f size .1));
-              full = λ z nodes f. omega (arith, gaps-full its w (s .inRange .someWidth) k p c (length words) (e ∙ cc z) nodes f);
+              full = λ z nodes f. omega (arith, gaps-full its w (s .ordered .inRange .someWidth) k p c (length words) (e ∙ cc z) nodes f);
               done = λ m i z. absurd (refused-done z);
               single = λ ps z r size. let y : _≡_ {A = ℕ} 0 1 = cc in absurd (omega arith);
             })
@@ -261,14 +271,14 @@ module _ (w : List ℕ) (s : Sound w) (k p : ℕ) where
             let g = gaps-looked its w k p c m t e in
             let used = freeFrom its w c (m / its .width) in
             let ps = chainAt its k p cells used words in
-            let number = gaps-number its w (s .lists) k p c m t e in
-            let size = gaps-words its w (s .lists) k p c m t e in
-            let hp = gaps-position its w (s .lists) k p c m t e in
-            let i = several-inserted w s k (g .list) p hp used (gaps-cells its w (s .lists) k p c m t e) words (omega (arith, size)) in
+            let number = gaps-number its w (s .ordered .lists) k p c m t e in
+            let size = gaps-words its w (s .ordered .lists) k p c m t e in
+            let hp = gaps-position its w (s .ordered .lists) k p c m t e in
+            let i = several-inserted w s k (g .list) p hp used (gaps-cells its w (s .ordered .lists) k p c m t e) words (omega (arith, size)) in
             let same =
             map-splice (recordIn its (run ps w)) p used cells
-            ∙ ap₂ (spliceAt p) (i .given ∙ ap (λ (n : ℕ). recordsOf n (its .width) words) number) (map-same _ _ cells (i .edited .records)) in
-            rw (several-at w k p c words look, gaps-chain its w (s .lists) k p c m t e words)
+            ∙ ap₂ (spliceAt p) (i .given ∙ ap (λ (n : ℕ). recordsOf n (its .width) words) number) (map-same _ _ cells (λ x m. i .edited .records x m (in-splice p used cells x m))) in
+            rw (several-at w k p c words look, gaps-chain its w (s .ordered .lists) k p c m t e words)
             (record {
               accepted = λ hk hp hc some nodes f size. (ps, refl);
               full = λ y nodes f. let z : _≡_ {A = ℕ} 0 1 = cc in absurd (omega arith);
@@ -285,11 +295,11 @@ module _ (w : List ℕ) (s : Sound w) (k p : ℕ) where
               single =
                   λ qs z r q.
                   let x : ps ≡ qs = cc z in
-                  let y : length used ≡ r = number ∙ ap (λ (n : ℕ). n / its .width) q ∙ mul-div-left r (s .inRange .someWidth) in
+                  let y : length used ≡ r = number ∙ ap (λ (n : ℕ). n / its .width) q ∙ mul-div-left r (s .ordered .inRange .someWidth) in
                   subst (OneByOne k p c (recordsOf r (its .width) words) w) x
                   (subst (λ (n : ℕ). OneByOne k p c (recordsOf n (its .width) words) w ps) y
-                  (one-by-one its w (sound-opened w s) (s .exact) (s .lists) k (g .list) p hp c (g .facts .start) used (drop (m / its .width) free) words
-                  (sym (take-append-drop (m / its .width) free)) (omega (arith, size))));
+                  (one-by-one its w (sound-opened w s) (s .ordered .exact) (s .ordered .lists) (s .wiped) k (g .list) p hp c (g .facts .start) used (drop (m / its .width) met) words
+                  (sym (take-append-drop (m / its .width) met)) (omega (arith, size))));
             })
 
   -- delete, in the same way
@@ -315,20 +325,24 @@ module _ (w : List ℕ) (s : Sound w) (k p : ℕ) where
           let f = member-facts its w k p t e in
           let i = delete-done w s k p its t look in
           let w′ = run (deleteWrites its k t) w in
-          let same = map-delete (recordIn its w′) p cells ∙ ap (deleteAt p) (map-same _ _ cells (i .edited .records)) in
           let hp : p < length cells = subst (λ (q : List ℕ). p < length q) (members-are w s k (f .list)) (f .position) in
-          let free : FreeNode w′ (getD cells p 0) =
+          let same =
+          map-same _ _ (deleteAt p cells) (λ x m. i .edited .records x (delete-member its w (s .ordered .exact) (s .ordered .lists) k (f .list) p hp x m) m)
+          ∙ map-delete (recordIn its w) p cells in
+          let freed : FreeNode w′ (getD cells p 0) =
           record {
-            node = rw (i .edited .layout) (all-in (Node its) cells (s .lists .lists k (f .list) .nodes) (at-in cells p hp));
+            node = rw (i .edited .layout) (all-in (Node its) cells (s .ordered .lists .lists k (f .list) .nodes) (at-in cells p hp));
             free = rw (i .edited .layout) (i .free);
           } in
+          let blank : (j : ℕ) → FreeNode w′ j → Blank its w′ j =
+          λ j g. subst (λ (l : Layout). Blank l w′ j) (i .edited .layout) (free-blank w′ (i .edited .sound) j g) in
           rw (delete-at w k p look)
           (record {
             accepted = λ hk hp. (deleteWrites its k t, refl);
             done =
                 λ m n z.
                 let d = stores-done (deleteWrites its k t) m n w z in
-                (d .0 ∙ delete-stores its k t, rw (d .1) (leaves w s k (f .list) (i .edited) same), rw (d .1) free);
+                (d .0 ∙ delete-stores its k t, rw (d .1) (leaves w s k (f .list) (i .edited) same), rw (d .1) freed, rw (d .1) blank);
           })
 
 pub demand2 : Demand2

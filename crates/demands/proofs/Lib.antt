@@ -1,4 +1,5 @@
 pub mod Demand1
+pub mod Views
 pub mod Uninterpreted
 pub mod Plain
 pub mod OneByOne

@@ -16,12 +16,11 @@ use Rattle.layout.specs.declared.Layout.{Layout}
 use Rattle.layout.specs.declared.Opened.the-variants as O
 use Rattle.layout.specs.Words.{headWords, linkWords, countWord, firstNode, Node, cellAt, identAt, wornIdent, isWorn, layoutOf, opened}
 use Rattle.layout.proofs.Apart.{cell-behind}
-use Rattle.lists.specs.Lists.{asked, Sound, SoundLists}
+use Rattle.lists.specs.Lists.{asked, SoundLists, Wiped, Sound}
 use Rattle.lists.specs.Decide.{viewOf, soundOf}
 use Rattle.lists.proofs.Same.{ident-word, same-opened}
-use Rattle.lists.proofs.Decided.{sound-lists}
-use Rattle.requests.specs.Requests.{siteIn, lookOf}
-use Rattle.recovery.specs.Plan.{joined, listsAsked, clearsAsked, required, differing}
+use Rattle.lists.proofs.Decided.{sound-lists, sound-wiped}
+use Rattle.recovery.specs.Plan.{joined, listsAsked, clearsAsked, blanksAsked, wipesAsked, required, differing}
 use Rattle.recovery.proofs.Required.{Right}
 use Rattle.recovery.proofs.Differing.{differ-some}
 use Rattle.recovery.proofs.Candidates.{sequence-dec}
@@ -30,7 +29,7 @@ use Rattle.recovery.proofs.Slots.{asked-word}
 use Rattle.recovery.proofs.Whole.{required-same, sound-agrees}
 use Rattle.axle_store.specs.declared.Checked.the-variants as C
 use Rattle.axle_store.specs.Calls.{checkAnswer}
-use Rattle.axle_store.proofs.Calls.{sound-opened}
+use Rattle.axle_store.proofs.Calls.{sound-opened, unsound-check}
 use Rattle.distance.specs.Distance.{Place, header, identifier, link, Changed}
 use Rattle.distance.proofs.Far.{far}
 
@@ -43,7 +42,7 @@ module _ (l : Layout) (w₀ : List ℕ) (s : ℕ → List ℕ) where
   of-list k c f h m w a e =
       let r = asked-word l k (s k) h c f m w in (
         r .0,
-        Memᴰ·append-left (clearsAsked l w₀ s)
+        Memᴰ·append-left (clearsAsked l w₀ s ++ wipesAsked l w₀ s)
             (one-joined (λ j. asked l j (s j)) (l .lists) k (write a (r .0)) h (Memᴰ·cast (ap (λ (b : ℕ). write b (r .0)) e) (r .1))),
       )
 
@@ -67,7 +66,8 @@ module _ (l : Layout) (w₀ : List ℕ) (s : ℕ → List ℕ) where
         0,
         Memᴰ·cast (ap (λ (b : ℕ). write b 0) e)
             (Memᴰ·append-right (listsAsked l s)
-            (Memᴰ·map (λ c. write (identAt l c) 0) (is-out (viewOf l w₀ .ident) (joined s (l .lists)) (firstNode l) (l .nodes) i (n .low) (n .high) o (u i n o e)))),
+            (Memᴰ·append-left (wipesAsked l w₀ s)
+            (Memᴰ·map (λ c. write (identAt l c) 0) (is-out (viewOf l w₀ .ident) (joined s (l .lists)) (firstNode l) (l .nodes) i (n .low) (n .high) o (u i n o e))))),
       )
   place-asked a (link k c f h m g e) u = of-list k c f h (List·Memᴰ·tail m) (inl (omega (arith, g))) a e
 
@@ -89,11 +89,6 @@ same? s t (suc n) = by (sequence-dec (s n) (t n)) (same? s t n)
     by (yes q) (inl h) =
         inl (λ k g. ⊎-elim (λ z. subst (λ (i : ℕ). s i ≡ t i) (sym z) q) (h k) (eq-or-lt-of-le (le-of-suc-le-suc g)))
 
--- a store that passes questions 1 to 4 and is not sound is answered 6
-check-six : (w : List ℕ) (l : Layout) → opened w ≡ O.Open l → soundOf l w ≡ false → checkAnswer w ≡ C.Refused 6
-unfolding checkAnswer lookOf siteIn
-check-six w l o e = rw (o, e)
-
 module _ (w : List ℕ) (s : Sound w) (w′ : List ℕ) (c : Changed w s w′) where
   abbrev l : Layout
   l = layoutOf w
@@ -103,16 +98,16 @@ module _ (w : List ℕ) (s : Sound w) (w′ : List ℕ) (c : Changed w s w′) w
     where
       by : Dec (getD w a 0 ≡ getD w′ a 0) → getD w′ a 0 ≡ getD w a 0
       by (yes e) = sym e
-      by (no n) = absurd (omega (arith, place-behind l w (s .lists .sequence) a (c .places a n)))
+      by (no n) = absurd (omega (arith, place-behind l w (s .ordered .lists .sequence) a (c .places a n)))
 
   pub changed-opened : opened w′ ≡ O.Open l
   changed-opened = same-opened w w′ same-head (c .size) ∙ sound-opened w s
 
   -- the same nodes in no list are worn, so the same is required of both, ..
-  pub changed-required : required l w′ (s .lists .sequence) ≡ required l w (s .lists .sequence)
+  pub changed-required : required l w′ (s .ordered .lists .sequence) ≡ required l w (s .ordered .lists .sequence)
   changed-required =
-      let t = s .lists .sequence in
-      ap (λ (cs : List ℕ). listsAsked l t ++ map (λ i. write (identAt l i) 0) cs)
+      let t = s .ordered .lists .sequence in
+      ap (λ (cs : List ℕ). listsAsked l t ++ (map (λ i. write (identAt l i) 0) cs ++ blanksAsked l cs))
       (out-same (viewOf l w .ident) (viewOf l w′ .ident) (joined t (l .lists)) (firstNode l) (l .nodes)
       (λ i p q o. alike (c .worn i (record { low = p; high = q }) o)))
     where
@@ -124,29 +119,33 @@ module _ (w : List ℕ) (s : Sound w) (w′ : List ℕ) (c : Changed w s w′) w
           by (no n) = ne-eqb y wornIdent (λ e. n (h .1 e)) ∙ sym (ne-eqb x wornIdent n)
 
   -- .. and a word that differs is none of theirs
-  pub changed-unworn : (a : ℕ) → (getD w a 0 ≡ getD w′ a 0 → ⊥) → Unworn l w (s .lists .sequence) a
+  pub changed-unworn : (a : ℕ) → (getD w a 0 ≡ getD w′ a 0 → ⊥) → Unworn l w (s .ordered .lists .sequence) a
   changed-unworn a n i h o e z =
       n (ap (λ (b : ℕ). getD w b 0) e ∙ z ∙ sym (c .worn i h o .0 z) ∙ ap (λ (b : ℕ). getD w′ b 0) (sym e))
 
   -- where it is sound too, the stores differ in four words at least
-  pub distance-four : SoundLists l w′ → 1 ≤ differing w w′ → 4 ≤ differing w w′
-  distance-four x′ some =
-      ⊎-elim (λ h. absurd (nowhere h)) (λ k. far l (s .inRange) w w′ (s .exact) (c .size ∙ s .exact) (s .lists) x′ (k .0) (k .1) (k .2))
-      (same? (s .lists .sequence) (x′ .sequence) (l .lists))
+  distance-four : (x′ : SoundLists l w′) → Wiped l w′ (x′ .sequence) → 1 ≤ differing w w′ → 4 ≤ differing w w′
+  distance-four x′ y′ some =
+      let o = s .ordered in
+      ⊎-elim (λ h. absurd (nowhere h)) (λ k. far l (o .inRange) w w′ (o .exact) (c .size ∙ o .exact) (o .lists) x′ (k .0) (k .1) (k .2))
+      (same? (o .lists .sequence) (x′ .sequence) (l .lists))
     where
-      nowhere : ((k : ℕ) → k < l .lists → s .lists .sequence k ≡ x′ .sequence k) → ⊥
+      nowhere : ((k : ℕ) → k < l .lists → s .ordered .lists .sequence k ≡ x′ .sequence k) → ⊥
       nowhere h =
           let a = differ-some w w′ (c .size) some in
-          let r = place-asked l w (s .lists .sequence) (a .0) (c .places (a .0) (a .2)) (changed-unworn (a .0) (a .2)) in
+          let r = place-asked l w (s .ordered .lists .sequence) (a .0) (c .places (a .0) (a .2)) (changed-unworn (a .0) (a .2)) in
           a .2
-          (all-in (Right w) (required l w (s .lists .sequence)) (sound-agrees l w (s .lists)) (r .1)
-          ∙ sym (all-in (Right w′) (required l w′ (x′ .sequence)) (sound-agrees l w′ x′)
+          (all-in (Right w) (required l w (s .ordered .lists .sequence)) (sound-agrees l w (s .ordered .lists) (s .wiped)) (r .1)
+          ∙ sym (all-in (Right w′) (required l w′ (x′ .sequence)) (sound-agrees l w′ x′ y′)
           (subst (List·Memᴰ (write (a .0) (r .0)))
-          (sym changed-required ∙ required-same l w′ (s .lists .sequence) (x′ .sequence) h) (r .1))))
+          (sym changed-required ∙ required-same l w′ (s .ordered .lists .sequence) (x′ .sequence) h) (r .1))))
 
   pub noticed : 1 ≤ differing w w′ → differing w w′ ≤ 3 → checkAnswer w′ ≡ C.Refused 6
   noticed some few = by (soundOf l w′) refl
     where
       by : (b : Bool) → soundOf l w′ ≡ b → checkAnswer w′ ≡ C.Refused 6
-      by false e = check-six w′ l changed-opened e
-      by true e = absurd (omega (arith, distance-four (sound-lists l (s .inRange) w′ e) some, few))
+      by false e = unsound-check w′ l changed-opened e
+      by true e =
+          let r = s .ordered .inRange in
+          let x′ = sound-lists l r w′ e in
+          absurd (omega (arith, distance-four x′ (sound-wiped l r w′ e x′) some, few))

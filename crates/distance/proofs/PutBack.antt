@@ -17,7 +17,7 @@ use Rattle.stores.specs.Stores.{Write, write, run, Plan, stores, answerOf, word
 use Rattle.stores.proofs.Laws.{applied-all}
 use Rattle.layout.specs.declared.Layout.{Layout}
 use Rattle.layout.specs.Words.{Node, InRange, cellAt, identAt, layoutOf}
-use Rattle.lists.specs.Lists.{SoundLists, Sound}
+use Rattle.lists.specs.Lists.{Agrees, SoundLists, Ordered, Sound}
 use Rattle.lists.proofs.Same.{ident-word, list-same}
 use Rattle.lists.proofs.Unlisted.{given-list}
 use Rattle.edits.specs.Edited.{replaced}
@@ -90,7 +90,7 @@ module _ (l : Layout) (range : InRange l) (w : List ℕ) (x : SoundLists l w) (j
       kept i g = replaced-other (x .sequence) (l .lists) [] i (λ e. omega (arith, e))
 
 -- any such word is altered; of a node in no list it is the identifier, and every list has all its words
-place-accepted : (w : List ℕ) (s : Sound w) (a v : ℕ) → Place (layoutOf w) (s .lists .sequence) a → Accepted (layoutOf w) (set w a v) (s .lists .sequence)
+place-accepted : (w : List ℕ) (s : Ordered w) (a v : ℕ) → Place (layoutOf w) (s .lists .sequence) a → Accepted (layoutOf w) (set w a v) (s .lists .sequence)
 place-accepted w s a v = by
   where
     l : Layout
@@ -123,7 +123,7 @@ module _ (w : List ℕ) (s : Sound w) (w′ : List ℕ) (c : Changed w s w′) (
   l = layoutOf w
 
   abbrev sequence : ℕ → List ℕ
-  sequence = s .lists .sequence
+  sequence = s .ordered .lists .sequence
 
   -- the altered word, and its new value
   some : (a : ℕ) × (a < length w) × (getD w a 0 ≡ getD w′ a 0 → ⊥)
@@ -143,17 +143,20 @@ module _ (w : List ℕ) (s : Sound w) (w′ : List ℕ) (c : Changed w s w′) (
   place : Place l sequence a
   place = c .places a (some .2)
 
+  agreed : Agrees w (required l w sequence)
+  agreed = sound-agrees l w (s .ordered .lists) (s .wiped)
+
   -- the plan is its old value
   one-store : recoverPlan w′ ≡ stores (write a (getD w a 0) ∷ [])
   one-store =
       let q = place-asked l w sequence a place (changed-unworn w s w′ c a (some .2)) in
-      let old : getD w a 0 ≡ q .0 = all-in (λ (p : Write). getD w (p .at) 0 ≡ p .value) (required l w sequence) (sound-agrees l w (s .lists)) (q .1) in
+      let old : getD w a 0 ≡ q .0 = all-in (λ (p : Write). getD w (p .at) 0 ≡ p .value) (required l w sequence) agreed (q .1) in
       accepted-plan l w′ sequence (changed-opened w s w′ c)
-      (subst (λ (y : List ℕ). Accepted l y sequence) (sym changed) (place-accepted w s a v place))
+      (subst (λ (y : List ℕ). Accepted l y sequence) (sym changed) (place-accepted w (s .ordered) a v place))
       ∙ ap stores
       (ap (wrong w′) (changed-required w s w′ c)
       ∙ ap (λ (y : List ℕ). wrong y (required l w sequence)) changed
-      ∙ wrong-one (required l w sequence) w a (q .0) v (required-once l w sequence (sound-accepted l w (s .lists) .fits)) (sound-agrees l w (s .lists))
+      ∙ wrong-one (required l w sequence) w a (q .0) v (required-once l w sequence (sound-accepted l w (s .ordered .lists) .fits)) agreed
       (some .1) (q .1) (λ e. some .2 (old ∙ sym e))
       ∙ ap (λ (u : ℕ). write a u ∷ []) (sym old))
 

@@ -12,7 +12,7 @@ use Rattle.stores.specs.Stores.{write, stores, answerOf, wordsAfter}
 use Rattle.byte_form.specs.Bytes.{wordsIn, bytesAfter}
 use Rattle.layout.specs.declared.Layout.{Layout}
 use Rattle.layout.specs.Words.{headerWords, linkWords, Node, cellAt, identAt, wornIdent, Unlisted, layoutOf}
-use Rattle.lists.specs.Lists.{Sound}
+use Rattle.lists.specs.Lists.{Sound, Blank}
 use Rattle.recovery.specs.Plan.{joined, recoverPlan, differing}
 use Rattle.axle_store.specs.declared.Checked.the-variants as C
 use Rattle.axle_store.specs.Calls.{checkAnswer}
@@ -29,9 +29,9 @@ pub data Place (l : Layout) (s : ℕ → List ℕ) (a : ℕ) : Type 0 where
 -- w′ has the words of the sound store w but for some of these, "changed to other values"; `differing` (recovery/specs/Plan.antt) counts them
 pub record Changed (w : List ℕ) (s : Sound w) (w′ : List ℕ) : Type 0 where
   pub size : length w′ ≡ length w
-  pub places : (a : ℕ) → (getD w a 0 ≡ getD w′ a 0 → ⊥) → Place (layoutOf w) (s .lists .sequence) a
+  pub places : (a : ℕ) → (getD w a 0 ≡ getD w′ a 0 → ⊥) → Place (layoutOf w) (s .ordered .lists .sequence) a
   -- "excludes changes to or from 65,535 on a node in no list": no such node is worn in one of the two stores only
-  pub worn : (i : ℕ) → Node (layoutOf w) i → (i ∈ joined (s .lists .sequence) (layoutOf w .lists) → ⊥)
+  pub worn : (i : ℕ) → Node (layoutOf w) i → (i ∈ joined (s .ordered .lists .sequence) (layoutOf w .lists) → ⊥)
       → (getD w (identAt (layoutOf w) i) 0 ≡ wornIdent) ↔ (getD w′ (identAt (layoutOf w) i) 0 ≡ wornIdent)
 
 -- One such word of w is altered in w′.
@@ -57,14 +57,18 @@ pub record Distance : Type 0 where
   -- More than three cannot be promised: of some sound store four are changed, and check answers sound again.
   pub four : (w : List ℕ) × (s : Sound w) × (w′ : List ℕ) × Changed w s w′ × (differing w w′ ≡ 4) × (checkAnswer w′ ≡ C.Sound)
   -- Nothing else is excluded: a member's identifier changed to 65,535 is noticed and put back.
-  pub memberWorn : (w : List ℕ) (s : Sound w) (k c : ℕ) → k < layoutOf w .lists → c ∈ s .lists .sequence k
+  pub memberWorn : (w : List ℕ) (s : Sound w) (k c : ℕ) → k < layoutOf w .lists → c ∈ s .ordered .lists .sequence k
       → let w′ : List ℕ = set w (identAt (layoutOf w) c) wornIdent in (checkAnswer w′ ≡ C.Refused 6) × PutBack w w′
-  -- And that must be excluded: a node in no list may get 0 or 65,535, and check answers sound. Any other identifier is noticed, and recovery
-  -- frees the node.
-  pub outside : (w : List ℕ) (s : Sound w) (i : ℕ) → Node (layoutOf w) i → (i ∈ joined (s .lists .sequence) (layoutOf w .lists) → ⊥) → (v : ℕ)
+  -- And that must be excluded: a node in no list may be marked worn, and check answers sound. If its record is blank, as every free node's is,
+  -- it may be freed too; any other identifier is noticed, and recovery frees the node. A worn node with a record is noticed if it gets any other
+  -- identifier.
+  pub outside : (w : List ℕ) (s : Sound w) (i : ℕ) → Node (layoutOf w) i → (i ∈ joined (s .ordered .lists .sequence) (layoutOf w .lists) → ⊥) → (v : ℕ)
       → let w′ : List ℕ = set w (identAt (layoutOf w) i) v in
-      (Unlisted v → checkAnswer w′ ≡ C.Sound)
-      × ((Unlisted v → ⊥) → (checkAnswer w′ ≡ C.Refused 6) × PutBack (set w (identAt (layoutOf w) i) 0) w′)
+      (v ≡ wornIdent → checkAnswer w′ ≡ C.Sound)
+      × (Blank (layoutOf w) w i
+      → (v ≡ 0 → checkAnswer w′ ≡ C.Sound)
+      × ((Unlisted v → ⊥) → (checkAnswer w′ ≡ C.Refused 6) × PutBack (set w (identAt (layoutOf w) i) 0) w′))
+      × ((Blank (layoutOf w) w i → ⊥) → (v ≡ wornIdent → ⊥) → checkAnswer w′ ≡ C.Refused 6)
   -- The same of the calls from C: b has the bytes of a sound store, b′ those with changed words.
   pub noticedInBytes : (b : List ℕ) (s : Sound (wordsIn b)) (b′ : List ℕ) → length b′ % 2 ≡ 0 → Changed (wordsIn b) s (wordsIn b′)
       → 1 ≤ differing (wordsIn b) (wordsIn b′) → differing (wordsIn b) (wordsIn b′) ≤ 3 → checkCode b′ ≡ 6

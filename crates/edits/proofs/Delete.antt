@@ -1,5 +1,5 @@
--- Demand 2 of delete: the lists after its stores are those that deleting from the plain sequence gives.
-use Prim.Native.Nat.{ℕ, suc, _+_, _-_, _<_}
+-- Demand 2 of delete: the lists after its stores are those that deleting from the plain sequence gives, and nothing is left of the record.
+use Prim.Native.Nat.{ℕ, suc, _+_, _-_, _<_, _≤_}
 use mathlib.Core.Path.{_≡_, refl, ap, _∙_, sym, subst}
 use mathlib.Core.List.{List, [], _∷_, _++_, append-assoc, List·Memᴰ·head, List·Memᴰ·tail, List·Memᴰ·append-cases, Memᴰ·append-left, Memᴰ·append-right}
 use mathlib.Core.Logic.{_⊎_, inl, inr, ⊎-elim}
@@ -15,7 +15,7 @@ use Rattle.stores.proofs.Laws.{run-out, length-run}
 use Rattle.layout.specs.declared.Layout.{Layout}
 use Rattle.layout.specs.Words.{cellCount, Node, sizeOf, cellAt, cellWords, identAt, forwardAt, backAt, identOf}
 use Rattle.layout.proofs.Apart.{links-words}
-use Rattle.lists.specs.Lists.{IsList, SoundLists, SameCells}
+use Rattle.lists.specs.Lists.{IsList, SoundLists, Blank, Wiped, SameCells}
 use Rattle.lists.specs.Decide.{viewOf}
 use Rattle.lists.proofs.Agree.{agrees-holds}
 use Rattle.lists.proofs.Unique.{ring-list}
@@ -23,8 +23,8 @@ use Rattle.lists.proofs.Same.{ident-word, header-apart, ring-different, ring-di
 use Rattle.requests.specs.declared.Site.{Site}
 use Rattle.edits.specs.Edits.{deleteWrites}
 use Rattle.edits.specs.Edited.{deleteAt, replaced, recordIn}
-use Rattle.edits.proofs.Edited.{edited-lists}
-use Rattle.edits.proofs.Writes.{record-same, delete-spares, delete-after, delete-before, delete-count, delete-ident}
+use Rattle.edits.proofs.Edited.{out-cell, edited-lists, edited-wiped}
+use Rattle.edits.proofs.Writes.{record-same, delete-spares, delete-after, delete-before, delete-count, delete-ident, delete-record}
 
 module _ (l : Layout) (w : List ℕ) (exact : length w ≡ sizeOf l) (s : SoundLists l w) (k : ℕ) (hk : k < l .lists)
     (p : ℕ) (hp : p < length (s .sequence k)) where
@@ -73,19 +73,19 @@ module _ (l : Layout) (w : List ℕ) (exact : length w ≡ sizeOf l) (s : SoundL
       different-at (S ++ k ∷ []) p (p + 1) (ring-different-behind l w k hk S own) (omega arith) (omega (arith, behind-length))
       (List·getD-append S (k ∷ []) 0 p hp ∙ e)
 
-  -- a word stays, but for the cell's identifier, the count, the link before and the back link after
+  -- a word stays, but for the cell's identifier and record, the count, the link before and the back link after
   pub delete-keeps
-      : (x f : ℕ) → f < cellWords l x → (x ≡ c → f ≡ 0 → ⊥) → (x ≡ k → f ≡ 3 → ⊥)
+      : (x f : ℕ) → f < cellWords l x → (x ≡ c → f ≡ 0 → ⊥) → (x ≡ c → 3 ≤ f → ⊥) → (x ≡ k → f ≡ 3 → ⊥)
       → (x ≡ getD (k ∷ S) p 0 → f ≡ 1 → ⊥) → (x ≡ getD (S ++ k ∷ []) (p + 1) 0 → f ≡ 2 → ⊥)
       → getD Gone (cellAt l x + f) 0 ≡ getD w (cellAt l x + f) 0
-  delete-keeps x f h nc nk na nb =
+  delete-keeps x f h nc nr nk na nb =
       run-out (deleteWrites l k site) w (cellAt l x + f)
-      (delete-spares l w exact k site hk ha hb hc ca cb x f h nc nk na nb)
+      (delete-spares l w exact k site hk ha hb hc ca cb x f h nc nr nk na nb)
 
   keeps-ident : (x : ℕ) → (x ≡ c → ⊥) → getD Gone (identAt l x) 0 ≡ getD w (identAt l x) 0
   keeps-ident x n =
       ap (λ (a : ℕ). getD Gone a 0) (ident-word l x)
-      ∙ delete-keeps x 0 (links-words l x 0 (omega arith)) (λ e _. n e) (λ _ e. omega arith) (λ _ e. omega arith) (λ _ e. omega arith)
+      ∙ delete-keeps x 0 (links-words l x 0 (omega arith)) (λ e _. n e) (λ _ e. omega arith) (λ _ e. omega arith) (λ _ e. omega arith) (λ _ e. omega arith)
       ∙ ap (λ (a : ℕ). getD w a 0) (sym (ident-word l x))
 
   pub parted : S ≡ take p S ++ c ∷ drop (p + 1) S
@@ -125,7 +125,7 @@ module _ (l : Layout) (w : List ℕ) (exact : length w ≡ sizeOf l) (s : SoundL
         different-without (take p S) c (drop (p + 1) S) (subst Different parted (own .different)),
       )
       (λ y m n.
-      delete-keeps y 1 (links-words l y 1 (omega arith)) (λ _ e. omega arith) (λ _ e. omega arith) (λ e _. n (e ∙ before-last)) (λ _ e. omega arith))
+      delete-keeps y 1 (links-words l y 1 (omega arith)) (λ _ e. omega arith) (λ _ e. omega arith) (λ _ e. omega arith) (λ e _. n (e ∙ before-last)) (λ _ e. omega arith))
       (ap (λ (a : ℕ). getD Gone (forwardAt l a) 0) (sym before-last) ∙ delete-before l w exact k site hk ha hb hc ca cb ∙ after-first)
       (subst (λ (t : List ℕ). Forward (viewOf l w .forward) k t k) parted (agrees-holds l w k S (own .agrees) .turn .forwards))
 
@@ -137,7 +137,7 @@ module _ (l : Layout) (w : List ℕ) (exact : length w ≡ sizeOf l) (s : SoundL
       cut-backward c (drop (p + 1) S) k (viewOf l w .back) (viewOf l Gone .back) k (take p S)
       (different-without (take p S) c (drop (p + 1) S ++ k ∷ []) (subst Different behind (ring-different-behind l w k hk S own)))
       (λ y m n.
-      delete-keeps y 2 (links-words l y 2 (omega arith)) (λ _ e. omega arith) (λ _ e. omega arith) (λ _ e. omega arith) (λ e _. n (e ∙ after-first)))
+      delete-keeps y 2 (links-words l y 2 (omega arith)) (λ _ e. omega arith) (λ _ e. omega arith) (λ _ e. omega arith) (λ _ e. omega arith) (λ e _. n (e ∙ after-first)))
       (ap (λ (a : ℕ). getD Gone (backAt l a) 0) (sym after-first) ∙ delete-after l w exact k site hk ha hb hc ca cb ∙ before-last)
       (subst (λ (t : List ℕ). Backward (viewOf l w .back) k t k) parted (agrees-holds l w k S (own .agrees) .turn .backs))
 
@@ -174,6 +174,7 @@ module _ (l : Layout) (w : List ℕ) (exact : length w ≡ sizeOf l) (s : SoundL
   delete-spares-other j h n x f m g =
       delete-spares l w exact k site hk ha hb hc ca cb x f g
       (λ e _. apart c (List·Memᴰ·tail cell-in) e)
+      (λ e _. apart c (List·Memᴰ·tail cell-in) e)
       (λ e _. apart k (List·Memᴰ·head refl) e)
       (λ e _. apart (getD (k ∷ S) p 0) before-in e)
       (λ e _. apart (getD (S ++ k ∷ []) (p + 1) 0) after-in e)
@@ -185,22 +186,37 @@ module _ (l : Layout) (w : List ℕ) (exact : length w ≡ sizeOf l) (s : SoundL
   pub delete-other : (j : ℕ) → j < l .lists → (j ≡ k → ⊥) → SameCells l w Gone (j ∷ s .sequence j)
   delete-other j h n x f m g = run-out (deleteWrites l k site) w (cellAt l x + f) (delete-spares-other j h n x f m g)
 
-  -- the cell is free
+  -- a node that the list has not and had not keeps its words
+  pub delete-outside : (x : ℕ) → Node l x → (x ∈ deleteAt p S → ⊥) → (x ∈ S → ⊥) → (f : ℕ) → f < cellWords l x
+      → getD Gone (cellAt l x + f) 0 ≡ getD w (cellAt l x + f) 0
+  delete-outside x n _ o f g =
+      delete-keeps x f g (λ e _. out-cell hk n o c (List·Memᴰ·tail cell-in) e) (λ e _. out-cell hk n o c (List·Memᴰ·tail cell-in) e)
+      (λ e _. out-cell hk n o k (List·Memᴰ·head refl) e) (λ e _. out-cell hk n o _ before-in e) (λ e _. out-cell hk n o _ after-in e)
+
+  -- the cell is free, and nothing is left of its record
   pub delete-free : getD Gone (identAt l c) 0 ≡ 0
   delete-free = delete-ident l w exact k site hk ha hb hc ca cb
 
-  -- the words are sound, with the new sequences
+  pub delete-blank : Blank l Gone c
+  delete-blank = delete-record l w exact k site hk ha hb hc ca cb
+
+  -- the words are sound, with the new sequences, and so are the records
   pub delete-lists : (x : SoundLists l Gone) × (x .sequence ≡ replaced (s .sequence) k (deleteAt p S))
   delete-lists =
-      edited-lists l w s k hk Gone (deleteAt p S) delete-own delete-other
-      (λ x n m o. keeps-ident x (λ e. o (subst (λ (y : ℕ). y ∈ S) (sym e) cell-in)))
+      edited-lists l w s k hk Gone (deleteAt p S) delete-outside delete-own delete-other
       (λ x m. ⊎-elim inl (λ e. inr (ap (λ (y : ℕ). getD Gone (identAt l y) 0) e ∙ delete-free)) (member-delete x m))
 
-  -- and no record changes
-  pub delete-records : (x : ℕ) → x ∈ S → recordIn l Gone x ≡ recordIn l w x
+  pub delete-wiped : Wiped l w (s .sequence) → Wiped l Gone (replaced (s .sequence) k (deleteAt p S))
+  delete-wiped h =
+      edited-wiped l w s k hk Gone (deleteAt p S) delete-outside h
+      (λ x m. ⊎-elim inl (λ e. inr (subst (Blank l Gone) (sym e) delete-blank)) (member-delete x m))
+
+  -- and no record of another member changes
+  pub delete-records : (x : ℕ) → x ∈ deleteAt p S → recordIn l Gone x ≡ recordIn l w x
   delete-records x m =
-      record-same l w Gone x (all-in (Node l) S (own .nodes) m) (length-run (deleteWrites l k site) w)
+      let q = delete-member x m in
+      record-same l w Gone x (all-in (Node l) S (own .nodes) q) (length-run (deleteWrites l k site) w)
       (λ j g.
-      delete-keeps x (3 + j) g (λ _ e. omega arith)
-      (λ e _. header-apart l k S hk (own .nodes) (subst (λ (y : ℕ). y ∈ S) e m))
+      delete-keeps x (3 + j) g (λ _ e. omega arith) (λ e _. not-cell x (List·Memᴰ·tail m) e)
+      (λ e _. header-apart l k S hk (own .nodes) (subst (λ (y : ℕ). y ∈ S) e q))
       (λ _ e. omega arith) (λ _ e. omega arith))

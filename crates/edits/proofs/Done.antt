@@ -6,7 +6,7 @@ use mathlib.Core.List.{List, [], _∷_, _++_, List·Memᴰ·head, Memᴰ·append
 use mathlib.Core.Bool.{Bool, true, false}
 use native.Mathlib.Omega.{arith}
 use lib.Dec.{eqb, leb, ltb}
-use lib.ListN.{length, getD}
+use lib.ListN.{length, getD, replicate}
 use lib.Seq.{take-all}
 use borrow.Author.Tests.{leb-true, ltb-true, eqb-true}
 use Rattle.sequences.specs.Sequence.{_∈_, All}
@@ -19,10 +19,10 @@ use Rattle.layout.specs.declared.Opened.the-variants as O
 use Rattle.layout.specs.Words.{headWords, tailWords, ask, afterOpen, opened, isNode, Node, layoutOf, nodeAt, recordAt, identAt, isFree}
 use Rattle.layout.proofs.Laws.{tail-width, opened-open, is-node}
 use Rattle.layout.proofs.Apart.{cell-behind}
-use Rattle.lists.specs.Lists.{Sound, SoundLists, SameCells}
+use Rattle.lists.specs.Lists.{Sound, SoundLists, Ordered, Wiped, SameCells}
 use Rattle.lists.specs.Decide.{viewOf, soundOf, sequenceOf}
 use Rattle.lists.proofs.Unique.{list-sequence}
-use Rattle.lists.proofs.Same.{same-sound, same-layout}
+use Rattle.lists.proofs.Same.{same-layout, same-sound}
 use Rattle.requests.specs.declared.Free.{Free}
 use Rattle.requests.specs.declared.Free.the-variants.{Cell, Full}
 use Rattle.requests.specs.declared.Site.{Site}
@@ -33,11 +33,11 @@ use Rattle.requests.specs.declared.Request.{Request}
 use Rattle.requests.specs.declared.Request.the-variants.{Member, Gap, Mark}
 use Rattle.requests.specs.Requests.{around, firstFree, withFree, memberAt, gapAt, siteIn, siteOf, withSite, lookOf}
 use Rattle.requests.proofs.Turn.{around-all, around-nodes}
-use Rattle.edits.specs.Edits.{insertLinks, insertWrites, deleteWrites}
+use Rattle.edits.specs.Edits.{insertLinks, insertWrites, deleteLinks, deleteWrites}
 use Rattle.edits.specs.Edited.{insertAt, deleteAt, replaced, FirstFree, recordIn, Edited, Inserted, Deleted}
 use Rattle.edits.proofs.Free.{first-free, none-free}
-use Rattle.edits.proofs.Insert.{insert-lists, insert-other, insert-given, insert-records}
-use Rattle.edits.proofs.Delete.{delete-lists, delete-other, delete-free, delete-records}
+use Rattle.edits.proofs.Insert.{insert-lists, insert-wiped, insert-other, insert-given, insert-records}
+use Rattle.edits.proofs.Delete.{delete-lists, delete-wiped, delete-other, delete-free, delete-blank, delete-records}
 
 -- a question that did not refuse was answered yes
 pub yes-at : (b : Bool) (n : ℕ) (r : Sited) (t : Site) → ask b (Refused n) r ≡ At t → (b ≡ true) × (r ≡ At t)
@@ -159,28 +159,32 @@ insert-head l k t words a h =
     )
 
 pub delete-head : (l : Layout) (k : ℕ) (t : Site) (a : ℕ) → a < headWords → Spares a (deleteWrites l k t)
-unfolding deleteWrites
+unfolding deleteWrites deleteLinks
 delete-head l k t a h = (
   (λ e. omega (arith, cell-behind l (t .after))),
   (
     (λ e. omega (arith, cell-behind l (t .before))),
     (
       (λ e. omega arith),
-      ((λ e. omega (arith, cell-behind l (t .cell))), tt),
+      (
+        (λ e. omega (arith, cell-behind l (t .cell))),
+        row-spares a (recordAt l (t .cell)) (replicate (tailWords l) 0) (λ j g e. omega (arith, node-behind l (t .cell))),
+      ),
     ),
   ),
 )
 
--- words whose lists are sound with list k replaced, as an edit of a sound store
+-- words whose lists and records are sound with list k replaced, as an edit of a sound store
 edit
     : (w : List ℕ) (s : Sound w) (k : ℕ) (t : List ℕ) (ps : List Write) → ((a : ℕ) → a < headWords → Spares a ps)
-    → ((x : SoundLists (layoutOf w) (run ps w)) × (x .sequence ≡ replaced (s .lists .sequence) k t))
-    → ((j : ℕ) → j < layoutOf w .lists → (j ≡ k → ⊥) → SameCells (layoutOf w) w (run ps w) (j ∷ s .lists .sequence j))
-    → ((x : ℕ) → x ∈ s .lists .sequence k → recordIn (layoutOf w) (run ps w) x ≡ recordIn (layoutOf w) w x)
+    → ((x : SoundLists (layoutOf w) (run ps w)) × (x .sequence ≡ replaced (s .ordered .lists .sequence) k t))
+    → Wiped (layoutOf w) (run ps w) (replaced (s .ordered .lists .sequence) k t)
+    → ((j : ℕ) → j < layoutOf w .lists → (j ≡ k → ⊥) → SameCells (layoutOf w) w (run ps w) (j ∷ s .ordered .lists .sequence j))
+    → ((x : ℕ) → x ∈ s .ordered .lists .sequence k → x ∈ t → recordIn (layoutOf w) (run ps w) x ≡ recordIn (layoutOf w) w x)
     → Edited w s k t (run ps w)
-edit w s k t ps head lists others records =
+edit w s k t ps head lists wiped others records =
     let h : (a : ℕ) → a < headWords → getD (run ps w) a 0 ≡ getD w a 0 = λ a g. run-out ps w a (head a g) in
-    let y = same-sound w (run ps w) s h (length-run ps w) (lists .0) in
+    let y = same-sound w (run ps w) (s .ordered) h (length-run ps w) (lists .0) (subst (Wiped (layoutOf w) (run ps w)) (sym (lists .1)) wiped) in
     record {
       sound = y .0;
       layout = same-layout w (run ps w) h;
@@ -189,7 +193,7 @@ edit w s k t ps head lists others records =
       records = records;
     }
 
-module _ (w : List ℕ) (s : Sound w) (k p : ℕ) (l : Layout) (t : Site) where
+module _ (w : List ℕ) (s : Ordered w) (k p : ℕ) (l : Layout) (t : Site) where
   -- the layout is that of the words, and the sequence is the list's own
   pub its-layout : (q : Request) → lookOf w q ≡ K.At l t → l ≡ layoutOf w
   its-layout q e = opened-open w l (looked w q l t e .0) .0
@@ -200,63 +204,70 @@ module _ (w : List ℕ) (s : Sound w) (k p : ℕ) (l : Layout) (t : Site) where
   pub its-sequence : k < layoutOf w .lists → sequenceOf (layoutOf w) w k ≡ s .lists .sequence k
   its-sequence h = list-sequence (layoutOf w) w k h (s .lists .sequence k) (s .lists .lists k h)
 
+module _ (w : List ℕ) (s : Sound w) (k p : ℕ) (l : Layout) (t : Site) where
+  abbrev order : Ordered w
+  order = s .ordered
+
   -- insert
   pub insert-done
       : (c : ℕ) (words : List ℕ) → lookOf w (Gap k p c (length words)) ≡ K.At l t
       → Inserted w s k p (t .cell) words (run (insertWrites l k t words) w)
   insert-done c words e =
-      let f = gap-facts (layoutOf w) w k p c (length words) t (its-site (Gap k p c (length words)) e) in
-      let q = its-sequence (f .list) in
-      subst (λ (m : Layout). Inserted w s k p (t .cell) words (run (insertWrites m k t words) w)) (sym (its-layout (Gap k p c (length words)) e))
+      let f = gap-facts (layoutOf w) w k p c (length words) t (its-site w order k p l t (Gap k p c (length words)) e) in
+      let q = its-sequence w order k p l t (f .list) in
+      subst (λ (m : Layout). Inserted w s k p (t .cell) words (run (insertWrites m k t words) w)) (sym (its-layout w order k p l t (Gap k p c (length words)) e))
       (subst (λ (u : Site). Inserted w s k p (t .cell) words (run (insertWrites (layoutOf w) k u words) w)) (sym (f .site ∙ ap (site-with (t .cell)) q))
       (inserted (f .list) (subst (λ (x : List ℕ). p ≤ length x) q (f .position)) (f .start) (f .size) (f .first)))
     where
       site-with : ℕ → List ℕ → Site
       site-with i x = record { before = getD (k ∷ x) p 0; cell = i; after = getD (x ++ k ∷ []) p 0; count = length x }
 
-      inserted : k < layoutOf w .lists → p ≤ length (s .lists .sequence k) → Node (layoutOf w) c → length words ≡ tailWords (layoutOf w)
+      inserted : k < layoutOf w .lists → p ≤ length (order .lists .sequence k) → Node (layoutOf w) c → length words ≡ tailWords (layoutOf w)
           → FirstFree (viewOf (layoutOf w) w .ident) (around (layoutOf w) c (layoutOf w .nodes)) (t .cell)
-          → Inserted w s k p (t .cell) words (run (insertWrites (layoutOf w) k (site-with (t .cell) (s .lists .sequence k)) words) w)
+          → Inserted w s k p (t .cell) words (run (insertWrites (layoutOf w) k (site-with (t .cell) (order .lists .sequence k)) words) w)
       inserted hk hp hc size f =
           let hi : Node (layoutOf w) (t .cell) =
           all-in (Node (layoutOf w)) (around (layoutOf w) c (layoutOf w .nodes)) (around-nodes (layoutOf w) c (layoutOf w .nodes) hc)
           (subst (λ (x : List ℕ). t .cell ∈ x) (sym (f .order)) (Memᴰ·append-right (f .passed) (List·Memᴰ·head refl))) in
           record {
             edited =
-                edit w s k (insertAt p (t .cell) (s .lists .sequence k)) (insertWrites (layoutOf w) k (site-with (t .cell) (s .lists .sequence k)) words)
-                (insert-head (layoutOf w) k (site-with (t .cell) (s .lists .sequence k)) words)
-                (insert-lists (layoutOf w) w (s .exact) (s .lists) k hk p hp (t .cell) hi (f .free) words size)
-                (insert-other (layoutOf w) w (s .exact) (s .lists) k hk p hp (t .cell) hi (f .free) words size)
-                (insert-records (layoutOf w) w (s .exact) (s .lists) k hk p hp (t .cell) hi (f .free) words size);
+                edit w s k (insertAt p (t .cell) (order .lists .sequence k)) (insertWrites (layoutOf w) k (site-with (t .cell) (order .lists .sequence k)) words)
+                (insert-head (layoutOf w) k (site-with (t .cell) (order .lists .sequence k)) words)
+                (insert-lists (layoutOf w) w (order .exact) (order .lists) k hk p hp (t .cell) hi (f .free) words size)
+                (insert-wiped (layoutOf w) w (order .exact) (order .lists) k hk p hp (t .cell) hi (f .free) words size (s .wiped))
+                (insert-other (layoutOf w) w (order .exact) (order .lists) k hk p hp (t .cell) hi (f .free) words size)
+                (λ x m _. insert-records (layoutOf w) w (order .exact) (order .lists) k hk p hp (t .cell) hi (f .free) words size x m);
             free = f .free;
             given =
-                insert-given (layoutOf w) w (s .exact) (s .lists) k hk p hp (t .cell) hi (f .free) words size
+                insert-given (layoutOf w) w (order .exact) (order .lists) k hk p hp (t .cell) hi (f .free) words size
                 ∙ take-all (layoutOf w .width) words (omega (arith, tail-width (layoutOf w)));
           }
 
   -- delete
   pub delete-done : lookOf w (Member k p) ≡ K.At l t → Deleted w s k p (run (deleteWrites l k t) w)
   delete-done e =
-      let f = member-facts (layoutOf w) w k p t (its-site (Member k p) e) in
-      let q = its-sequence (f .list) in
-      subst (λ (m : Layout). Deleted w s k p (run (deleteWrites m k t) w)) (sym (its-layout (Member k p) e))
+      let f = member-facts (layoutOf w) w k p t (its-site w order k p l t (Member k p) e) in
+      let q = its-sequence w order k p l t (f .list) in
+      subst (λ (m : Layout). Deleted w s k p (run (deleteWrites m k t) w)) (sym (its-layout w order k p l t (Member k p) e))
       (subst (λ (u : Site). Deleted w s k p (run (deleteWrites (layoutOf w) k u) w)) (sym (f .site ∙ ap site-with q))
       (deleted (f .list) (subst (λ (x : List ℕ). p < length x) q (f .position))))
     where
       site-with : List ℕ → Site
       site-with x = record { before = getD (k ∷ x) p 0; cell = getD x p 0; after = getD (x ++ k ∷ []) (p + 1) 0; count = length x }
 
-      deleted : k < layoutOf w .lists → p < length (s .lists .sequence k)
-          → Deleted w s k p (run (deleteWrites (layoutOf w) k (site-with (s .lists .sequence k))) w)
+      deleted : k < layoutOf w .lists → p < length (order .lists .sequence k)
+          → Deleted w s k p (run (deleteWrites (layoutOf w) k (site-with (order .lists .sequence k))) w)
       deleted hk hp =
           record {
             edited =
-                edit w s k (deleteAt p (s .lists .sequence k)) (deleteWrites (layoutOf w) k (site-with (s .lists .sequence k)))
-                (delete-head (layoutOf w) k (site-with (s .lists .sequence k)))
-                (delete-lists (layoutOf w) w (s .exact) (s .lists) k hk p hp)
-                (delete-other (layoutOf w) w (s .exact) (s .lists) k hk p hp)
-                (delete-records (layoutOf w) w (s .exact) (s .lists) k hk p hp);
-            free = delete-free (layoutOf w) w (s .exact) (s .lists) k hk p hp;
+                edit w s k (deleteAt p (order .lists .sequence k)) (deleteWrites (layoutOf w) k (site-with (order .lists .sequence k)))
+                (delete-head (layoutOf w) k (site-with (order .lists .sequence k)))
+                (delete-lists (layoutOf w) w (order .exact) (order .lists) k hk p hp)
+                (delete-wiped (layoutOf w) w (order .exact) (order .lists) k hk p hp (s .wiped))
+                (delete-other (layoutOf w) w (order .exact) (order .lists) k hk p hp)
+                (λ x _ m. delete-records (layoutOf w) w (order .exact) (order .lists) k hk p hp x m);
+            free = delete-free (layoutOf w) w (order .exact) (order .lists) k hk p hp;
+            wiped = delete-blank (layoutOf w) w (order .exact) (order .lists) k hk p hp;
           }
 
 -- 10 is answered only where no node is free

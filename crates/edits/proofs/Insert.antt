@@ -1,5 +1,5 @@
 -- Demand 2 of insert: the lists after its stores are those that inserting into the plain sequence gives.
-use Prim.Native.Nat.{ℕ, _+_, _-_, _<_, _≤_}
+use Prim.Native.Nat.{ℕ, _+_, _<_, _≤_}
 use mathlib.Core.Path.{_≡_, refl, ap, _∙_, sym, subst}
 use mathlib.Core.List.{List, [], _∷_, _++_, append-assoc, List·Memᴰ·head, List·Memᴰ·tail, List·Memᴰ·append-cases, Memᴰ·append-left, Memᴰ·append-right}
 use mathlib.Core.Logic.{_⊎_, inl, inr, ⊎-elim}
@@ -13,7 +13,7 @@ use Rattle.stores.proofs.Laws.{run-out, length-run}
 use Rattle.layout.specs.declared.Layout.{Layout}
 use Rattle.layout.specs.Words.{tailWords, cellCount, Node, sizeOf, cellAt, cellWords, identAt, forwardAt, backAt, identOf}
 use Rattle.layout.proofs.Apart.{links-words}
-use Rattle.lists.specs.Lists.{IsList, SoundLists, SameCells}
+use Rattle.lists.specs.Lists.{IsList, SoundLists, Wiped, SameCells}
 use Rattle.lists.specs.Decide.{viewOf}
 use Rattle.lists.proofs.Agree.{agrees-holds}
 use Rattle.lists.proofs.Unique.{member-ident, ring-list}
@@ -21,7 +21,7 @@ use Rattle.lists.proofs.Same.{ident-word, header-apart, ring-different, ring-di
 use Rattle.requests.specs.declared.Site.{Site}
 use Rattle.edits.specs.Edits.{insertWrites}
 use Rattle.edits.specs.Edited.{insertAt, replaced, recordIn}
-use Rattle.edits.proofs.Edited.{edited-lists}
+use Rattle.edits.proofs.Edited.{in-splice, out-cell, edited-lists, edited-wiped}
 use Rattle.edits.proofs.Writes.{record-same, insert-spares, insert-forward, insert-back, insert-ident, insert-count, insert-before, insert-after, insert-record}
 
 -- a node with identifier 0 is in no list
@@ -125,9 +125,7 @@ module _ (l : Layout) (w : List ℕ) (exact : length w ≡ sizeOf l) (s : SoundL
       behind-it (List·Memᴰ·tail q) = inr (subst (λ (t : List ℕ). x ∈ t) parted (Memᴰ·append-right (take p S) q))
 
   pub member-insert : (x : ℕ) → x ∈ S → x ∈ insertAt p i S
-  member-insert x m =
-      ⊎-elim (λ q. Memᴰ·append-left (i ∷ drop p S) q) (λ q. Memᴰ·append-right (take p S) (List·Memᴰ·tail q))
-      (List·Memᴰ·append-cases (take p S) (subst (λ (t : List ℕ). x ∈ t) (sym parted) m))
+  member-insert = in-splice p (i ∷ []) S
 
   pub new-insert : i ∈ insertAt p i S
   new-insert = Memᴰ·append-right (take p S) (List·Memᴰ·head refl)
@@ -173,12 +171,19 @@ module _ (l : Layout) (w : List ℕ) (exact : length w ≡ sizeOf l) (s : SoundL
   pub insert-other : (j : ℕ) → j < l .lists → (j ≡ k → ⊥) → SameCells l w Done (j ∷ s .sequence j)
   insert-other j h n x f m g = run-out (insertWrites l k site words) w (cellAt l x + f) (insert-spares-other j h n x f m g)
 
-  -- the words are sound, with the new sequences
+  -- a node that the list has not and had not keeps its words
+  pub insert-outside : (x : ℕ) → Node l x → (x ∈ insertAt p i S → ⊥) → (x ∈ S → ⊥) → (f : ℕ) → f < cellWords l x
+      → getD Done (cellAt l x + f) 0 ≡ getD w (cellAt l x + f) 0
+  insert-outside x n m o f g =
+      insert-keeps x f g (λ e. m (subst (λ (c : ℕ). c ∈ insertAt p i S) (sym e) new-insert))
+      (λ e _. out-cell hk n o k (List·Memᴰ·head refl) e) (λ e _. out-cell hk n o _ before-in e) (λ e _. out-cell hk n o _ after-in e)
+
+  -- the words are sound, with the new sequences, and so are the records
   pub insert-lists : (x : SoundLists l Done) × (x .sequence ≡ replaced (s .sequence) k (insertAt p i S))
-  insert-lists =
-      edited-lists l w s k hk Done (insertAt p i S) insert-own insert-other
-      (λ x n m _. keeps-ident x (λ e. m (subst (λ (c : ℕ). c ∈ insertAt p i S) (sym e) new-insert)))
-      (λ x m. inl (member-insert x m))
+  insert-lists = edited-lists l w s k hk Done (insertAt p i S) insert-outside insert-own insert-other (λ x m. inl (member-insert x m))
+
+  pub insert-wiped : Wiped l w (s .sequence) → Wiped l Done (replaced (s .sequence) k (insertAt p i S))
+  insert-wiped h = edited-wiped l w s k hk Done (insertAt p i S) insert-outside h (λ x m. inl (member-insert x m))
 
   -- the record is stored as given, and the old records stay
   pub insert-given : recordIn l Done i ≡ take (l .width) words

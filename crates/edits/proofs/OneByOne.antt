@@ -16,7 +16,7 @@ use Rattle.layout.specs.declared.Opened.the-variants as O
 use Rattle.layout.specs.Words.{tailWords, Node, cellCount, sizeOf, opened, identAt, identOf, isFree, InRange, Unlisted, free}
 use Rattle.layout.proofs.Laws.{tail-width, node-is, opened-open}
 use Rattle.layout.proofs.Apart.{links-words}
-use Rattle.lists.specs.Lists.{SoundLists}
+use Rattle.lists.specs.Lists.{SoundLists, Wiped}
 use Rattle.lists.specs.Decide.{viewOf}
 use Rattle.lists.proofs.Agree.{agrees-holds}
 use Rattle.lists.proofs.Unique.{list-sequence, member-ident}
@@ -124,19 +124,20 @@ next-node : (l : Layout) (c : ℕ) → Node l c → Node l (nextCell l c)
 unfolding around
 next-node l c h = around-nodes l c 2 h .1 .0
 
--- what a single insert asks of sound lists is answered with the gap and the first free cell
+-- what a single insert asks of sound lists and records is answered with the gap and the first free cell
 pub gap-look
-    : (l : Layout) (w : List ℕ) → opened w ≡ O.Open l → (s : SoundLists l w) (k : ℕ) → k < l .lists → (p : ℕ) → p ≤ length (s .sequence k)
+    : (l : Layout) (w : List ℕ) → opened w ≡ O.Open l → (s : SoundLists l w) → Wiped l w (s .sequence) → (k : ℕ) → k < l .lists
+    → (p : ℕ) → p ≤ length (s .sequence k)
     → (c : ℕ) → Node l c → (m : ℕ) → m ≡ l .width → (x : ℕ) (xs : List ℕ) → freeCells (viewOf l w .ident) (around l c (l .nodes)) ≡ x ∷ xs
     → lookOf w (Gap k p c m) ≡ K.At l (gapSite k p x (s .sequence k))
 unfolding siteIn gapAt
-gap-look l w o s k hk p hp c hc m q x xs e = sym (look-at w (Gap k p c m) o site)
+gap-look l w o s wiped k hk p hp c hc m q x xs e = sym (look-at w (Gap k p c m) o site)
   where
     site : siteOf l w (Gap k p c m) ≡ At (gapSite k p x (s .sequence k))
     site =
         rw (
           lt-ltb k (l .lists) hk,
-          lists-sound l (opened-open w l o .2) w s,
+          lists-sound l (opened-open w l o .2) w s wiped,
           list-sequence l w k hk (s .sequence k) (s .lists k hk),
           le-leb p (length (s .sequence k)) hp,
           node-is l c hc,
@@ -161,8 +162,8 @@ module _ (l : Layout) (w : List ℕ) (s : SoundLists l w) (k : ℕ) (hk : k < l 
   pub after-in : getD (R ++ k ∷ []) p 0 ∈ (k ∷ R)
   after-in = in-front k R (at-in (R ++ k ∷ []) p (omega (arith, length-append R (k ∷ []))))
 
--- The single insert of the first record, as asked of sound lists: it gets the first free cell, its stores are the first segment of the chain
--- (chain-split), and the next one, started behind that cell, meets the other free cells.
+-- The single insert of the first record, as asked of sound lists and records: it gets the first free cell, its stores are the first segment of
+-- the chain (chain-split), the records stay sound (after-wiped), and the next one, started behind that cell, meets the other free cells.
 module _ (l : Layout) (w : List ℕ) (o : opened w ≡ O.Open l) (exact : length w ≡ sizeOf l) (s : SoundLists l w) (k : ℕ) (hk : k < l .lists)
     (p : ℕ) (hp : p ≤ length (s .sequence k)) (c : ℕ) (hc : Node l c) (x : ℕ) (xs ys words : List ℕ)
     (e : freeCells (viewOf l w .ident) (around l c (l .nodes)) ≡ x ∷ xs ++ ys) (enough : suc (length xs) * l .width ≤ length words) where
@@ -176,8 +177,8 @@ module _ (l : Layout) (w : List ℕ) (o : opened w ≡ O.Open l) (exact : length
   abbrev pub FirstDone : List ℕ
   FirstDone = run (insertWrites l k (gapSite k p x (s .sequence k)) (take (l .width) words)) w
 
-  pub first-look : lookOf w (Gap k p c (length (take (l .width) words))) ≡ K.At l (gapSite k p x (s .sequence k))
-  first-look = gap-look l w o s k hk p hp c hc (length (take (l .width) words)) (size ∙ tail-width l) x (xs ++ ys) e
+  pub first-look : Wiped l w (s .sequence) → lookOf w (Gap k p c (length (take (l .width) words))) ≡ K.At l (gapSite k p x (s .sequence k))
+  first-look wiped = gap-look l w o s wiped k hk p hp c hc (length (take (l .width) words)) (size ∙ tail-width l) x (xs ++ ys) e
 
   pub next-start : Node l (nextCell l x)
   next-start = next-node l x (first-free-nodes .nodes .0)

@@ -16,9 +16,9 @@ use Rattle.stores.proofs.Laws.{run-append, run-out, length-run, length-row}
 use Rattle.layout.specs.declared.Layout.{Layout}
 use Rattle.layout.specs.Words.{headWords, tailWords, Node, layoutOf, sizeOf, identAt, recordAt}
 use Rattle.layout.proofs.Laws.{tail-width}
-use Rattle.lists.specs.Lists.{Sound, SoundLists, SameCells}
+use Rattle.lists.specs.Lists.{Sound, SoundLists, Wiped, SameCells}
 use Rattle.lists.proofs.Unique.{nodes-few}
-use Rattle.lists.proofs.Same.{same-sound, same-layout}
+use Rattle.lists.proofs.Same.{same-layout, same-sound}
 use Rattle.requests.specs.declared.Site.{Site}
 use Rattle.requests.specs.Sites.{gapSite}
 use Rattle.edits.specs.Edits.{insertLinks, insertWrites, chain, chainAt}
@@ -119,8 +119,8 @@ replaced-same sequence k s q = fun-ext (λ j. by j (ℕ-discrete j k))
     by j (no n) = replaced-other sequence k s j n
 
 -- What an insert of these cells from position p of list k on leaves of words with sound lists: words 0 to 7 as they were, the lists sound
--- with the plain sequence, every other list's words, the records of the list's old members, the records given, and the identifiers of
--- all other cells.
+-- with the plain sequence, every other list's words, the records of the list's old members, the records given, the identifiers of all
+-- other cells, and blank records in nodes in no list, if they were.
 pub record Chained (l : Layout) (w : List ℕ) (s : SoundLists l w) (k p : ℕ) (cells words w′ : List ℕ) : Type 0 where
   pub size : length w′ ≡ length w
   pub head : (a : ℕ) → a < headWords → getD w′ a 0 ≡ getD w a 0
@@ -130,6 +130,7 @@ pub record Chained (l : Layout) (w : List ℕ) (s : SoundLists l w) (k p : ℕ) 
   pub records : (x : ℕ) → x ∈ s .sequence k → recordIn l w′ x ≡ recordIn l w x
   pub given : map (recordIn l w′) cells ≡ recordsOf (length cells) (l .width) words
   pub idents : (x : ℕ) → (x ∈ cells → ⊥) → getD w′ (identAt l x) 0 ≡ getD w (identAt l x) 0
+  pub wiped : Wiped l w (s .sequence) → Wiped l w′ (lists .sequence)
 
 chained-none : (l : Layout) (w : List ℕ) (s : SoundLists l w) (k p : ℕ) (words : List ℕ) → Chained l w s k p [] words w
 unfolding recordsOf
@@ -143,6 +144,7 @@ chained-none l w s k p words =
       records = λ x m. refl;
       given = refl;
       idents = λ x n. refl;
+      wiped = λ h. h;
     }
 
 -- the first cell's insert
@@ -177,6 +179,9 @@ module _ (l : Layout) (w : List ℕ) (exact : length w ≡ sizeOf l) (s : SoundL
   pub after-sequences : after-lists .sequence ≡ replaced (s .sequence) k (insertAt p c S)
   unfolding after-lists
   after-sequences = I.insert-lists l w exact s k hk p hp c hc zero-c recordWords size .1
+
+  pub after-wiped : Wiped l w (s .sequence) → Wiped l After (after-lists .sequence)
+  after-wiped h = subst (Wiped l After) (sym after-sequences) (I.insert-wiped l w exact s k hk p hp c hc zero-c recordWords size h)
 
   pub after-own : after-lists .sequence k ≡ insertAt p c S
   after-own = ap (λ (f : ℕ → List ℕ). f k) after-sequences ∙ replaced-own (s .sequence) k (insertAt p c S) k refl
@@ -250,6 +255,7 @@ module _ (l : Layout) (w : List ℕ) (exact : length w ≡ sizeOf l) (s : SoundL
             ∙ take-take (l .width) (l .width) words (omega arith))
             (h .given);
         idents = λ x n. h .idents x (λ m. n (List·Memᴰ·tail m)) ∙ after-ident x (λ e. n (List·Memᴰ·head e));
+        wiped = λ z. h .wiped (after-wiped z);
       }
 
 pub chain-lists
@@ -282,13 +288,13 @@ chain-few l w s k hk cells free =
 
 -- demand 2 of an insert of several records
 pub several-inserted
-    : (w : List ℕ) (s : Sound w) (k : ℕ) → k < layoutOf w .lists → (p : ℕ) → p ≤ length (s .lists .sequence k)
+    : (w : List ℕ) (s : Sound w) (k : ℕ) → k < layoutOf w .lists → (p : ℕ) → p ≤ length (s .ordered .lists .sequence k)
     → (cells : List ℕ) → FreeNodes (layoutOf w) w cells → (words : List ℕ) → length cells * layoutOf w .width ≤ length words
-    → InsertedAll w s k p cells words (run (chainAt (layoutOf w) k p (s .lists .sequence k) cells words) w)
+    → InsertedAll w s k p cells words (run (chainAt (layoutOf w) k p (s .ordered .lists .sequence k) cells words) w)
 several-inserted w s k hk p hp cells free words enough =
-    let w′ = run (chainAt (layoutOf w) k p (s .lists .sequence k) cells words) w in
-    let h = chain-lists (layoutOf w) w (s .exact) (s .lists) k hk p hp cells free words enough in
-    let y = same-sound w w′ s (h .head) (h .size) (h .lists) in
+    let w′ = run (chainAt (layoutOf w) k p (s .ordered .lists .sequence k) cells words) w in
+    let h = chain-lists (layoutOf w) w (s .ordered .exact) (s .ordered .lists) k hk p hp cells free words enough in
+    let y = same-sound w w′ (s .ordered) (h .head) (h .size) (h .lists) (h .wiped (s .wiped)) in
     record {
       edited =
           record {
@@ -296,7 +302,7 @@ several-inserted w s k hk p hp cells free words enough =
             layout = same-layout w w′ (h .head);
             sequences = y .1 ∙ h .sequences;
             others = h .others;
-            records = h .records;
+            records = λ x m _. h .records x m;
           };
       free = free;
       given = h .given;

@@ -117,9 +117,10 @@ member-keeps l r w exact s k hk p hp =
     spares-keep l w (deleteWrites l k (D.site l w exact s k hk p hp))
     (λ c f n z g.
     let ring : (x : ℕ) → x ∈ (k ∷ s .sequence k) → c ≡ x → ⊥ = λ x i q. used-apart l w z (O.ring-ident l r w s k hk x i) q in
+    let cell : c ≡ D.c l w exact s k hk p hp → ⊥ = λ q. ring _ (List·Memᴰ·tail (D.cell-in l w exact s k hk p hp)) q in
     delete-spares l w exact k (D.site l w exact s k hk p hp) hk (D.ha l w exact s k hk p hp) (D.hb l w exact s k hk p hp) (D.hc l w exact s k hk p hp)
     (D.ca l w exact s k hk p hp) (D.cb l w exact s k hk p hp) c f g
-    (λ q _. ring _ (List·Memᴰ·tail (D.cell-in l w exact s k hk p hp)) q) (λ q _. ring k (List·Memᴰ·head refl) q)
+    (λ q _. cell q) (λ q _. cell q) (λ q _. ring k (List·Memᴰ·head refl) q)
     (λ q _. ring _ (D.before-in l w exact s k hk p hp) q) (λ q _. ring _ (D.after-in l w exact s k hk p hp) q))
 
 pub mark-keeps : (l : Layout) (w : List ℕ) (x : ℕ) → getD w (identAt l x) 0 ≡ 0 → (m : ℕ) → KeepsWorn l w (applied (markWrites l x) m w)

@@ -3,7 +3,7 @@ use Prim.Native.Nat.{ℕ, _+_, _-_, _≤_, _<_, min}
 use mathlib.Core.Path.{_≡_, ap, _∙_, sym, subst}
 use mathlib.Core.List.{List, [], _∷_, _++_, append-assoc}
 use native.Mathlib.Omega.{arith}
-use lib.ListN.{length, getD, take, drop, length-take, length-drop, length-append}
+use lib.ListN.{length, getD, take, drop, replicate, length-take, length-drop, length-append, length-replicate, getD-replicate}
 use lib.Seq.{ext-getD, getD-take, getD-drop, length-take-le}
 use Rattle.sequences.proofs.Members.{all-append}
 use Rattle.stores.specs.Stores.{Write, write, run, Spares, inRow}
@@ -12,9 +12,10 @@ use Rattle.layout.specs.declared.Layout.{Layout}
 use Rattle.layout.specs.Words.{tailWords, cellCount, cellAt, cellWords, sizeOf, Node, identAt, forwardAt, backAt, countAt, recordAt, identOf}
 use Rattle.layout.proofs.Laws.{cell-node, node-fits}
 use Rattle.layout.proofs.Apart.{words-apart, words-header, words-node, links-words, word-fits}
+use Rattle.lists.specs.Lists.{Blank, blankAsked}
 use Rattle.lists.proofs.Same.{ident-word, count-word}
 use Rattle.requests.specs.declared.Site.{Site}
-use Rattle.edits.specs.Edits.{insertLinks, insertWrites, deleteWrites}
+use Rattle.edits.specs.Edits.{insertLinks, insertWrites, deleteLinks, deleteWrites}
 use Rattle.edits.specs.Edited.{recordIn}
 
 -- a record's words as words of a cell
@@ -250,18 +251,25 @@ module _ (l : Layout) (w : List ℕ) (exact : length w ≡ sizeOf l) (k : ℕ) (
             ∙ row-at (recordAt l (t .cell)) words w j (omega (arith, whole)) (omega arith)
             ∙ sym (getD-take (l .width) words j 0 b)
 
-  -- a delete
+  -- a delete; its last stores go to the record words of the cell
+  pub blank-spares : (i f : ℕ) → f < cellWords l i → (i ≡ t .cell → 3 ≤ f → ⊥) → Spares (cellAt l i + f) (blankAsked l (t .cell))
+  blank-spares i f h nr =
+      row-spares (cellAt l i + f) (recordAt l (t .cell)) (replicate (tailWords l) 0)
+      (λ j g e.
+      words-apart l i (t .cell) f (3 + j) (λ q z. nr q (omega arith)) h
+      (omega (arith, words-node l (t .cell) (hc .low), length-replicate {A = ℕ} (tailWords l) 0)) (e ∙ record-word l (t .cell) j hc))
+
   pub delete-spares
-      : (i f : ℕ) → f < cellWords l i → (i ≡ t .cell → f ≡ 0 → ⊥) → (i ≡ k → f ≡ 3 → ⊥)
+      : (i f : ℕ) → f < cellWords l i → (i ≡ t .cell → f ≡ 0 → ⊥) → (i ≡ t .cell → 3 ≤ f → ⊥) → (i ≡ k → f ≡ 3 → ⊥)
       → (i ≡ t .before → f ≡ 1 → ⊥) → (i ≡ t .after → f ≡ 2 → ⊥) → Spares (cellAt l i + f) (deleteWrites l k t)
-  unfolding deleteWrites
-  delete-spares i f h nc nk na nb = (
+  unfolding deleteWrites deleteLinks
+  delete-spares i f h nc nr nk na nb = (
     spare-link i f (t .after) 2 h (omega arith) nb,
     (
       spare-link i f (t .before) 1 h (omega arith) na,
       (
         spare-count i f h nk,
-        (spare-ident i f (t .cell) h nc, tt),
+        (spare-ident i f (t .cell) h nc, blank-spares i f h nr),
       ),
     ),
   )
@@ -270,36 +278,56 @@ module _ (l : Layout) (w : List ℕ) (exact : length w ≡ sizeOf l) (k : ℕ) (
   Gone = run (deleteWrites l k t) w
 
   pub delete-after : getD Gone (backAt l (t .after)) 0 ≡ t .before
-  unfolding deleteWrites
+  unfolding deleteWrites deleteLinks
   delete-after =
       run-in [] (write (backAt l (t .after)) (t .before)) _ w (fits (t .after) 2 hb (links-words l _ 2 (omega arith))) (
         spare-link (t .after) 2 (t .before) 1 (links-words l _ 2 (omega arith)) (omega arith) (λ _ e. omega arith),
         (
           spare-count (t .after) 2 (links-words l _ 2 (omega arith)) (λ _ e. omega arith),
-          (spare-ident (t .after) 2 (t .cell) (links-words l _ 2 (omega arith)) (λ _ e. omega arith), tt),
+          (
+            spare-ident (t .after) 2 (t .cell) (links-words l _ 2 (omega arith)) (λ _ e. omega arith),
+            blank-spares (t .after) 2 (links-words l _ 2 (omega arith)) (λ _ e. omega arith),
+          ),
         ),
       )
 
   pub delete-before : getD Gone (forwardAt l (t .before)) 0 ≡ t .after
-  unfolding deleteWrites
+  unfolding deleteWrites deleteLinks
   delete-before =
       run-in (write (backAt l (t .after)) (t .before) ∷ []) (write (forwardAt l (t .before)) (t .after)) _ w
       (fits (t .before) 1 ha (links-words l _ 1 (omega arith))) (
         spare-count (t .before) 1 (links-words l _ 1 (omega arith)) (λ _ e. omega arith),
-        (spare-ident (t .before) 1 (t .cell) (links-words l _ 1 (omega arith)) (λ _ e. omega arith), tt),
+        (
+          spare-ident (t .before) 1 (t .cell) (links-words l _ 1 (omega arith)) (λ _ e. omega arith),
+          blank-spares (t .before) 1 (links-words l _ 1 (omega arith)) (λ _ e. omega arith),
+        ),
       )
 
   pub delete-count : getD Gone (countAt l k) 0 ≡ t .count - 1
-  unfolding deleteWrites
+  unfolding deleteWrites deleteLinks
   delete-count =
       run-in (write (backAt l (t .after)) (t .before) ∷ write (forwardAt l (t .before)) (t .after) ∷ []) (write (countAt l k) (t .count - 1)) _ w
-      (subst (λ (a : ℕ). a < length w) (sym (count-word l k hk)) (fits k 3 (omega arith) count-words))
-      ((λ e. spare-ident k 3 (t .cell) count-words (λ _ q. omega arith) (sym (count-word l k hk) ∙ e)), tt)
+      (subst (λ (a : ℕ). a < length w) (sym (count-word l k hk)) (fits k 3 (omega arith) count-words)) (
+        (λ e. spare-ident k 3 (t .cell) count-words (λ _ q. omega arith) (sym (count-word l k hk) ∙ e)),
+        subst (λ (a : ℕ). Spares a (blankAsked l (t .cell))) (sym (count-word l k hk)) (blank-spares k 3 count-words (λ q _. not-header (sym q))),
+      )
 
   pub delete-ident : getD Gone (identAt l (t .cell)) 0 ≡ 0
-  unfolding deleteWrites
+  unfolding deleteWrites deleteLinks
   delete-ident =
       run-in
       (write (backAt l (t .after)) (t .before) ∷ write (forwardAt l (t .before)) (t .after) ∷ write (countAt l k) (t .count - 1) ∷ [])
-      (write (identAt l (t .cell)) 0) [] w
-      (subst (λ (a : ℕ). a < length w) (sym (ident-word l (t .cell))) (fits (t .cell) 0 (hc .high) (links-words l _ 0 (omega arith)))) tt
+      (write (identAt l (t .cell)) 0) _ w
+      (subst (λ (a : ℕ). a < length w) (sym (ident-word l (t .cell))) (fits (t .cell) 0 (hc .high) (links-words l _ 0 (omega arith))))
+      (subst (λ (a : ℕ). Spares a (blankAsked l (t .cell))) (sym (ident-word l (t .cell)))
+      (blank-spares (t .cell) 0 (links-words l _ 0 (omega arith)) (λ _ e. omega arith)))
+
+  -- nothing is left of the record
+  pub delete-record : Blank l Gone (t .cell)
+  unfolding deleteWrites
+  delete-record f g =
+      let n = length-replicate {A = ℕ} (tailWords l) 0 in
+      ap (λ (x : List ℕ). getD x (recordAt l (t .cell) + f) 0) (run-append (deleteLinks l k t) (blankAsked l (t .cell)) w)
+      ∙ row-at (recordAt l (t .cell)) (replicate (tailWords l) 0) (run (deleteLinks l k t) w) f
+      (omega (arith, n, node-fits l (t .cell) hc, length-run (deleteLinks l k t) w)) (omega (arith, n))
+      ∙ getD-replicate (tailWords l) f 0 0 g

@@ -6,6 +6,7 @@ use lib.ListN.{length, getD, take, drop}
 use Rattle.stores.specs.Stores.{Write, write, inRow}
 use Rattle.layout.specs.declared.Layout.{Layout}
 use Rattle.layout.specs.Words.{tailWords, InRange, Node, cellCount, identAt, forwardAt, backAt, countAt, recordAt, identOf, wornIdent, Unlisted, sizeOf}
+use Rattle.lists.specs.Lists.{blankAsked}
 use Rattle.lists.specs.Decide.{viewOf}
 use Rattle.requests.specs.declared.Site.{Site}
 use Rattle.requests.specs.Requests.{around, freeCells}
@@ -41,14 +42,18 @@ chain l k a b n (c ∷ cs) words =
 abbrev pub chainAt : Layout → ℕ → ℕ → List ℕ → List ℕ → List ℕ → List Write
 chainAt l k p s cells words = chain l k (getD (k ∷ s) p 0) (getD (s ++ k ∷ []) p 0) (length s) cells words
 
--- "Delete stores four words: b's back = a; a's forward = b, the central one; the count less one; the cell's identifier = 0."
-unfoldable pub deleteWrites : Layout → ℕ → Site → List Write
-deleteWrites l k t =
+-- "Delete stores four words: b's back = a; a's forward = b, the central one; the count less one; the cell's identifier = 0." "Delete gains P
+-- further stores of 0 over the record words, after the identifier, first word first."
+unfoldable pub deleteLinks : Layout → ℕ → Site → List Write
+deleteLinks l k t =
     write (backAt l (t .after)) (t .before)
     ∷ write (forwardAt l (t .before)) (t .after)
     ∷ write (countAt l k) (t .count - 1)
     ∷ write (identAt l (t .cell)) 0
     ∷ []
+
+unfoldable pub deleteWrites : Layout → ℕ → Site → List Write
+deleteWrites l k t = deleteLinks l k t ++ blankAsked l (t .cell)
 
 abbrev pub deleteCentral : ℕ
 deleteCentral = 2

@@ -6,7 +6,7 @@ ghost use mathlib.Core.Path.{_≡_};
 ghost use Prim.Native.Nat.{_+_, _-_, _<_};
 ghost use Rattle.layout.specs.Words.{InRange, linkWords, cellCount, cellAt, countAt, sizeOf};
 ghost use Rattle.stores.specs.Stores.{Listed};
-ghost use Rattle.edits.specs.Edits.{insertLinks, deleteWrites, Placed};
+ghost use Rattle.edits.specs.Edits.{insertLinks, deleteLinks, Placed};
 
 // Six stores, and four: their addresses and their values.
 pub struct Six {
@@ -61,10 +61,10 @@ fn less_one(n: u16) -> u16
     if n == 0 { 0 } else { n - 1 }
 }
 
-// The stores of a delete.
+// The stores of a delete in front of those of the record: the two links past the cell, the count and the cell's identifier.
 pub fn delete_links(l: Layout, k: u16, t: Site) -> Four
     requires { ⌜ Placed l k t ⌝ }
-    ensures { λ r. ⌜ Listed (sizeOf l) (r .at) (r .values) (deleteWrites l k t) ⌝ }
+    ensures { λ r. ⌜ Listed (sizeOf l) (r .at) (r .values) (deleteLinks l k t) ⌝ }
 {
     let back = place(l, t.after, Layout::BACK);
     let forward = place(l, t.before, Layout::FORWARD);

@@ -60,7 +60,7 @@ walkFaults l v a b k n = faultsOf v a b k n (walked l v k)
 
 -- the view the other way round
 abbrev pub turned : View → View
-turned v = record { ident = v .ident; forward = v .back; back = v .forward }
+turned v = record { ident = v .ident; forward = v .back; back = v .forward; blank = v .blank }
 
 -- by the direction of a walk: the words of the links onward and back, a cell, the view, and the faults
 abbrev pub onwardWord : Bool → ℕ

@@ -8,7 +8,7 @@ use native.Mathlib.Nat.{mul-le-mul-left, mul-suc}
 use lib.Dec.{ltb}
 use borrow.Author.Tests.{lt-ltb, le-ltb, ltb-true, ltb-false}
 use Rattle.layout.specs.declared.Layout.{Layout}
-use Rattle.layout.specs.Words.{headWords, headerWords, linkWords, headerAt, firstNode, cellCount, nodeWords, nodeAt, cellAt, cellWords, sizeOf}
+use Rattle.layout.specs.Words.{headWords, headerWords, linkWords, headerAt, firstNode, cellCount, tailWords, nodeWords, nodeAt, cellAt, cellWords, recordAt, sizeOf}
 use Rattle.layout.proofs.Laws.{cell-header, cell-node, header-fits, node-fits}
 
 pub words-header : (l : Layout) (k : ℕ) → k < l .lists → cellWords l k ≡ headerWords
@@ -77,6 +77,11 @@ links-words l i f h = by (ltb i (firstNode l)) refl
     by : (b : Bool) → ltb i (firstNode l) ≡ b → f < cellWords l i
     by true q = omega (arith, words-header l i (ltb-true i (firstNode l) q))
     by false q = omega (arith, words-node l i (ltb-false i (firstNode l) q))
+
+-- a word of a node's tail, as a word of the node
+pub tail-word : (l : Layout) (i f : ℕ) → firstNode l ≤ i → f < tailWords l
+    → (recordAt l i + f ≡ cellAt l i + (linkWords + f)) × (linkWords + f < cellWords l i)
+tail-word l i f h g = (omega (arith, cell-node l i h), omega (arith, words-node l i h))
 
 pub word-fits : (l : Layout) (i f : ℕ) → i < cellCount l → f < cellWords l i → cellAt l i + f < sizeOf l
 word-fits l i f h k = by (ltb i (firstNode l)) refl

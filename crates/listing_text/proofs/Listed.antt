@@ -2,22 +2,21 @@
 use Prim.Native.Nat.{ℕ, zero, suc, _+_, _*_, _%_, _≤_, _<_}
 use mathlib.Core.Path.{_≡_, refl}
 use mathlib.Core.List.{List, [], _∷_, _++_}
-use mathlib.Core.Bool.{Bool, true, false, and-eq-true-iff}
+use mathlib.Core.Bool.{Bool, true, false}
 use native.Mathlib.Omega.{arith}
 use native.Mathlib.Numerals.{add-one}
-use lib.Dec.{eqb}
 use lib.ListN.{length, getD, drop, length-append, length-take}
 use lib.Seq.{getD-take, getD-drop}
-use borrow.Author.Tests.{le-leb, lt-leb, eq-eqb, ne-eqb, eqb-true}
+use borrow.Author.Tests.{le-leb, lt-leb, eq-eqb, ne-eqb}
 use Rattle.sequences.proofs.Members.{all-nth}
 use Rattle.sequences.proofs.Trail.{trail-length, trail-inside}
 use Rattle.layout.specs.declared.Layout.{Layout}
 use Rattle.layout.specs.declared.Opened.the-variants as O
 use Rattle.layout.specs.Words.{mostWidth, InRange, firstNode, isNode, recordAt, opened, inUse}
 use Rattle.layout.proofs.Laws.{is-node}
-use Rattle.lists.specs.Decide.{viewOf, countIn, soundIn, allHold, members, used, sequenceOf, soundOf}
+use Rattle.lists.specs.Decide.{viewOf, countIn, members, sequenceOf, soundOf}
 use Rattle.lists.proofs.Nodes.{cells-few}
-use Rattle.lists.proofs.Stepwise.{members-more}
+use Rattle.lists.proofs.Stepwise.{members-more, sound-number}
 use Rattle.requests.specs.Requests.{siteIn, lookOf}
 use Rattle.edits.specs.Edited.{recordIn}
 use Rattle.byte_form.specs.Bytes.{wordsIn}
@@ -162,12 +161,9 @@ module _ (l : Layout) (w : List ℕ) (r : InRange l) (small : (i : ℕ) → getD
 
   -- as many members as nodes in use
   members-few : soundOf l w ≡ true → length (members l (viewOf l w) (l .lists)) ≤ l .nodes
-  unfolding soundIn
   members-few e =
       let v = viewOf l w in
-      let u = used v (firstNode l) (l .nodes) in
-      let b = and-eq-true-iff (allHold l v (countIn l w) (l .lists)) (eqb (length (members l v (l .lists))) (length u)) .0 e in
-      omega (arith, eqb-true (length (members l v (l .lists))) (length u) (b .1), cells-few inUse v (firstNode l) (l .nodes))
+      omega (arith, sound-number l v (countIn l w) e .1, cells-few inUse v (firstNode l) (l .nodes))
 
   pub listed-short : length (listedOf l w) ≤ longest
   listed-short = by (soundOf l w) refl

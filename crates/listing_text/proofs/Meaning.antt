@@ -12,7 +12,7 @@ use Rattle.layout.specs.Words.{layoutOf, checkWords, nodeAt, cellAt, sizeOf, ma
 use Rattle.layout.proofs.Laws.{size-most}
 use Rattle.sequences.specs.Sequence.{trail, range, filter}
 use Rattle.lists.specs.Lists.{Sound}
-use Rattle.lists.specs.Decide.{sequenceOf, turn, holds, allHold, members, soundIn}
+use Rattle.lists.specs.Decide.{sequenceOf, blankFrom, turn, holds, allHold, members, orderedIn, soundIn}
 use Rattle.lists.proofs.Unique.{list-sequence}
 use Rattle.requests.specs.declared.Request.the-variants.{Check}
 use Rattle.requests.specs.declared.Looked.{Looked}
@@ -44,23 +44,23 @@ lists-same l w s t k (suc n) h e =
     ap₂ (λ (x y : List ℕ). listLines l w k x ++ y) (e k (omega arith)) (lists-same l w s t (suc k) n (omega arith) e)
 
 -- a sound store
-pub listing-sound : (w : List ℕ) (s : Sound w) → listingOf w ≡ soundLines (layoutOf w) w (s .lists .sequence)
+pub listing-sound : (w : List ℕ) (s : Sound w) → listingOf w ≡ soundLines (layoutOf w) w (s .ordered .lists .sequence)
 unfolding soundLines
 listing-sound w s =
     let l = layoutOf w in
     listing-open w (sound-opened w s) ∙ listed-sound l w (sound-decided w s)
     ∙ ap (λ (x : List ℕ). x ++ codes "sound\n")
-    (lists-same l w (sequenceOf l w) (s .lists .sequence) 0 (l .lists) (omega arith)
-    (λ k h. list-sequence l w k h (s .lists .sequence k) (s .lists .lists k h)))
+    (lists-same l w (sequenceOf l w) (s .ordered .lists .sequence) 0 (l .lists) (omega arith)
+    (λ k h. list-sequence l w k h (s .ordered .lists .sequence k) (s .ordered .lists .lists k h)))
 
 -- in byte form a sound store is not longer than the limit of the listing,
 pub sound-bytes : (b : List ℕ) → length b % 2 ≡ 0 → Sound (wordsIn b) → length b ≤ mostBytes
 sound-bytes b e s =
-    omega (arith, length-words b, s .exact, size-most (layoutOf (wordsIn b)) (s .inRange))
+    omega (arith, length-words b, s .ordered .exact, size-most (layoutOf (wordsIn b)) (s .ordered .inRange))
 
 -- so its listing is that of its words
 pub byte-listing-sound : (b : List ℕ) → length b % 2 ≡ 0 → (s : Sound (wordsIn b))
-    → byteListing b ≡ soundLines (layoutOf (wordsIn b)) (wordsIn b) (s .lists .sequence)
+    → byteListing b ≡ soundLines (layoutOf (wordsIn b)) (wordsIn b) (s .ordered .lists .sequence)
 byte-listing-sound b e s = bytes-even b (sound-bytes b e s) e ∙ listing-sound (wordsIn b) s
 
 -- and no refusal: the first letter of such a listing is the l of `list`
@@ -76,7 +76,7 @@ pub byte-listing-granted : (b : List ℕ) → length b % 2 ≡ 0 → Sound (word
 unfolding refusedLine
 byte-listing-granted b e s n r =
     let z : _≡_ {A = ℕ} 108 114 =
-    sym (sound-first (layoutOf (wordsIn b)) (wordsIn b) (s .lists .sequence) (s .inRange .someLists))
+    sym (sound-first (layoutOf (wordsIn b)) (wordsIn b) (s .ordered .lists .sequence) (s .ordered .inRange .someLists))
     ∙ ap (λ (x : List ℕ). getD x 0 0) (sym (byte-listing-sound b e s) ∙ r) in
     omega arith
 
@@ -84,5 +84,5 @@ byte-listing-granted b e s n r =
 pub listing-C3
     : listingOf (82 ∷ 66 ∷ 83 ∷ 1 ∷ 1 ∷ 3 ∷ 1 ∷ 0 ∷ 42400 ∷ 2 ∷ 3 ∷ 2 ∷ 0 ∷ 0 ∷ 0 ∷ 0 ∷ 42400 ∷ 3 ∷ 0 ∷ 700 ∷ 42400 ∷ 0 ∷ 2 ∷ 512 ∷ [])
     ≡ codes "list 0 count 2\n0 2 700\n1 3 512\nsound\n"
-unfolding range filter trail isNode checkWords nodeAt cellAt sizeOf marked inRange openedBy turn holds allHold members soundIn siteIn lookOf digits decimal spaced recordLine recordLines listLine listLines listsFrom refusedLine soundLines listingOf
+unfolding range filter trail isNode checkWords nodeAt cellAt sizeOf marked inRange openedBy blankFrom turn holds allHold members orderedIn soundIn siteIn lookOf digits decimal spaced recordLine recordLines listLine listLines listsFrom refusedLine soundLines listingOf
 listing-C3 = refl

@@ -1,6 +1,7 @@
--- What is decided is what the definition says: `soundOf` is true exactly if the lists are sound.
+-- What is decided is what the definition says: `orderedOf` is true exactly if the lists are sound, and `soundOf` if the records of all nodes in
+-- none of them that are not worn are blank besides.
 use Prim.Native.Nat.{ℕ, zero, suc, _+_, _<_, _≤_}
-use mathlib.Core.Path.{_≡_, refl, sym, subst}
+use mathlib.Core.Path.{_≡_, refl, ap, sym, subst}
 use mathlib.Core.List.{List, List·Memᴰ·append-cases, Memᴰ·append-left, Memᴰ·append-right}
 use mathlib.Core.Bool.{Bool, true, false, and-eq-true-iff}
 use mathlib.Core.Logic.{_⊎_, inl, inr, ⊎-elim}
@@ -15,10 +16,11 @@ use Rattle.sequences.proofs.Pigeonhole.{pigeonhole, pigeonhole-less}
 use Rattle.sequences.proofs.Range.{range-different}
 use Rattle.sequences.proofs.Filter.{filter-different}
 use Rattle.layout.specs.declared.Layout.{Layout}
-use Rattle.layout.specs.Words.{firstNode, Node, InRange, identAt, Unlisted, inUse}
-use Rattle.lists.specs.Lists.{IsList, SoundLists}
-use Rattle.lists.specs.Decide.{View, viewOf, countIn, sequenceIn, sequenceOf, holds, allHold, members, used, soundIn, soundOf}
-use Rattle.lists.proofs.Nodes.{in-use, unused, list-used, used-is, is-used}
+use Rattle.layout.specs.Words.{firstNode, Node, InRange, identAt, Unlisted, free, worn, inUse}
+use Rattle.lists.specs.Lists.{IsList, SoundLists, Blank, Wiped}
+use Rattle.lists.specs.Decide.{View, viewOf, countIn, sequenceIn, sequenceOf, holds, allHold, members, used, unwiped, orderedIn, soundIn, orderedOf, soundOf}
+use Rattle.lists.proofs.Nodes.{in-use, unused, list-used, unlisted-out, used-is, is-used}
+use Rattle.lists.proofs.Blank.{words-blank, blank-words, none-unwiped, all-wiped}
 use Rattle.lists.proofs.Unique.{list-sequence, holds-list, list-holds, member-ident, lists-disjoint}
 
 -- below n + 1: n, or below n
@@ -98,9 +100,9 @@ module _ (l : Layout) (range : InRange l) (w : List ℕ) where
       (list-used range (r .1) (member-ident l w (r .0) (sequenceOf l w (r .0)) x i (r .2)))
 
   -- decided true: the lists are sound
-  pub sound-lists : soundOf l w ≡ true → SoundLists l w
-  unfolding soundIn
-  sound-lists e = record { sequence = sequenceOf l w; lists = listed; outside = unlisted }
+  pub ordered-lists : orderedOf l w ≡ true → SoundLists l w
+  unfolding orderedIn
+  ordered-lists e = record { sequence = sequenceOf l w; lists = listed; outside = unlisted }
     where
       parts : (allHold l (viewOf l w) (countIn l w) (l .lists) ≡ true) × (eqb (length All-members) (length Used) ≡ true)
       parts = and-eq-true-iff (allHold l (viewOf l w) (countIn l w) (l .lists)) (eqb (length All-members) (length Used)) .0 e
@@ -125,9 +127,9 @@ module _ (l : Layout) (range : InRange l) (w : List ℕ) where
               ))
 
   -- the lists are sound: decided true
-  pub lists-sound : SoundLists l w → soundOf l w ≡ true
-  unfolding soundIn
-  lists-sound s =
+  pub lists-ordered : SoundLists l w → orderedOf l w ≡ true
+  unfolding orderedIn
+  lists-ordered s =
       and-eq-true-iff (allHold l (viewOf l w) (countIn l w) (l .lists)) (eqb (length All-members) (length Used)) .1 (
         at-all-hold l (viewOf l w) (countIn l w) (l .lists) (λ k h. list-holds l w k h (s .sequence k) (s .lists k h)),
         eq-eqb (length All-members) (length Used) (omega (
@@ -154,3 +156,35 @@ module _ (l : Layout) (range : InRange l) (w : List ℕ) where
           by (inr q) =
               absurd (u .2 (s .outside x (record { low = u .0; high = u .1 })
               (λ k h p. q (one-members l (viewOf l w) (l .lists) k x h (subst (λ (t : List ℕ). x ∈ t) (sym (same k h)) p)))))
+
+  -- a store decided sound: its lists are sound, ..
+  sound-parts : soundOf l w ≡ true → (orderedOf l w ≡ true) × (length (unwiped (viewOf l w) (firstNode l) (l .nodes)) ≡ 0)
+  unfolding soundIn
+  sound-parts e =
+      let a = and-eq-true-iff (orderedOf l w) (eqb (length (unwiped (viewOf l w) (firstNode l) (l .nodes))) 0) .0 e in
+      (a .0, eqb-true _ 0 (a .1))
+
+  pub sound-lists : soundOf l w ≡ true → SoundLists l w
+  sound-lists e = ordered-lists (sound-parts e .0)
+
+  -- .. and a node in none of them that is not worn is free, so its record is blank
+  pub sound-wiped : soundOf l w ≡ true → (s : SoundLists l w) → Wiped l w (s .sequence)
+  sound-wiped e s i n out z = by (s .outside i n out)
+    where
+      by : Unlisted (getD w (identAt l i) 0) → Blank l w i
+      by (worn q) = absurd (z q)
+      by (free q) = blank-words l w i (none-unwiped (viewOf l w) (firstNode l) (l .nodes) (sound-parts e .1) i (n .low) (n .high) q)
+
+  -- the lists are sound, and so are the records: decided true
+  pub lists-sound : (s : SoundLists l w) → Wiped l w (s .sequence) → soundOf l w ≡ true
+  unfolding soundIn
+  lists-sound s h =
+      and-eq-true-iff (orderedOf l w) (eqb (length (unwiped (viewOf l w) (firstNode l) (l .nodes))) 0) .1 (
+        lists-ordered s,
+        eq-eqb (length (unwiped (viewOf l w) (firstNode l) (l .nodes))) 0 (ap length (all-wiped (viewOf l w) (firstNode l) (l .nodes) blank)),
+      )
+    where
+      blank : (i : ℕ) → firstNode l ≤ i → i < firstNode l + l .nodes → viewOf l w .ident i ≡ 0 → viewOf l w .blank i ≡ true
+      blank i low high z =
+          words-blank l w i
+          (h i (record { low = low; high = high }) (λ k g. unlisted-out l w k (s .sequence k) range g (s .lists k g) i (free z)) (λ q. omega (arith, z, q)))

@@ -7,7 +7,7 @@ use native.Mathlib.Nat.{add-zero}
 use lib.ListN.{getD}
 use Rattle.sequences.specs.Sequence.{steps}
 use Rattle.layout.specs.declared.Layout.{Layout}
-use Rattle.layout.specs.Words.{headerWords, forwardWord, backWord, countWord, nodesAt, nodeAt, cellAt, InRange, layoutOf, emptyHeader, formatted, free}
+use Rattle.layout.specs.Words.{headerWords, forwardWord, backWord, countWord, nodesAt, nodeAt, cellAt, recordAt, InRange, layoutOf, emptyHeader, formatted, free}
 use Rattle.layout.proofs.Laws.{cell-header, cell-node, length-formatted, formatted-header, formatted-node, formatted-marked}
 use Rattle.lists.specs.Lists.{IsList, SoundLists, Sound}
 use Rattle.lists.proofs.Agree.{holds-agrees}
@@ -51,13 +51,17 @@ pub formatted-sound : (l : Layout) → InRange l → Sound (formatted l)
 unfolding formatted
 formatted-sound l r =
     record {
-      marked = formatted-marked l r;
-      inRange = r;
-      exact = length-formatted l;
-      lists = formatted-lists l;
+      ordered =
+          record {
+            marked = formatted-marked l r;
+            inRange = r;
+            exact = length-formatted l;
+            lists = formatted-lists l;
+          };
+      wiped = λ i n _ _ f _. formatted-node l (recordAt l i + f) (omega (arith, node-behind l i));
     }
 
 -- of this layout, and each list is empty
-pub formatted-empty : (l : Layout) → InRange l → (s : Sound (formatted l)) × (layoutOf (formatted l) ≡ l) × ((k : ℕ) → s .lists .sequence k ≡ [])
+pub formatted-empty : (l : Layout) → InRange l → (s : Sound (formatted l)) × (layoutOf (formatted l) ≡ l) × ((k : ℕ) → s .ordered .lists .sequence k ≡ [])
 unfolding formatted formatted-lists formatted-sound
 formatted-empty l r = (formatted-sound l r, refl, λ k. refl)

@@ -1,6 +1,7 @@
 pub mod Agree
 pub mod Unique
 pub mod Nodes
+pub mod Blank
 pub mod Decided
 pub mod Empty
 pub mod Same

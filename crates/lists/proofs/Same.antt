@@ -1,4 +1,4 @@
--- A list, and the soundness of a store, depend only on the words of the cells concerned.
+-- A list, and the order of a store, depend only on the words of the cells concerned.
 use Prim.Native.Nat.{ℕ, _+_, _<_}
 use mathlib.Core.Path.{_≡_, refl, ap, _∙_, sym, subst, subst⁻¹}
 use mathlib.Core.List.{List, [], _∷_, _++_, List·Memᴰ·head, List·Memᴰ·tail}
@@ -12,7 +12,7 @@ use Rattle.layout.specs.declared.Layout.{Layout}
 use Rattle.layout.specs.Words.{headWords, forwardWord, backWord, countWord, cellCount, Node, InRange, marked, layoutOf, sizeOf, openedBy, opened, cellAt, identAt, countAt, identOf, wornIdent, Unlisted}
 use Rattle.layout.proofs.Laws.{cell-header}
 use Rattle.layout.proofs.Apart.{links-words, words-header}
-use Rattle.lists.specs.Lists.{IsList, SoundLists, Sound, SameCells, KeepsWorn}
+use Rattle.lists.specs.Lists.{IsList, SoundLists, Ordered, Sound, Wiped, SameCells, KeepsWorn}
 use Rattle.lists.specs.Decide.{viewOf}
 use Rattle.lists.proofs.Agree.{agrees-holds, holds-agrees}
 use Rattle.lists.proofs.Unique.{member-ident}
@@ -119,11 +119,11 @@ pub same-opened : (w w′ : List ℕ) → ((a : ℕ) → a < headWords → getD 
 unfolding openedBy
 same-opened w w′ h e = rw (same-marked w w′ h, same-layout w w′ h, e)
 
--- sound words, other words with the same first eight and the same length, and sound lists there: these are sound too
-pub same-sound
-    : (w w′ : List ℕ) → Sound w → ((a : ℕ) → a < headWords → getD w′ a 0 ≡ getD w a 0) → length w′ ≡ length w
-    → (x : SoundLists (layoutOf w) w′) → (y : Sound w′) × (y .lists .sequence ≡ x .sequence)
-same-sound w w′ s h e x = (
+-- ordered words, other words with the same first eight and the same length, and sound lists there: these are ordered too
+pub same-ordered
+    : (w w′ : List ℕ) → Ordered w → ((a : ℕ) → a < headWords → getD w′ a 0 ≡ getD w a 0) → length w′ ≡ length w
+    → (x : SoundLists (layoutOf w) w′) → (y : Ordered w′) × (y .lists .sequence ≡ x .sequence)
+same-ordered w w′ s h e x = (
   record {
     marked = same-marked w w′ h ∙ s .marked;
     inRange = subst InRange back (s .inRange);
@@ -143,3 +143,18 @@ same-sound w w′ s h e x = (
   where
     back : layoutOf w ≡ layoutOf w′
     back = sym (same-layout w w′ h)
+
+-- and sound too, if the records of nodes in none of these lists are wiped
+pub same-sound
+    : (w w′ : List ℕ) → Ordered w → ((a : ℕ) → a < headWords → getD w′ a 0 ≡ getD w a 0) → length w′ ≡ length w
+    → (x : SoundLists (layoutOf w) w′) → Wiped (layoutOf w) w′ (x .sequence) → (y : Sound w′) × (y .ordered .lists .sequence ≡ x .sequence)
+same-sound w w′ s h e x wiped =
+    let y = same-ordered w w′ s h e x in (
+      record {
+        ordered = y .0;
+        wiped =
+            subst (λ (m : Layout). Wiped m w′ (y .0 .lists .sequence)) (sym (same-layout w w′ h))
+            (subst (Wiped (layoutOf w) w′) (sym (y .1)) wiped);
+      },
+      y .1,
+    )

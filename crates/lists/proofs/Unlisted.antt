@@ -1,4 +1,4 @@
--- A node in no list is given another identifier that says so: all lists stay as they were.
+-- A node in no list is given another identifier that says so: all lists stay as they were, and the records of the other nodes.
 use Prim.Native.Nat.{ℕ, _+_, _<_}
 use mathlib.Core.Path.{_≡_, ap, _∙_, sym, subst}
 use mathlib.Core.List.{List, _∷_, List·Memᴰ·head, List·Memᴰ·tail}
@@ -8,12 +8,12 @@ use lib.ListN.{length, getD, set, length-set}
 use lib.Seq.{getD-set-same, getD-set-other}
 use Rattle.sequences.specs.Sequence.{_∈_}
 use Rattle.layout.specs.declared.Layout.{Layout}
-use Rattle.layout.specs.Words.{headWords, Node, cellAt, cellWords, identAt, Unlisted, layoutOf}
-use Rattle.layout.proofs.Apart.{cells-apart, links-words, word-fits, cell-behind}
-use Rattle.lists.specs.Lists.{SoundLists, Sound, SameCells}
-use Rattle.lists.proofs.Same.{ident-word, list-same, same-layout, same-sound}
+use Rattle.layout.specs.Words.{headWords, linkWords, Node, cellAt, cellWords, identAt, recordAt, wornIdent, Unlisted, layoutOf}
+use Rattle.layout.proofs.Apart.{cells-apart, words-apart, links-words, tail-word, word-fits, cell-behind}
+use Rattle.lists.specs.Lists.{SoundLists, Ordered, Blank, Wiped, SameCells}
+use Rattle.lists.proofs.Same.{ident-word, list-same, same-layout, same-ordered}
 
-module _ (w : List ℕ) (s : Sound w) (c : ℕ) (node : Node (layoutOf w) c) (out : (k : ℕ) → k < layoutOf w .lists → c ∈ s .lists .sequence k → ⊥)
+module _ (w : List ℕ) (s : Ordered w) (c : ℕ) (node : Node (layoutOf w) c) (out : (k : ℕ) → k < layoutOf w .lists → c ∈ s .lists .sequence k → ⊥)
     (v : ℕ) where
   abbrev l : Layout
   l = layoutOf w
@@ -63,6 +63,31 @@ module _ (w : List ℕ) (s : Sound w) (c : ℕ) (node : Node (layoutOf w) c) (ou
             ∙ ap (λ (a : ℕ). getD w a 0) (sym (ident-word l i))))
             (s .lists .outside i n o)
 
-    pub given-sound : (s′ : Sound Given) × (s′ .lists .sequence ≡ s .lists .sequence)
+    pub given-ordered : (s′ : Ordered Given) × (s′ .lists .sequence ≡ s .lists .sequence)
     unfolding given-lists
-    given-sound = same-sound w Given s head (length-set w (identAt l c) v) given-lists
+    given-ordered = same-ordered w Given s head (length-set w (identAt l c) v) given-lists
+
+  -- and the records of the others stay blank, so all are where this one is worn or was blank
+  pub given-wiped : Wiped l w (s .lists .sequence) → ((v ≡ wornIdent → ⊥) → Blank l w c) → Wiped l Given (s .lists .sequence)
+  given-wiped h b i n o z f g = by (ℕ-discrete i c)
+    where
+      word : (recordAt l i + f ≡ cellAt l i + (linkWords + f)) × (linkWords + f < cellWords l i)
+      word = tail-word l i f (n .low) g
+
+      same : getD Given (recordAt l i + f) 0 ≡ getD w (recordAt l i + f) 0
+      same =
+          getD-set-other w (identAt l c) (recordAt l i + f) v 0
+          (λ e. words-apart l i c (linkWords + f) 0 (λ _ q. omega arith) (word .1) (links-words l c 0 (omega arith)) (sym (word .0) ∙ e ∙ ident-word l c))
+
+      ident : (x : ℕ) → (x ≡ c → ⊥) → getD Given (identAt l x) 0 ≡ getD w (identAt l x) 0
+      ident x q =
+          ap (λ (a : ℕ). getD Given a 0) (ident-word l x) ∙ kept x 0 q (links-words l x 0 (omega arith)) ∙ ap (λ (a : ℕ). getD w a 0) (sym (ident-word l x))
+
+      by : Dec (i ≡ c) → getD Given (recordAt l i + f) 0 ≡ 0
+      by (yes e) =
+          same
+          ∙ subst (λ (j : ℕ). getD w (recordAt l j + f) 0 ≡ 0) (sym e)
+          (b (λ q. z (ap (λ (j : ℕ). getD Given (identAt l j) 0) e ∙ given-ident ∙ q)) f g)
+      by (no q) =
+          same
+          ∙ h i n o (λ y. z (ident i q ∙ y)) f g

@@ -3,11 +3,11 @@ use Prim.Native.Nat.{ℕ, _+_, _<_}
 use mathlib.Core.Path.{_≡_}
 use mathlib.Core.List.{List, [], _∷_, _++_, map}
 use mathlib.Core.Bool.{true}
-use lib.ListN.{length, getD}
+use lib.ListN.{length, getD, replicate}
 use Rattle.sequences.specs.Sequence.{_∈_, All, Different, steps}
-use Rattle.stores.specs.Stores.{Write, write}
+use Rattle.stores.specs.Stores.{Write, write, inRow}
 use Rattle.layout.specs.declared.Layout.{Layout}
-use Rattle.layout.specs.Words.{cellAt, cellWords, Node, InRange, marked, layoutOf, sizeOf, identAt, forwardAt, backAt, countAt, identOf, wornIdent, Unlisted}
+use Rattle.layout.specs.Words.{cellAt, cellWords, tailWords, Node, InRange, marked, layoutOf, sizeOf, identAt, forwardAt, backAt, countAt, recordAt, identOf, wornIdent, Unlisted}
 
 -- What a sequence s asks of list k, as the stores that would make it so. "header and members carry identifier 42,400 + k;
 abbrev pub identsAsked : Layout → ℕ → List ℕ → List Write
@@ -50,15 +50,33 @@ pub record IsList (l : Layout) (w : List ℕ) (k : ℕ) (s : List ℕ) : Type 0 
   pub different : Different s
   pub agrees : Agrees w (asked l k s)
 
--- "For each list k some sequence .. Every node in no list has identifier 0" or is worn; "its links and record words are free."
+-- "For each list k some sequence .. Every node in no list has identifier 0" or is worn.
 pub record SoundLists (l : Layout) (w : List ℕ) : Type 0 where
   pub sequence : ℕ → List ℕ
   pub lists : (k : ℕ) → k < l .lists → IsList l w k (sequence k)
   pub outside : (i : ℕ) → Node l i → ((k : ℕ) → k < l .lists → i ∈ sequence k → ⊥) → Unlisted (getD w (identAt l i) 0)
 
--- "A sound store: words 0 to 7 are as above", the length is exact, and the lists are sound
-pub record Sound (w : List ℕ) : Type 0 where
+-- "words 0 to 7 are as above", the length is exact, and the lists are sound. That was a sound store until records were wiped, and it is all
+-- that recovery needs.
+pub record Ordered (w : List ℕ) : Type 0 where
   pub marked : marked w ≡ true
   pub inRange : InRange (layoutOf w)
   pub exact : length w ≡ sizeOf (layoutOf w)
   pub lists : SoundLists (layoutOf w) w
+
+-- all record words of node c are 0; and what that asks of the words
+abbrev pub Blank : Layout → List ℕ → ℕ → Type 0
+Blank l w c = (f : ℕ) → f < tailWords l → getD w (recordAt l c + f) 0 ≡ 0
+
+abbrev pub blankAsked : Layout → ℕ → List Write
+blankAsked l c = inRow (recordAt l c) (replicate (tailWords l) 0)
+
+-- "zero record words in every node that is in no list and isn't worn": the lists have these sequences
+abbrev pub Wiped : Layout → List ℕ → (ℕ → List ℕ) → Type 0
+Wiped l w sequence =
+    (i : ℕ) → Node l i → ((k : ℕ) → k < l .lists → i ∈ sequence k → ⊥) → (getD w (identAt l i) 0 ≡ wornIdent → ⊥) → Blank l w i
+
+-- "A sound store now has zero record words in every node that is in no list and isn't worn"
+pub record Sound (w : List ℕ) : Type 0 where
+  pub ordered : Ordered w
+  pub wiped : Wiped (layoutOf w) w (ordered .lists .sequence)

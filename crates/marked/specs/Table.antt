@@ -81,13 +81,16 @@ abbrev pub c4cut : List ℕ
 c4cut = store (cell 42400 2 2 2) (cell 0 0 0 0) (cell 42400 0 0 700) (cell 42400 0 2 512)
 
 abbrev pub c4 : List ℕ
-c4 = store (cell 42400 2 2 1) (cell 0 0 0 0) (cell 42400 0 0 700) (cell 0 0 2 512)
+c4 = store (cell 42400 2 2 1) (cell 0 0 0 0) (cell 42400 0 0 700) (cell 0 0 2 0)
 
 abbrev pub c5cut : List ℕ
 c5cut = store (cell 42400 2 2 2) (cell 0 0 0 0) (cell 42400 3 0 700) (cell 42400 0 2 512)
 
 abbrev pub c6 : List ℕ
-c6 = store (cell 42400 3 3 1) (cell 0 0 0 0) (cell 0 3 0 700) (cell 42400 0 0 512)
+c6 = store (cell 42400 3 3 1) (cell 0 0 0 0) (cell 0 3 0 0) (cell 42400 0 0 512)
+
+abbrev pub c6old : List ℕ
+c6old = store (cell 42400 3 3 1) (cell 0 0 0 0) (cell 0 3 0 700) (cell 42400 0 0 512)
 
 abbrev pub c6cut : List ℕ
 c6cut = store (cell 42400 2 3 2) (cell 0 0 0 0) (cell 42400 3 0 700) (cell 42400 0 0 512)
@@ -144,7 +147,7 @@ rows3 =
     ∷ record { words = c3; call = read 0 1; outcome = record { ended = number 0; values = 512 ∷ []; stores = []; words = c3 } }
     ∷ []
 
--- C4. "C3 cut after 5 stores: recovery gives 700 alone; it stores 11 = 1, 20 = 0."
+-- C4. "C3 cut after 5 stores: recovery gives 700 alone; it stores 11 = 1, 20 = 0." "C4 gains the store 23 = 0"
 abbrev pub rows4 : List Row
 rows4 =
     record {
@@ -161,7 +164,7 @@ rows4 =
     ∷ record {
       words = c4cut;
       call = recover 65535;
-      outcome = record { ended = done 2; values = []; stores = write 11 1 ∷ write 20 0 ∷ []; words = c4 };
+      outcome = record { ended = done 3; values = []; stores = write 11 1 ∷ write 20 0 ∷ write 23 0 ∷ []; words = c4 };
     }
     ∷ record { words = c4; call = check; outcome = record { ended = number 0; values = []; stores = []; words = c4 } }
     ∷ record { words = c4; call = lengthOf 0; outcome = record { ended = number 0; values = 1 ∷ []; stores = []; words = c4 } }
@@ -191,14 +194,27 @@ rows5 =
     ∷ record { words = c3; call = read 0 0; outcome = record { ended = number 0; values = 700 ∷ []; stores = []; words = c3 } }
     ∷ []
 
--- C6. "From C3, delete position 0: 22 = 0, 9 = 3, 11 = 1, 16 = 0. Cut after 1: both records stay, one store, 22 = 2."
+-- C6. "From C3, delete position 0: 22 = 0, 9 = 3, 11 = 1, 16 = 0. Cut after 1: both records stay, one store, 22 = 2." "C6's delete .. 19 = 0".
+-- Without that store it is an older store, "older stores get so by recovery".
 abbrev pub rows6 : List Row
 rows6 =
     record {
       words = c3;
+      call = delete 0 0 5;
+      outcome =
+          record { ended = done 5; values = []; stores = write 22 0 ∷ write 9 3 ∷ write 11 1 ∷ write 16 0 ∷ write 19 0 ∷ []; words = c6 };
+    }
+    ∷ record {
+      words = c3;
       call = delete 0 0 4;
       outcome =
-          record { ended = done 4; values = []; stores = write 22 0 ∷ write 9 3 ∷ write 11 1 ∷ write 16 0 ∷ []; words = c6 };
+          record { ended = stopped 4; values = []; stores = write 22 0 ∷ write 9 3 ∷ write 11 1 ∷ write 16 0 ∷ []; words = c6old };
+    }
+    ∷ record { words = c6old; call = check; outcome = record { ended = number 6; values = []; stores = []; words = c6old } }
+    ∷ record {
+      words = c6old;
+      call = recover 65535;
+      outcome = record { ended = done 1; values = []; stores = write 19 0 ∷ []; words = c6 };
     }
     ∷ record { words = c3; call = delete 0 0 1; outcome = record { ended = stopped 1; values = []; stores = write 22 0 ∷ []; words = c6cut } }
     ∷ record {
@@ -208,7 +224,7 @@ rows6 =
     }
     ∷ []
 
--- C7. "The same cut after 2: 512 alone; stores 11 = 1, 16 = 0."
+-- C7. "The same cut after 2: 512 alone; stores 11 = 1, 16 = 0." "C7's recovery 19 = 0"
 abbrev pub rows7 : List Row
 rows7 =
     record {
@@ -219,7 +235,7 @@ rows7 =
     ∷ record {
       words = c7cut;
       call = recover 65535;
-      outcome = record { ended = done 2; values = []; stores = write 11 1 ∷ write 16 0 ∷ []; words = c6 };
+      outcome = record { ended = done 3; values = []; stores = write 11 1 ∷ write 16 0 ∷ write 19 0 ∷ []; words = c6 };
     }
     ∷ record { words = c6; call = check; outcome = record { ended = number 0; values = []; stores = []; words = c6 } }
     ∷ record { words = c6; call = lengthOf 0; outcome = record { ended = number 0; values = 1 ∷ []; stores = []; words = c6 } }

@@ -1,5 +1,5 @@
 -- Who is left over. The members of the sequences that fit are different nodes. If all of them carry an identifier that says in use and
--- they are as many as the nodes that do, no other node does, and recovery clears nothing.
+-- they are as many as the nodes that do, no other node does: recovery clears nothing, and the nodes to be wiped are the free ones.
 use Prim.Native.Nat.{ℕ, zero, suc, _+_, _<_, _≤_}
 use mathlib.Core.Path.{_≡_, refl, ap, ap₂, _∙_, sym}
 use mathlib.Core.List.{List, []}
@@ -10,16 +10,17 @@ use Rattle.sequences.specs.Sequence.{_∈_, Different}
 use Rattle.sequences.proofs.Members.{all-in, different-append}
 use Rattle.sequences.proofs.Pigeonhole.{pigeonhole-less}
 use Rattle.layout.specs.declared.Layout.{Layout}
-use Rattle.layout.specs.Words.{Node, InRange, firstNode, identAt, Unlisted, inUse}
-use Rattle.lists.specs.Lists.{asked}
-use Rattle.lists.specs.Decide.{viewOf, countIn, used}
+use Rattle.layout.specs.Words.{Node, InRange, firstNode, identAt, wornIdent, Unlisted, free, worn, inUse}
+use Rattle.lists.specs.Lists.{asked, Blank}
+use Rattle.lists.specs.Decide.{viewOf, countIn, used, unwiped}
 use Rattle.lists.proofs.Nodes.{in-use, unused, is-used}
+use Rattle.lists.proofs.Blank.{blank-words, none-unwiped}
 use Rattle.recovery.specs.Fits.{wrong, Fits}
-use Rattle.recovery.specs.Plan.{joined, clearsAsked, fittingOf}
+use Rattle.recovery.specs.Plan.{joined, clearsAsked, wipesAsked, fittingOf}
 use Rattle.recovery.proofs.Required.{agrees-wrong}
 use Rattle.recovery.proofs.Joined.{joined-one}
 use Rattle.recovery.proofs.Disjoint.{fits-disjoint}
-use Rattle.recovery.proofs.Whole.{clear-none, fit-accepted}
+use Rattle.recovery.proofs.Whole.{clear-none, wipe-none, fit-accepted}
 use Rattle.fitting.specs.declared.Faults.{Faults}
 use Rattle.fitting.specs.Fitting.{numberOf, fitIn, lengthBy, carries}
 use Rattle.mending.specs.Mending.{total}
@@ -68,9 +69,8 @@ module _ (l : Layout) (w : List ℕ) (s : ℕ → List ℕ) (fits : (k : ℕ) �
       is-used (viewOf l w) (firstNode l) (l .nodes) x (n .low) (n .high) (carry (r .0) (r .1) x (r .2))
 
   -- so if no more nodes are, all others are free or worn
-  none-else : length Members ≡ length Used → wrong w (clearsAsked l w s) ≡ []
-  none-else e =
-      agrees-wrong w (clearsAsked l w s) (clear-none l w s (λ c n o. by c n o (inUse (getD w (identAt l c) 0)) refl))
+  none-else : length Members ≡ length Used → (c : ℕ) → Node l c → (c ∈ Members → ⊥) → Unlisted (getD w (identAt l c) 0)
+  none-else e c n o = by c n o (inUse (getD w (identAt l c) 0)) refl
     where
       by : (c : ℕ) → Node l c → (c ∈ Members → ⊥) → (b : Bool) → inUse (getD w (identAt l c) 0) ≡ b → Unlisted (getD w (identAt l c) 0)
       by c n o false z = unused _ z
@@ -83,13 +83,13 @@ module _ (l : Layout) (w : List ℕ) (s : ℕ → List ℕ) (fits : (k : ℕ) �
           ))
 
 -- As it is told by the faults: no list is refused, all members carry an identifier that says in use, and they are as many as the nodes
--- that do. Then nothing is to be cleared.
+-- that do. Then every node in no list is free or worn.
 pub nothing-left : (l : Layout) → InRange l → (w : List ℕ)
     → ((k : ℕ) → k < l .lists → numberOf (fitIn l (viewOf l w) k (countIn l w k)) ≡ 0)
     → ((k : ℕ) → k < l .lists → carries (viewOf l w .ident) (faultAt l (viewOf l w) (countIn l w) k) ≡ true)
     → total (λ k. lengthBy (faultAt l (viewOf l w) (countIn l w) k) (countIn l w k)) (l .lists)
     ≡ length (used (viewOf l w) (firstNode l) (l .nodes))
-    → wrong w (clearsAsked l w (fittingOf l w)) ≡ []
+    → (c : ℕ) → Node l c → (c ∈ joined (fittingOf l w) (l .lists) → ⊥) → Unlisted (getD w (identAt l c) 0)
 nothing-left l r w fitted carried number =
     none-else l w s fits
     (λ k h. members-carry (viewOf l w) k (countIn l w k) (s k) (few k h)
@@ -109,3 +109,17 @@ nothing-left l r w fitted carried number =
 
     few : (k : ℕ) → k < l .lists → Few (faultSum l w k (s k))
     few k h = few-summed l (faultSum l w k (s k)) (wrong w (asked l k (s k))) (summed-forward l w k (s k) h) (fits k h .few)
+
+-- so nothing is to be cleared ..
+pub clears-nothing : (l : Layout) (w : List ℕ) (s : ℕ → List ℕ) → ((c : ℕ) → Node l c → (c ∈ joined s (l .lists) → ⊥) → Unlisted (getD w (identAt l c) 0))
+    → wrong w (clearsAsked l w s) ≡ []
+clears-nothing l w s h = agrees-wrong w (clearsAsked l w s) (clear-none l w s h)
+
+-- .. nor to be wiped, if no free node has a record
+pub wipes-nothing : (l : Layout) (w : List ℕ) (s : ℕ → List ℕ) → ((c : ℕ) → Node l c → (c ∈ joined s (l .lists) → ⊥) → Unlisted (getD w (identAt l c) 0))
+    → length (unwiped (viewOf l w) (firstNode l) (l .nodes)) ≡ 0 → wrong w (wipesAsked l w s) ≡ []
+wipes-nothing l w s h e = agrees-wrong w (wipesAsked l w s) (wipe-none l w w s (λ c n o z. by c n z (h c n o)))
+  where
+    by : (c : ℕ) → Node l c → (getD w (identAt l c) 0 ≡ wornIdent → ⊥) → Unlisted (getD w (identAt l c) 0) → Blank l w c
+    by c n z (worn q) = absurd (z q)
+    by c n z (free q) = blank-words l w c (none-unwiped (viewOf l w) (firstNode l) (l .nodes) e c (n .low) (n .high) q)

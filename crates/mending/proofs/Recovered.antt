@@ -1,7 +1,7 @@
 -- What is found of all lists is the plan of recovery.
 use Prim.Native.Nat.{ℕ, zero, suc, _+_, _<_, _≤_}
 use mathlib.Core.Path.{_≡_, refl, ap, ap₂, _∙_, sym, subst}
-use mathlib.Core.List.{List, _++_, append-nil, append-assoc}
+use mathlib.Core.List.{List, [], _++_, append-nil, append-assoc}
 use mathlib.Core.Bool.{Bool, true, false, cond, _&&_, and-eq-true-iff}
 use native.Mathlib.Omega.{arith}
 use native.Mathlib.Nat.{eq-or-lt-of-le}
@@ -10,22 +10,24 @@ use lib.Dec.{eqb}
 use lib.ListN.{length, getD}
 use borrow.Author.Tests.{eq-eqb, ne-eqb, eqb-true}
 use Rattle.sequences.specs.Sequence.{_∈_}
-use Rattle.stores.specs.Stores.{Write, refuse, stores, writesIn}
+use Rattle.stores.specs.Stores.{Write, run, refuse, stores, writesIn}
 use Rattle.layout.specs.declared.Layout.{Layout}
-use Rattle.layout.specs.Words.{firstNode, Node, InRange}
+use Rattle.layout.specs.Words.{firstNode, Node, InRange, sizeOf, identAt, Unlisted}
 use Rattle.lists.specs.Lists.{asked}
-use Rattle.lists.specs.Decide.{View, viewOf, countIn, used}
+use Rattle.lists.specs.Decide.{View, viewOf, countIn, used, unwiped}
 use Rattle.recovery.specs.Fits.{wrong}
-use Rattle.recovery.specs.Plan.{joined, listsAsked, clearsAsked, fittingOf, refusalFrom, recoverOf}
+use Rattle.recovery.specs.Plan.{joined, listsAsked, clearsAsked, fittingOf, refusalFrom, recoverOf, Accepted}
 use Rattle.recovery.proofs.Required.{wrong-append}
+use Rattle.recovery.proofs.Whole.{number-accepted}
 use Rattle.fitting.specs.declared.Fitted.{Fitted}
 use Rattle.fitting.specs.declared.Fitted.the-variants as G
 use Rattle.fitting.specs.Fitting.{fitIn, mendOf, numberOf, faultIn, membersBy}
 use Rattle.fitting.proofs.Told.{Told, fit-told, members-told}
 use Rattle.mending.specs.declared.Mends.{Mends}
-use Rattle.mending.specs.Mending.{refusalIn, mendsIn, erasedFrom, clears, MendsOf}
+use Rattle.mending.specs.Mending.{refusalIn, mendsIn, erasedFrom, clears, wipes, MendsOf}
 use Rattle.mending.proofs.Cleared.{cleared-told}
-use Rattle.mending.proofs.LeftOver.{nothing-left}
+use Rattle.mending.proofs.LeftOver.{nothing-left, clears-nothing, wipes-nothing}
+use Rattle.mending.proofs.Wiping.{plan-parted, plan-told}
 
 -- the first list that is refused is the same
 pub refusal-told
@@ -102,38 +104,56 @@ module _ (l : Layout) (w : List ℕ) (m : Mends) (told : MendsOf l (viewOf l w) 
   recover-refused n = rw (ne-eqb _ _ (λ e. n (refusal ∙ e))) (ap refuse (sym refusal))
 
   -- no refusal
-  module _ (z : m .refusal ≡ 0) where
+  module _ (z : m .refusal ≡ 0) (exact : length w ≡ sizeOf l) where
+    abbrev s : ℕ → List ℕ
+    s = fittingOf l w
+
+    accepted : Accepted l w s
+    accepted = number-accepted l w (sym refusal ∙ z)
+
     fitted : (k : ℕ) → k < l .lists → numberOf (fitIn l v k (countIn l w k)) ≡ 0
     fitted k h = none-refused l v (countIn l w) 0 (l .lists) (sym (told .refusal) ∙ z) k (omega arith) (omega arith)
 
-    -- the stores: the mends, and the clears ..
-    abbrev Left : List Write
-    Left = wrong w (clearsAsked l w (fittingOf l w))
+    mends : writesIn (m .rows) ≡ wrong w (listsAsked l s)
+    mends = told .rows z ∙ mends-told l w fitted (l .lists) (omega arith)
 
-    stores-told : recoverOf l w ≡ stores (writesIn (m .rows) ++ Left)
+    -- the stores: the mends, the clears, and the wipes of what these leave ..
+    stores-told : (cs : List Write) → cs ≡ wrong w (clearsAsked l w s) → let ps = writesIn (m .rows) ++ cs in recoverOf l w ≡ stores (ps ++ wipes l (run ps w))
     unfolding recoverOf
-    stores-told =
+    stores-told cs e =
         rw (eq-eqb _ _ (sym refusal ∙ z))
         (ap stores
-        (wrong-append w (listsAsked l (fittingOf l w)) (clearsAsked l w (fittingOf l w))
-        ∙ ap (λ (ps : List Write). ps ++ Left) (sym (told .rows z ∙ mends-told l w fitted (l .lists) (omega arith)))))
+        (plan-told l w s exact accepted
+        ∙ ap₂ (λ (a b : List Write). (a ++ b) ++ wipes l (run (a ++ b) w)) (sym mends) (sym e)))
 
     -- .. by what is left of the nodes' identifiers
     pub recover-stores : (idents : List ℕ) → ((c : ℕ) → Node l c → getD idents c 0 ≡ v .ident c)
-        → recoverOf l w ≡ stores (writesIn (m .rows) ++ clears l (erasedFrom l v (λ k. getD (m .back) k false) 0 (l .lists) idents))
+        → let ps = writesIn (m .rows) ++ clears l (erasedFrom l v (λ k. getD (m .back) k false) 0 (l .lists) idents) in
+        recoverOf l w ≡ stores (ps ++ wipes l (run ps w))
     recover-stores idents same =
-        stores-told
-        ∙ ap (λ (ps : List Write). stores (writesIn (m .rows) ++ ps))
-        (sym
-        (cleared-told l w idents v (λ k. getD (m .back) k false) (fittingOf l w) same
-        (λ k h. subst (λ (b : Bool). (c : ℕ) → (c ∈ membersBy l v b k → c ∈ fittingOf l w k) × (c ∈ fittingOf l w k → c ∈ membersBy l v b k))
-        (sym (told .back z k h)) (members-told l w k h (fitted k h)))))
+        stores-told (clears l (erasedFrom l v (λ k. getD (m .back) k false) 0 (l .lists) idents))
+        (cleared-told l w idents v (λ k. getD (m .back) k false) s same
+        (λ k h. subst (λ (b : Bool). (c : ℕ) → (c ∈ membersBy l v b k → c ∈ s k) × (c ∈ s k → c ∈ membersBy l v b k))
+        (sym (told .back z k h)) (members-told l w k h (fitted k h))))
 
-    -- .. or none, if nobody is left over
-    pub recover-mends : InRange l → (m .carried && eqb (m .members) (length (used v (firstNode l) (l .nodes)))) ≡ true → recoverOf l w ≡ stores (writesIn (m .rows))
-    recover-mends r e =
-        let both = and-eq-true-iff _ _ .0 e in
-        stores-told
-        ∙ ap (λ (ps : List Write). stores (writesIn (m .rows) ++ ps))
-        (nothing-left l r w fitted (told .carried z (both .0)) (sym (told .members z) ∙ eqb-true _ _ (both .1)))
-        ∙ ap stores (append-nil (writesIn (m .rows)))
+    -- .. without clears, if nobody is left over; and the mends alone, if no free node has a record
+    module _ (r : InRange l) (e : (m .carried && eqb (m .members) (length (used v (firstNode l) (l .nodes)))) ≡ true) where
+      unlisted : (c : ℕ) → Node l c → (c ∈ joined s (l .lists) → ⊥) → Unlisted (getD w (identAt l c) 0)
+      unlisted =
+          let both = and-eq-true-iff _ _ .0 e in
+          nothing-left l r w fitted (told .carried z (both .0)) (sym (told .members z) ∙ eqb-true _ _ (both .1))
+
+      pub recover-wipes : recoverOf l w ≡ stores (writesIn (m .rows) ++ wipes l (run (writesIn (m .rows)) w))
+      recover-wipes =
+          stores-told [] (sym (clears-nothing l w s unlisted))
+          ∙ ap (λ (ps : List Write). stores (ps ++ wipes l (run ps w))) (append-nil (writesIn (m .rows)))
+
+      pub recover-mends : length (unwiped v (firstNode l) (l .nodes)) ≡ 0 → recoverOf l w ≡ stores (writesIn (m .rows))
+      unfolding recoverOf
+      recover-mends q =
+          rw (eq-eqb _ _ (sym refusal ∙ z))
+          (ap stores
+          (plan-parted l w s exact accepted
+          ∙ ap₂ _++_ (ap₂ _++_ (sym mends) (clears-nothing l w s unlisted)) (wipes-nothing l w s unlisted q)
+          ∙ append-nil (writesIn (m .rows) ++ [])
+          ∙ append-nil (writesIn (m .rows))))

@@ -1,15 +1,20 @@
--- Recovery as it is decided: the mends of all lists, and the clears of the nodes in none.
-use Prim.Native.Nat.{ℕ, zero, suc, _+_, _<_, _≤_}
+-- Recovery as it is decided: the mends of all lists, and the clears and wipes of the nodes in none.
+use Prim.Native.Nat.{ℕ, zero, suc, _+_, _-_, _<_, _≤_}
 use mathlib.Core.Path.{_≡_}
 use mathlib.Core.List.{List, [], _∷_, _++_}
 use mathlib.Core.Bool.{Bool, true, false, cond}
 use lib.Dec.{eqb}
 use lib.ListN.{getD, set, take}
 use Rattle.sequences.specs.Sequence.{All, trail}
-use Rattle.stores.specs.Stores.{Write, write, writesIn, Held}
+use Rattle.stores.specs.declared.Answer.{Answer}
+use Rattle.stores.specs.declared.Answer.the-variants as A
+use Rattle.stores.specs.Stores.{Write, write, applied, stores, answerOf, more, writesIn, Held}
 use Rattle.layout.specs.declared.Layout.{Layout}
-use Rattle.layout.specs.Words.{firstNode, isNode, identAt, inUse, sizeOf}
-use Rattle.lists.specs.Decide.{View}
+use Rattle.layout.specs.Words.{firstNode, isNode, identAt, isFree, inUse, sizeOf}
+use Rattle.lists.specs.Lists.{blankAsked}
+use Rattle.lists.specs.Decide.{View, viewOf, cellsWith}
+use Rattle.recovery.specs.Fits.{wrong}
+use Rattle.recovery.specs.Plan.{blanksAsked}
 use Rattle.fitting.specs.declared.Faults.{Faults}
 use Rattle.fitting.specs.Fitting.{fitIn, mendOf, numberOf, faultIn, isBackward, lengthBy, carries, membersBy}
 use Rattle.mending.specs.declared.Mend.{Mend}
@@ -57,6 +62,28 @@ clearsIn l idents a (suc n) =
 -- the clears of all nodes whose entry says so
 abbrev pub clears : Layout → List ℕ → List Write
 clears l idents = clearsIn l idents (firstNode l) (l .nodes)
+
+-- the wipes of a node, and of the n cells from a on: the record words other than 0 of those that are free in the words w
+abbrev pub wipesOf : Layout → List ℕ → ℕ → List Write
+wipesOf l w c = cond (isFree (viewOf l w .ident c)) (wrong w (blankAsked l c)) []
+
+abbrev pub wipesFrom : Layout → List ℕ → ℕ → ℕ → List Write
+wipesFrom l w a n = wrong w (blanksAsked l (cellsWith isFree (viewOf l w) a n))
+
+-- the wipes of all nodes that are free
+abbrev pub wipes : Layout → List ℕ → List Write
+wipes l w = wipesFrom l w (firstNode l) (l .nodes)
+
+-- stores that follow on others, which were answered r under the allowance m: the answer to all, and the words that the others are left in
+abbrev pub answerOn : Answer → List Write → ℕ → Answer
+answerOn (A.Done n) qs m = more n (answerOf (stores qs) (m - n))
+answerOn (A.Stopped n) qs m = A.Stopped n
+answerOn (A.Refused n) qs m = A.Refused n
+
+abbrev pub wordsOn : Answer → List Write → ℕ → List ℕ → List ℕ
+wordsOn (A.Done n) qs m w = applied qs (m - n) w
+wordsOn (A.Stopped n) qs m w = w
+wordsOn (A.Refused n) qs m w = w
 
 -- the mend of a fault: as many of this one store as there are
 pub record IsMend (l : Layout) (f : Faults) (m : Mend) : Type 0 where

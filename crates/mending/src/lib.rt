@@ -1,7 +1,7 @@
-// Recovery by correction. If exactly one sequence fits each list, its wrong word is to be stored, list 0 first, and then 0 to each
-// identifier of a node in no list that is neither 0 nor 65,535. All is decided before the first store. What stands here is what recovery
-// in lent words and in lent bytes share: what is found of the lists, the store that mends a fault, and the laws by which this is the plan
-// of recovery.
+// Recovery by correction. If exactly one sequence fits each list, its wrong word is to be stored, list 0 first, then 0 to each
+// identifier of a node in no list that is neither 0 nor 65,535, and last 0 to each record word of a node in no list that is not worn. Which
+// nodes these are is decided before the first store. What stands here is what recovery in lent words and in lent bytes share: what is
+// found of the lists, the store that mends a fault, and the laws by which this is the plan of recovery.
 use fitting::Faults;
 use layout::Layout;
 use spans::Cell;

@@ -60,22 +60,22 @@ handed-first w k (suc n) (suc m) p h = ap (λ (x : List (List ℕ)). readWords w
 
 module _ (w : List ℕ) (s : Sound w) (k : ℕ) (h : k < layoutOf w .lists) where
   abbrev members : List ℕ
-  members = s .lists .sequence k
+  members = s .ordered .lists .sequence k
 
   abbrev recordOf : ℕ → List ℕ
   recordOf = recordIn (layoutOf w) w
 
   few : length members ≤ mostNodes
   few =
-      let i = s .lists .lists k h in
-      omega (arith, nodes-few (layoutOf w) members (i .nodes) (i .different), s .inRange .nodes)
+      let i = s .ordered .lists .lists k h in
+      omega (arith, nodes-few (layoutOf w) members (i .nodes) (i .different), s .ordered .inRange .nodes)
 
   -- behind the last record a read is refused
   beyond : (p : ℕ) → length members ≤ p → readWords w k p ≡ []
   unfolding siteIn memberAt
   beyond p g =
       let q : length (sequenceOf (layoutOf w) w k) ≤ p =
-      subst (λ (x : List ℕ). length x ≤ p) (sym (list-sequence (layoutOf w) w k h members (s .lists .lists k h))) g in
+      subst (λ (x : List ℕ). length x ≤ p) (sym (list-sequence (layoutOf w) w k h members (s .ordered .lists .lists k h))) g in
       let e : siteOf (layoutOf w) w (Member k p) ≡ Refused 7 =
       rw (lt-ltb k (layoutOf w .lists) h, sound-decided w s, le-ltb p (length (sequenceOf (layoutOf w) w k)) q) in
       sym (read-refused w k p (sym (look-refused w (Member k p) (sound-opened w s) e)) .0)

@@ -117,3 +117,15 @@ out-same ident ident′ ms a n h =
         → (not b && not (isWorn (ident′ x))) ≡ (not b && not (isWorn (ident x)))
     by x true e k = refl
     by x false e k = ap not (k (λ m. true≢false (sym (in-isIn x ms m) ∙ e)))
+
+-- told by another test
+pub out-told : (ident : ℕ → ℕ) (ms : List ℕ) (test : ℕ → Bool) (a n : ℕ) → ((x : ℕ) → a ≤ x → x < a + n → x ∈ ms → test x ≡ false)
+    → ((x : ℕ) → a ≤ x → x < a + n → (x ∈ ms → ⊥) → test x ≡ not (isWorn (ident x))) → filter test (range a n) ≡ outOf ident ms a n
+out-told ident ms test a n h g =
+    filter-same (isOut ident ms) test (range a n)
+    (in-all _ (range a n) (λ x m. let b = range-between a n x m in by x (isIn x ms) refl (h x (b .0) (b .1)) (g x (b .0) (b .1))))
+  where
+    by : (x : ℕ) (b : Bool) → isIn x ms ≡ b → (x ∈ ms → test x ≡ false) → ((x ∈ ms → ⊥) → test x ≡ not (isWorn (ident x)))
+        → test x ≡ (not b && not (isWorn (ident x)))
+    by x true e p q = p (isIn-in x ms e)
+    by x false e p q = q (λ m. true≢false (sym (in-isIn x ms m) ∙ e))

@@ -2,7 +2,7 @@
 -- words differ then as stores were made; and one word altered is one store.
 use Prim.Native.Nat.{ℕ, zero, suc, _+_, _<_, _≤_}
 use mathlib.Core.Path.{_≡_, refl, ap, _∙_, sym, subst}
-use mathlib.Core.List.{List, [], _∷_, _++_, map, map-append, List·Memᴰ, List·Memᴰ·head, List·Memᴰ·tail, List·Memᴰ·cases-cons, Memᴰ·cast, Memᴰ·map, Memᴰ·of-map, nil≢cons, head-eq-of-cons-eq, tail-eq-of-cons-eq}
+use mathlib.Core.List.{List, [], _∷_, _++_, map, map-append, List·Memᴰ, List·Memᴰ·head, List·Memᴰ·tail, List·Memᴰ·cases-cons, Memᴰ·append-left, Memᴰ·append-right, Memᴰ·cast, Memᴰ·map, Memᴰ·of-map, nil≢cons, head-eq-of-cons-eq, tail-eq-of-cons-eq}
 use mathlib.Core.Logic.{⊎-elim}
 use native.Mathlib.Decide.{ℕ-discrete}
 use native.Mathlib.Omega.{arith}
@@ -134,12 +134,25 @@ once-append ps qs a b h =
     let q = Memᴰ·of-map (λ (p : Write). p .at) qs n in
     h (p .0) (q .0) (p .1) (q .1) (p .2 ∙ sym (q .2))))
 
+-- of two parts: each is so, and they share no word
+pub once-front : (ps qs : List Write) → Once (ps ++ qs) → Once ps
+once-front [] qs o = tt
+once-front (p ∷ ps) qs o = (
+  (λ m. o .0 (subst (List·Memᴰ (p .at)) (sym (map-append (λ (t : Write). t .at) ps qs)) (Memᴰ·append-left (map (λ (t : Write). t .at) qs) m))),
+  once-front ps qs (o .1),
+)
+
+pub once-apart : (ps qs : List Write) → Once (ps ++ qs) → {p q : Write} → List·Memᴰ p ps → List·Memᴰ q qs → p .at ≡ q .at → ⊥
+once-apart (r ∷ ps) qs o {p} {q} (List·Memᴰ·head d) n e =
+    o .0 (Memᴰ·cast (ap (λ (t : Write). t .at) (sym d) ∙ e) (Memᴰ·map (λ (t : Write). t .at) (Memᴰ·append-right ps n)))
+once-apart (r ∷ ps) qs o (List·Memᴰ·tail m) n e = once-apart ps qs (o .1) m n e
+
 -- the first word is asked for by no other requirement
 once-first : (p : Write) (rs : List Write) → Once (p ∷ rs) → (q : Write) → List·Memᴰ q rs → p .at ≡ q .at → ⊥
 once-first p rs o q m e = o .0 (Memᴰ·cast e (Memᴰ·map (λ (t : Write). t .at) m))
 
 -- a store elsewhere
-wrong-out : (w : List ℕ) (a v : ℕ) (rs : List Write) → ((p : Write) → List·Memᴰ p rs → a ≡ p .at → ⊥) → wrong (set w a v) rs ≡ wrong w rs
+pub wrong-out : (w : List ℕ) (a v : ℕ) (rs : List Write) → ((p : Write) → List·Memᴰ p rs → a ≡ p .at → ⊥) → wrong (set w a v) rs ≡ wrong w rs
 wrong-out w a v rs h = wrong-same w (set w a v) rs (λ p m. getD-set-other w a (p .at) v 0 (λ e. h p m (sym e)))
 
 -- what is right is not stored

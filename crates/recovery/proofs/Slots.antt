@@ -1,5 +1,5 @@
 -- What is asked of a list goes to words of its cells, to each word once.
-use Prim.Native.Nat.{ℕ, _+_, _<_}
+use Prim.Native.Nat.{ℕ, _+_, _<_, _≤_}
 use mathlib.Core.Path.{_≡_, refl, ap, _∙_, sym, subst}
 use mathlib.Core.List.{List, [], _∷_, _++_, map, map-id, List·Memᴰ, List·Memᴰ·head, List·Memᴰ·append-cases, List·Memᴰ·eq-of-singleton, Memᴰ·append-left, Memᴰ·append-right, Memᴰ·cast, Memᴰ·map, Memᴰ·of-map}
 use mathlib.Core.Logic.{_⊎_, inl, inr, ⊎-elim}
@@ -11,7 +11,7 @@ use Rattle.sequences.proofs.Members.{all-in, in-front, in-behind, different-app
 use Rattle.sequences.proofs.Steps.{sources, targets, step-source, step-target, step-from, step-to}
 use Rattle.stores.specs.Stores.{Write, write}
 use Rattle.layout.specs.declared.Layout.{Layout}
-use Rattle.layout.specs.Words.{linkWords, countWord, Node, cellAt, cellWords, identAt, forwardAt, backAt, identOf}
+use Rattle.layout.specs.Words.{linkWords, firstNode, countWord, Node, cellAt, cellWords, identAt, forwardAt, backAt, identOf}
 use Rattle.layout.proofs.Apart.{words-apart, cells-apart, links-words, words-header}
 use Rattle.lists.specs.Lists.{asked, identsAsked, forwardsAsked, backsAsked, countAsked, othersAsked}
 use Rattle.lists.proofs.Same.{ident-word, count-word}
@@ -31,6 +31,16 @@ pub record Slot (l : Layout) (k : ℕ) (s : List ℕ) (p : Write) : Type 0 where
   pub fits : word < cellWords l cell
   pub at : p .at ≡ cellAt l cell + word
   pub value : Value k s cell word (p .value)
+
+-- of a node nothing is asked but its identifier and its links
+pub slot-links : {l : Layout} {k : ℕ} {s : List ℕ} {p : Write} → k < l .lists → (x : Slot l k s p) → firstNode l ≤ x .cell → x .word < linkWords
+slot-links {l} {k} {s} h x low = by (x .value)
+  where
+    by : {v : ℕ} → Value k s (x .cell) (x .word) v → x .word < linkWords
+    by (ident e _) = omega arith
+    by (forward _ e _ _ _) = omega arith
+    by (back _ e _ _ _) = omega arith
+    by (count e _ _) = absurd (omega arith)
 
 -- a word is of one cell
 pub same-cell : (l : Layout) (c d f g : ℕ) → f < cellWords l c → g < cellWords l d → cellAt l c + f ≡ cellAt l d + g → c ≡ d

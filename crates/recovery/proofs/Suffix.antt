@@ -11,27 +11,32 @@ use Rattle.sequences.proofs.Members.{all-in, in-all, one-image}
 use Rattle.stores.specs.Stores.{Write, write, applied}
 use Rattle.stores.proofs.Laws.{run-word}
 use Rattle.layout.specs.declared.Layout.{Layout}
-use Rattle.layout.specs.Words.{firstNode, Node, sizeOf, cellAt, cellWords, identAt, identOf, wornIdent, worn, isWorn}
-use Rattle.layout.proofs.Apart.{links-words}
-use Rattle.lists.specs.Lists.{asked, SameCells}
+use Rattle.layout.specs.Words.{linkWords, firstNode, Node, sizeOf, cellAt, cellWords, identAt, identOf, wornIdent, worn, isWorn}
+use Rattle.layout.proofs.Apart.{words-apart, links-words, tail-word}
+use Rattle.lists.specs.Lists.{asked}
 use Rattle.lists.specs.Decide.{viewOf}
 use Rattle.lists.proofs.Same.{ident-word}
 use Rattle.recovery.specs.Fits.{wrong, Fits}
-use Rattle.recovery.specs.Plan.{joined, listsAsked, clearsAsked, required, recoverStores, Accepted, Kind, mend, clear}
+use Rattle.recovery.specs.Plan.{joined, listsAsked, clearsAsked, blanksAsked, wipesAsked, required, recoverStores, Accepted, Kind, mend, clear, wipe}
 use Rattle.recovery.proofs.Candidates.{sequence-dec, wrong-parts, right-idents, forward-candidate, back-candidate, candidates, rivals}
 use Rattle.recovery.proofs.Required.{Right, right?, agrees-wrong, wrong-in, in-wrong, wrong-same, wrong-fewer, wrong-rest}
-use Rattle.recovery.proofs.Slots.{slot, same-cell}
+use Rattle.recovery.proofs.Slots.{slot, slot-links, same-cell}
 use Rattle.recovery.proofs.Joined.{one-joined, ring-out, out-same}
 use Rattle.recovery.proofs.Count.{plan-kinds, required-once, required-inside}
 
--- the same words in all cells of a sequence: it fits alike
-module _ (l : Layout) (w x : List ℕ) (k : ℕ) (h : k < l .lists) (s : List ℕ) (c : SameCells l w x (k ∷ s)) where
+-- the cells have the same words, but for the nodes' records
+abbrev pub SameLinks : Layout → List ℕ → List ℕ → List ℕ → Type 0
+SameLinks l w x cells =
+    (c f : ℕ) → c ∈ cells → f < cellWords l c → (firstNode l ≤ c → f < linkWords) → getD x (cellAt l c + f) 0 ≡ getD w (cellAt l c + f) 0
+
+-- so are all cells of a sequence: it fits alike
+module _ (l : Layout) (w x : List ℕ) (k : ℕ) (h : k < l .lists) (s : List ℕ) (c : SameLinks l w x (k ∷ s)) where
   asked-same : wrong x (asked l k s) ≡ wrong w (asked l k s)
   asked-same =
       wrong-same w x (asked l k s)
       (λ p m.
       let y = slot l k s h m in
-      ap (λ (a : ℕ). getD x a 0) (y .at) ∙ c (y .cell) (y .word) (y .within) (y .fits) ∙ ap (λ (a : ℕ). getD w a 0) (sym (y .at)))
+      ap (λ (a : ℕ). getD x a 0) (y .at) ∙ c (y .cell) (y .word) (y .within) (y .fits) (slot-links h y) ∙ ap (λ (a : ℕ). getD w a 0) (sym (y .at)))
 
   pub fits-same : Fits l w k s → Fits l x k s
   fits-same f = record { nodes = f .nodes; different = f .different; few = subst (λ (ps : List Write). length ps ≤ 1) (sym asked-same) (f .few) }
@@ -65,7 +70,7 @@ module _ (l : Layout) (w : List ℕ) (s : ℕ → List ℕ) (a : Accepted l w s)
       q .3
       ∙ ap (λ (t : Write). t .value)
       (one-image (λ (t : Write). t .at) (required l w s) (required-once l w s (a .fits)) (wrong-in w (required l w s) (q .1) .0)
-      (Memᴰ·append-left (clearsAsked l w s) (one-joined (λ j. asked l j (s j)) (l .lists) k p h m)) (q .2)))
+      (Memᴰ·append-left (clearsAsked l w s ++ wipesAsked l w s) (one-joined (λ j. asked l j (s j)) (l .lists) k p h m)) (q .2)))
       (made (p .at))
 
   -- so every sequence fits
@@ -105,23 +110,28 @@ module _ (l : Layout) (w : List ℕ) (s : ℕ → List ℕ) (a : Accepted l w s)
           let now : getD x (identAt l c) 0 ≡ 0 = v ∙ ap (λ (t : Write). t .value) z in
           ne-eqb _ wornIdent (λ q. omega (arith, sym now ∙ q))
           ∙ sym (ne-eqb _ wornIdent (λ q. nz (worn (ap (λ (b : ℕ). getD w b 0) (sym there) ∙ q))))
+      stored p (wipe d nd out nw g hg nz z) e v =
+          let y = tail-word l d g (nd .low) hg in
+          absurd
+          (words-apart l c d 0 (linkWords + g) (λ _ q. omega arith) (links-words l c 0 (omega arith)) (y .1)
+          (sym (ident-word l c) ∙ sym e ∙ ap (λ (t : Write). t .at) z ∙ y .0))
 
   -- so the same is required
   pub required-kept : required l x s ≡ required l w s
   required-kept =
-      ap (λ (cs : List ℕ). listsAsked l s ++ map (λ c. write (identAt l c) 0) cs)
+      ap (λ (cs : List ℕ). listsAsked l s ++ (map (λ c. write (identAt l c) 0) cs ++ blanksAsked l cs))
       (out-same (viewOf l w .ident) (viewOf l x .ident) (joined s (l .lists)) (firstNode l) (l .nodes)
       (λ c p q o. worn-kept c (record { low = p; high = q }) o))
 
-  -- Another sequence that fits list j has all identifiers right. So no store went to one of its cells: the cells of a list that was
-  -- stored to carry that list's identifier, a cleared node carries none.
+  -- Another sequence that fits list j has all identifiers right. So no store went to one of its cells, but perhaps to a record: the cells of a
+  -- list that was stored to carry that list's identifier, a cleared node carries none.
   module _ (j : ℕ) (h : j < l .lists) (r : List ℕ) (g : Fits l x j r) (n : r ≡ s j → ⊥) where
     idents : All (λ c. getD x (identAt l c) 0 ≡ identOf j) (j ∷ r)
     idents =
         ⊎-elim (λ v. (v .first .header, v .first .idents)) (λ v. (v .second .header, v .second .idents)) (rivals l x j h r (s j) g (still j h) n)
 
-    untouched : (c f : ℕ) → c ∈ (j ∷ r) → f < cellWords l c → (p : Write) → Kind l w s p → p .at ≡ cellAt l c + f → Right x p → ⊥
-    untouched c f m hf p (mend k hk t) e q =
+    untouched : (c f : ℕ) → c ∈ (j ∷ r) → f < cellWords l c → (firstNode l ≤ c → f < linkWords) → (p : Write) → Kind l w s p → p .at ≡ cellAt l c + f → Right x p → ⊥
+    untouched c f m hf hl p (mend k hk t) e q =
         let y = slot l k (s k) hk (wrong-in w (asked l k (s k)) t .0) in
         let right = mended k hk p t q in
         let own : (getD x (identAt l k) 0 ≡ identOf k) × All (λ c. getD x (identAt l c) 0 ≡ identOf k) (s k) =
@@ -132,17 +142,21 @@ module _ (l : Layout) (w : List ℕ) (s : ℕ → List ℕ) (a : Accepted l w s)
         ∙ all-in (λ c. getD x (identAt l c) 0 ≡ identOf j) (j ∷ r) idents m in
         let i : k ≡ j = omega arith in
         n (subst (λ (i : ℕ). (t : List ℕ) → Fits l x i t → t ≡ s i) i (right-unique l x k hk (s k) (still k hk) right) r g)
-    untouched c f m hf p (clear d low out nz z) e q =
+    untouched c f m hf hl p (clear d low out nz z) e q =
         let there : p .at ≡ identAt l d = ap (λ (t : Write). t .at) z in
         let i : c ≡ d = same-cell l c d f 0 hf (links-words l d 0 (omega arith)) (sym e ∙ there ∙ ident-word l d) in
         let free : getD x (identAt l d) 0 ≡ 0 = ap (λ (b : ℕ). getD x b 0) (sym there) ∙ q ∙ ap (λ (t : Write). t .value) z in
         omega (arith, free, ap (λ (b : ℕ). getD x (identAt l b) 0) i, all-in (λ c. getD x (identAt l c) 0 ≡ identOf j) (j ∷ r) idents m)
+    untouched c f m hf hl p (wipe d nd out nw g hg nz z) e q =
+        let y = tail-word l d g (nd .low) hg in
+        words-apart l c d f (linkWords + g) (λ i a. omega (arith, hl (subst (λ (b : ℕ). firstNode l ≤ b) (sym i) (nd .low)))) hf (y .1)
+        (sym e ∙ ap (λ (t : Write). t .at) z ∙ y .0)
 
-    same-cells : SameCells l w x (j ∷ r)
-    same-cells c f m hf =
+    same-cells : SameLinks l w x (j ∷ r)
+    same-cells c f m hf hl =
         ⊎-elim (λ e. e)
         (λ q.
-        absurd (untouched c f m hf (q .0) (all-in (Kind l w s) (recoverStores l w s) (plan-kinds l w s) (q .1)) (q .2)
+        absurd (untouched c f m hf hl (q .0) (all-in (Kind l w s) (recoverStores l w s) (plan-kinds l w s) (q .1)) (q .2)
         (ap (λ (b : ℕ). getD x b 0) (q .2) ∙ q .3)))
         (made (cellAt l c + f))
 

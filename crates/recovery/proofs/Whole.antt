@@ -1,28 +1,29 @@
 -- A store that recovery accepts: what its plan is, that a whole run leaves it sound, and that a sound store needs no store.
-use Prim.Native.Nat.{ℕ, zero, suc, _+_, _<_, _≤_}
+use Prim.Native.Nat.{ℕ, zero, suc, _+_, _*_, _<_, _≤_}
 use mathlib.Core.Path.{_≡_, refl, ap, ap₂, _∙_, sym, subst}
-use mathlib.Core.List.{List, [], _++_, map, Memᴰ·map}
+use mathlib.Core.List.{List, [], _∷_, _++_, map, List·Memᴰ·head, List·Memᴰ·tail, Memᴰ·map}
 use mathlib.Core.Logic.{⊎-elim}
 use native.Mathlib.Decide.{ℕ-discrete}
 use native.Mathlib.Omega.{arith}
-use native.Mathlib.Nat.{eq-or-lt-of-le}
-use lib.ListN.{length, getD, length-map}
+use native.Mathlib.Nat.{eq-or-lt-of-le, mul-zero, mul-suc, mul-le-mul-left}
+use lib.ListN.{length, getD, replicate, length-map, length-append, length-replicate}
 use borrow.Author.Tests.{eq-eqb, eqb-true}
 use Rattle.sequences.specs.Sequence.{_∈_, All}
 use Rattle.sequences.proofs.Members.{all-in, in-all, all-append, append-all}
 use Rattle.stores.specs.Stores.{Write, write, run, stores}
-use Rattle.stores.proofs.Laws.{run-word}
+use Rattle.stores.proofs.Laws.{run-word, length-row}
 use Rattle.layout.specs.declared.Layout.{Layout}
 use Rattle.layout.specs.declared.Opened.the-variants as O
-use Rattle.layout.specs.Words.{firstNode, Node, sizeOf, identAt, wornIdent, Unlisted, free, worn, isWorn, opened}
-use Rattle.lists.specs.Lists.{asked, Agrees, IsList, SoundLists}
+use Rattle.layout.specs.Words.{tailWords, firstNode, Node, sizeOf, identAt, recordAt, wornIdent, Unlisted, free, worn, isWorn, opened}
+use Rattle.lists.specs.Lists.{asked, Agrees, IsList, SoundLists, Blank, blankAsked, Wiped}
 use Rattle.lists.specs.Decide.{viewOf}
+use Rattle.lists.proofs.Blank.{agrees-blank}
 use Rattle.recovery.specs.Fits.{wrong, Fits, Fit, none, only, several, fitOf}
-use Rattle.recovery.specs.Plan.{joined, outOf, nodesOut, listsAsked, clearsAsked, required, recoverStores, onlyOf, fittingOf, fitNumber, refusalFrom, recoverOf, recoverPlan, Accepted}
+use Rattle.recovery.specs.Plan.{joined, outOf, nodesOut, listsAsked, clearsAsked, blanksAsked, wipesAsked, required, recoverStores, onlyOf, fittingOf, fitNumber, refusalFrom, recoverOf, recoverPlan, Accepted}
 use Rattle.recovery.proofs.Candidates.{Decided, decided}
-use Rattle.recovery.proofs.Required.{Right, wrong-length, agrees-wrong, wrong-in, wrong-most, wrong-agreed}
+use Rattle.recovery.proofs.Required.{Right, wrong-append, wrong-length, agrees-wrong, wrong-in, wrong-most, wrong-agreed}
 use Rattle.recovery.proofs.Joined.{one-joined, joined-one, joined-same, is-out, out-few}
-use Rattle.recovery.proofs.Count.{in-lists, in-clears, required-once, required-inside}
+use Rattle.recovery.proofs.Count.{in-lists, in-clears, in-wipes, required-once, required-inside}
 use Rattle.recovery.proofs.Suffix.{right-unique, worn-kept}
 
 -- an accepted list's decision
@@ -69,7 +70,8 @@ number-accepted l w e = fit-accepted l w (fittingOf l w) (λ k h. all-only l w 0
 pub required-same : (l : Layout) (w : List ℕ) (s t : ℕ → List ℕ) → ((k : ℕ) → k < l .lists → s k ≡ t k) → required l w s ≡ required l w t
 required-same l w s t h =
     ap₂ _++_ (joined-same (λ k. asked l k (s k)) (λ k. asked l k (t k)) (l .lists) (λ k q. ap (asked l k) (h k q)))
-    (ap (λ (ms : List ℕ). map (λ c. write (identAt l c) 0) (outOf (viewOf l w .ident) ms (firstNode l) (l .nodes))) (joined-same s t (l .lists) h))
+    (ap (λ (cs : List ℕ). map (λ c. write (identAt l c) 0) cs ++ blanksAsked l cs)
+    (ap (λ (ms : List ℕ). outOf (viewOf l w .ident) ms (firstNode l) (l .nodes)) (joined-same s t (l .lists) h)))
 
 pub plan-same : (l : Layout) (w : List ℕ) (s t : ℕ → List ℕ) → ((k : ℕ) → k < l .lists → s k ≡ t k) → recoverStores l w s ≡ recoverStores l w t
 plan-same l w s t h = ap (wrong w) (required-same l w s t h)
@@ -96,52 +98,99 @@ clear-none l w s h =
     unworn c n (free z) = z
     unworn c n (worn z) = absurd (n z)
 
--- a sound store holds all that its sequences require
-pub sound-agrees : (l : Layout) (w : List ℕ) (x : SoundLists l w) → Agrees w (required l w (x .sequence))
-sound-agrees l w x =
-    all-append (Right w) (listsAsked l (x .sequence)) (clearsAsked l w (x .sequence))
-    (in-all (Right w) (listsAsked l (x .sequence))
-    (λ p m. let k = in-lists l w (x .sequence) m in all-in (Right w) (asked l (k .0) (x .sequence (k .0))) (x .lists (k .0) (k .1) .agrees) (k .2)))
-    (clear-none l w (x .sequence)
-    (λ c n o. x .outside c n (λ k h m. o (one-joined (x .sequence) (l .lists) k c h m))))
+-- and nothing to be wiped where every such node that is not worn has a blank record
+pub wipe-none : (l : Layout) (w y : List ℕ) (s : ℕ → List ℕ)
+    → ((c : ℕ) → Node l c → (c ∈ joined s (l .lists) → ⊥) → (getD w (identAt l c) 0 ≡ wornIdent → ⊥) → Blank l y c)
+    → Agrees y (wipesAsked l w s)
+wipe-none l w y s h =
+    in-all (Right y) (wipesAsked l w s)
+    (λ p m. let c = in-wipes l w s m in let f = c .4 in subst (Right y) (sym (f .2)) (h (c .0) (c .1) (c .2) (c .3) (f .0) (f .1)))
 
--- and a store that holds them, in which the same nodes are worn, is sound
-agrees-sound : (l : Layout) (w y : List ℕ) (s : ℕ → List ℕ) → Accepted l w s → Agrees y (required l w s)
-    → ((c : ℕ) → Node l c → (c ∈ joined s (l .lists) → ⊥) → isWorn (getD y (identAt l c) 0) ≡ isWorn (getD w (identAt l c) 0))
-    → (x : SoundLists l y) × (x .sequence ≡ s)
-agrees-sound l w y s a h same =
-    let r = append-all (Right y) (listsAsked l s) (clearsAsked l w s) h in (
-      record {
-        sequence = s;
-        lists =
-            λ k q.
-            record {
-              nodes = a .fits k q .nodes;
-              different = a .fits k q .different;
-              agrees =
-                  in-all (Right y) (asked l k (s k))
-                  (λ p m. all-in (Right y) (listsAsked l s) (r .0) (one-joined (λ j. asked l j (s j)) (l .lists) k p q m));
-            };
-        outside = λ c n o. by (r .1) c n (λ m. let k = joined-one s (l .lists) c m in o (k .0) (k .1) (k .2)) (ℕ-discrete (getD w (identAt l c) 0) wornIdent);
-      },
-      refl,
-    )
-  where
-    by : Agrees y (clearsAsked l w s) → (c : ℕ) → Node l c → (c ∈ joined s (l .lists) → ⊥) → Dec (getD w (identAt l c) 0 ≡ wornIdent)
-        → Unlisted (getD y (identAt l c) 0)
-    by q c n o (yes z) = worn (eqb-true _ wornIdent (same c n o ∙ eq-eqb _ wornIdent z))
-    by q c n o (no z) =
-        free (all-in (Right y) (clearsAsked l w s) q
-        (Memᴰ·map (λ c. write (identAt l c) 0)
-        (is-out (viewOf l w .ident) (joined s (l .lists)) (firstNode l) (l .nodes) c (n .low) (n .high) o z)))
+-- an ordered store holds all that its sequences require of the lists and of identifiers, and a sound one all they require
+module _ (l : Layout) (w : List ℕ) (x : SoundLists l w) where
+  abbrev Out : ℕ → Type 0
+  Out c = c ∈ joined (x .sequence) (l .lists) → ⊥
+
+  no-member : (c : ℕ) → Out c → (k : ℕ) → k < l .lists → c ∈ x .sequence k → ⊥
+  no-member c o k h m = o (one-joined (x .sequence) (l .lists) k c h m)
+
+  pub ordered-agrees : Agrees w (listsAsked l (x .sequence)) × Agrees w (clearsAsked l w (x .sequence))
+  ordered-agrees = (
+    in-all (Right w) (listsAsked l (x .sequence))
+        (λ p m. let k = in-lists l w (x .sequence) m in all-in (Right w) (asked l (k .0) (x .sequence (k .0))) (x .lists (k .0) (k .1) .agrees) (k .2)),
+    clear-none l w (x .sequence) (λ c n o. x .outside c n (no-member c o)),
+  )
+
+  pub sound-agrees : Wiped l w (x .sequence) → Agrees w (required l w (x .sequence))
+  sound-agrees h =
+      all-append (Right w) (listsAsked l (x .sequence)) (clearsAsked l w (x .sequence) ++ wipesAsked l w (x .sequence)) (ordered-agrees .0)
+      (all-append (Right w) (clearsAsked l w (x .sequence)) (wipesAsked l w (x .sequence)) (ordered-agrees .1)
+      (wipe-none l w w (x .sequence) (λ c n o. h c n (no-member c o))))
+
+-- of blank records, one
+blanks-one : (l : Layout) (y cs : List ℕ) → Agrees y (blanksAsked l cs) → (c : ℕ) → c ∈ cs → Agrees y (blankAsked l c)
+unfolding blanksAsked
+blanks-one l y (d ∷ cs) h c (List·Memᴰ·head e) =
+    subst (λ (b : ℕ). Agrees y (blankAsked l b)) (sym e) (append-all (Right y) (blankAsked l d) (blanksAsked l cs) h .0)
+blanks-one l y (d ∷ cs) h c (List·Memᴰ·tail m) = blanks-one l y cs (append-all (Right y) (blankAsked l d) (blanksAsked l cs) h .1) c m
+
+-- a store y that holds what is required of w, in which the same nodes are worn, is ordered, and sound if it holds all
+module _ (l : Layout) (w y : List ℕ) (s : ℕ → List ℕ) (a : Accepted l w s)
+    (same : (c : ℕ) → Node l c → (c ∈ joined s (l .lists) → ⊥) → isWorn (getD y (identAt l c) 0) ≡ isWorn (getD w (identAt l c) 0)) where
+  out : (c : ℕ) → ((k : ℕ) → k < l .lists → c ∈ s k → ⊥) → c ∈ joined s (l .lists) → ⊥
+  out c o m = let k = joined-one s (l .lists) c m in o (k .0) (k .1) (k .2)
+
+  -- a node in no list that is not worn, before or after
+  is-out-of : (c : ℕ) → Node l c → (c ∈ joined s (l .lists) → ⊥) → (getD w (identAt l c) 0 ≡ wornIdent → ⊥) → c ∈ nodesOut l w s
+  is-out-of c n o z = is-out (viewOf l w .ident) (joined s (l .lists)) (firstNode l) (l .nodes) c (n .low) (n .high) o z
+
+  pub agrees-lists : Agrees y (listsAsked l s) → Agrees y (clearsAsked l w s) → (x : SoundLists l y) × (x .sequence ≡ s)
+  agrees-lists h g = (
+    record {
+      sequence = s;
+      lists =
+          λ k q.
+          record {
+            nodes = a .fits k q .nodes;
+            different = a .fits k q .different;
+            agrees =
+                in-all (Right y) (asked l k (s k))
+                (λ p m. all-in (Right y) (listsAsked l s) h (one-joined (λ j. asked l j (s j)) (l .lists) k p q m));
+          };
+      outside = λ c n o. by c n (out c o) (ℕ-discrete (getD w (identAt l c) 0) wornIdent);
+    },
+    refl,
+  )
+    where
+      by : (c : ℕ) → Node l c → (c ∈ joined s (l .lists) → ⊥) → Dec (getD w (identAt l c) 0 ≡ wornIdent) → Unlisted (getD y (identAt l c) 0)
+      by c n o (yes z) = worn (eqb-true _ wornIdent (same c n o ∙ eq-eqb _ wornIdent z))
+      by c n o (no z) = free (all-in (Right y) (clearsAsked l w s) g (Memᴰ·map (λ c. write (identAt l c) 0) (is-out-of c n o z)))
+
+  pub agrees-wiped : Agrees y (wipesAsked l w s) → Wiped l y s
+  agrees-wiped h c n o z =
+      agrees-blank l y c
+      (blanks-one l y (nodesOut l w s) h c
+      (is-out-of c n (out c o) (λ e. z (eqb-true _ wornIdent (same c n (out c o) ∙ eq-eqb _ wornIdent e)))))
 
 -- so a whole run leaves an accepted store sound
-pub whole-sound : (l : Layout) (w : List ℕ) (s : ℕ → List ℕ) → length w ≡ sizeOf l → Accepted l w s
-    → (x : SoundLists l (run (recoverStores l w s) w)) × (x .sequence ≡ s)
-whole-sound l w s e a =
-    agrees-sound l w (run (recoverStores l w s) w) s a
-    (wrong-agreed (required l w s) (required-once l w s (a .fits)) w (required-inside l w s (a .fits) e))
-    (worn-kept l w s a (run (recoverStores l w s) w) (run-word (recoverStores l w s) w))
+module _ (l : Layout) (w : List ℕ) (s : ℕ → List ℕ) (e : length w ≡ sizeOf l) (a : Accepted l w s) where
+  abbrev Final : List ℕ
+  Final = run (recoverStores l w s) w
+
+  agreed : Agrees Final (required l w s)
+  agreed = wrong-agreed (required l w s) (required-once l w s (a .fits)) w (required-inside l w s (a .fits) e)
+
+  same-worn : (c : ℕ) → Node l c → (c ∈ joined s (l .lists) → ⊥) → isWorn (getD Final (identAt l c) 0) ≡ isWorn (getD w (identAt l c) 0)
+  same-worn = worn-kept l w s a Final (run-word (recoverStores l w s) w)
+
+  outs : Agrees Final (clearsAsked l w s) × Agrees Final (wipesAsked l w s)
+  outs = append-all (Right Final) (clearsAsked l w s) (wipesAsked l w s) (append-all (Right Final) (listsAsked l s) _ agreed .1)
+
+  pub whole-sound : (x : SoundLists l Final) × (x .sequence ≡ s)
+  whole-sound = agrees-lists l w Final s a same-worn (append-all (Right Final) (listsAsked l s) _ agreed .0) (outs .0)
+
+  pub whole-wiped : Wiped l Final s
+  whole-wiped = agrees-wiped l w Final s a same-worn (outs .1)
 
 -- where every list has all its words, each has only one sequence that fits
 pub lists-accepted : (l : Layout) (w : List ℕ) (s : ℕ → List ℕ) → ((k : ℕ) → k < l .lists → IsList l w k (s k)) → Accepted l w s
@@ -160,10 +209,33 @@ lists-accepted l w s i =
 pub sound-accepted : (l : Layout) (w : List ℕ) (x : SoundLists l w) → Accepted l w (x .sequence)
 sound-accepted l w x = lists-accepted l w (x .sequence) (x .lists)
 
-pub sound-settled : (l : Layout) (w : List ℕ) (x : SoundLists l w) → recoverStores l w (x .sequence) ≡ []
-sound-settled l w x = agrees-wrong w (required l w (x .sequence)) (sound-agrees l w x)
+pub sound-settled : (l : Layout) (w : List ℕ) (x : SoundLists l w) → Wiped l w (x .sequence) → recoverStores l w (x .sequence) ≡ []
+sound-settled l w x h = agrees-wrong w (required l w (x .sequence)) (sound-agrees l w x h)
 
--- "so recovery makes at most L + N stores"
+-- and an ordered one the wipes alone
+pub ordered-wipes : (l : Layout) (w : List ℕ) (x : SoundLists l w) → recoverStores l w (x .sequence) ≡ wrong w (wipesAsked l w (x .sequence))
+ordered-wipes l w x =
+    let h = ordered-agrees l w x in
+    let s = x .sequence in
+    wrong-append w (listsAsked l s) (clearsAsked l w s ++ wipesAsked l w s)
+    ∙ ap₂ _++_ (agrees-wrong w (listsAsked l s) (h .0))
+    (wrong-append w (clearsAsked l w s) (wipesAsked l w s) ∙ ap (λ (ps : List Write). ps ++ wrong w (wipesAsked l w s)) (agrees-wrong w (clearsAsked l w s) (h .1)))
+
+-- the words of blank records: as many as the cells' tails have, and those of one cell are among them
+length-blanks : (l : Layout) (cs : List ℕ) → length (blanksAsked l cs) ≡ tailWords l * length cs
+unfolding blanksAsked
+length-blanks l [] = sym (mul-zero (tailWords l))
+length-blanks l (c ∷ cs) =
+    omega (
+      arith,
+      length-append (blankAsked l c) (blanksAsked l cs),
+      length-row (recordAt l c) (replicate (tailWords l) 0),
+      length-replicate {A = ℕ} (tailWords l) 0,
+      length-blanks l cs,
+      mul-suc (tailWords l) (length cs),
+    )
+
+-- "so recovery makes at most L + N stores", and its "bound grows by P × N"
 module _ (l : Layout) (w : List ℕ) (s : ℕ → List ℕ) (a : Accepted l w s) where
   lists-few : (n : ℕ) → n ≤ l .lists → length (wrong w (joined (λ k. asked l k (s k)) n)) ≤ n
   unfolding joined wrong
@@ -176,15 +248,20 @@ module _ (l : Layout) (w : List ℕ) (s : ℕ → List ℕ) (a : Accepted l w s)
         lists-few n (omega arith),
       )
 
-  pub few-stores : length (recoverStores l w s) ≤ l .lists + l .nodes
+  pub few-stores : length (recoverStores l w s) ≤ l .lists + l .nodes + tailWords l * l .nodes
   few-stores =
+      let few = out-few (viewOf l w .ident) (joined s (l .lists)) (firstNode l) (l .nodes) in
       omega (
         arith,
-        wrong-length w (listsAsked l s) (clearsAsked l w s),
+        wrong-length w (listsAsked l s) (clearsAsked l w s ++ wipesAsked l w s),
+        wrong-length w (clearsAsked l w s) (wipesAsked l w s),
         lists-few (l .lists) (omega arith),
         wrong-most w (clearsAsked l w s),
+        wrong-most w (wipesAsked l w s),
         length-map (nodesOut l w s) (λ c. write (identAt l c) 0),
-        out-few (viewOf l w .ident) (joined s (l .lists)) (firstNode l) (l .nodes),
+        length-blanks l (nodesOut l w s),
+        mul-le-mul-left (tailWords l) few,
+        few,
       )
 
   -- every store of the plan goes to a word of the store

@@ -8,8 +8,8 @@ use lib.ListN.{getD}
 use Rattle.sequences.specs.Sequence.{_∈_, range, filter}
 use Rattle.stores.specs.Stores.{Write, write, Plan, refuse, stores}
 use Rattle.layout.specs.declared.Layout.{Layout}
-use Rattle.layout.specs.Words.{firstNode, identAt, Unlisted, isWorn, opened, afterOpen, ask}
-use Rattle.lists.specs.Lists.{asked}
+use Rattle.layout.specs.Words.{tailWords, firstNode, Node, identAt, recordAt, wornIdent, Unlisted, isWorn, opened, afterOpen, ask}
+use Rattle.lists.specs.Lists.{asked, blankAsked}
 use Rattle.lists.specs.Decide.{viewOf}
 use Rattle.recovery.specs.Fits.{wrong, Fit, none, only, several, fitOf, Fits}
 
@@ -40,8 +40,16 @@ listsAsked l s = joined (λ k. asked l k (s k)) (l .lists)
 abbrev pub clearsAsked : Layout → List ℕ → (ℕ → List ℕ) → List Write
 clearsAsked l w s = map (λ c. write (identAt l c) 0) (nodesOut l w s)
 
+-- "Recovery, after clearing identifiers, also writes 0 to the nonzero record words of every such node, lowest word first"
+unfoldable pub blanksAsked : Layout → List ℕ → List Write
+blanksAsked l [] = []
+blanksAsked l (c ∷ cs) = blankAsked l c ++ blanksAsked l cs
+
+abbrev pub wipesAsked : Layout → List ℕ → (ℕ → List ℕ) → List Write
+wipesAsked l w s = blanksAsked l (nodesOut l w s)
+
 abbrev pub required : Layout → List ℕ → (ℕ → List ℕ) → List Write
-required l w s = listsAsked l s ++ clearsAsked l w s
+required l w s = listsAsked l s ++ (clearsAsked l w s ++ wipesAsked l w s)
 
 -- "Words already right aren't stored"
 abbrev pub recoverStores : Layout → List ℕ → (ℕ → List ℕ) → List Write
@@ -86,7 +94,10 @@ differing [] x = 0
 differing (a ∷ w) [] = 0
 differing (a ∷ w) (b ∷ x) = cond (eqb a b) 0 1 + differing w x
 
--- where a store of the plan goes: to a wrong word of a list, or to the identifier of a node in none that is neither 0 nor worn
+-- where a store of the plan goes: to a wrong word of a list, to the identifier of a node in none that is neither 0 nor worn, or to a record
+-- word other than 0 of a node in none that is not worn
 pub data Kind (l : Layout) (w : List ℕ) (s : ℕ → List ℕ) (p : Write) : Type 0 where
   mend : (k : ℕ) → k < l .lists → List·Memᴰ p (wrong w (asked l k (s k))) → Kind l w s p
   clear : (c : ℕ) → firstNode l ≤ c → (c ∈ joined s (l .lists) → ⊥) → (Unlisted (getD w (identAt l c) 0) → ⊥) → p ≡ write (identAt l c) 0 → Kind l w s p
+  wipe : (c : ℕ) → Node l c → (c ∈ joined s (l .lists) → ⊥) → (getD w (identAt l c) 0 ≡ wornIdent → ⊥)
+      → (f : ℕ) → f < tailWords l → (getD w (recordAt l c + f) 0 ≡ 0 → ⊥) → p ≡ write (recordAt l c + f) 0 → Kind l w s p

@@ -1,90 +1,130 @@
--- Nodes counted one by one, by their identifiers, and the sum of the counts in place of the number of members.
+-- Nodes counted one by one, by their identifiers and records, and the sum of the counts in place of the number of members.
 use Prim.Native.Nat.{ℕ, zero, suc, _+_, _-_, _≤_, _<_}
 use mathlib.Core.Path.{_≡_, refl, ap, _∙_, sym}
-use mathlib.Core.List.{_∷_}
-use mathlib.Core.Bool.{Bool, true, false, cond, and-eq-true-iff, true≢false}
+use mathlib.Core.List.{List, [], _∷_}
+use mathlib.Core.Bool.{Bool, true, false, cond, not, _&&_, and-eq-true-iff, true≢false}
 use native.Mathlib.Omega.{arith}
 use native.Mathlib.Numerals.{add-one}
-use lib.Dec.{eqb}
 use lib.ListN.{length, length-append}
-use borrow.Author.Tests.{eq-eqb, eqb-true}
+use borrow.Author.Tests.{eq-eqb}
 use Rattle.sequences.specs.Sequence.{range, filter}
+use Rattle.sequences.proofs.Range.{length-range, range-append}
+use Rattle.sequences.proofs.Filter.{filter-append, filter-length}
 use Rattle.layout.specs.declared.Layout.{Layout}
-use Rattle.layout.specs.Words.{firstNode, isFree, inUse}
-use Rattle.lists.specs.Decide.{View, sequenceIn, holds, allHold, members, cellsWith, used, soundIn}
+use Rattle.layout.specs.Words.{mostNodes, firstNode, isFree, inUse}
+use Rattle.lists.specs.Decide.{View, sequenceIn, holds, allHold, members, cellsWith, used, unwiped, soundIn}
 use Rattle.lists.proofs.Agree.{holds-true}
-use Rattle.lists.proofs.Nodes.{cells-few}
-use Rattle.lists.proofs.Stepwise.{all-hold-more, sound-by, sound-hold}
-use Rattle.spans.specs.declared.Tally.{Tally}
-use Rattle.spans.specs.Spans.{tallyOf, tallied, Held, countSum, Decides}
+use Rattle.lists.proofs.Stepwise.{all-hold-more, sound-by, sound-hold, sound-number, sound-blank}
+use Rattle.spans.specs.Spans.{tallyOf, identsOf, noTally, tallied, bothTallies, FewIn, Held, countSum, Decides}
 
--- 1 for a cell whose identifier passes the test, 0 for any other
-abbrev oneIn : (ℕ → Bool) → View → ℕ → ℕ
-oneIn test v a = cond (test (v .ident a)) 1 0
+-- how many of the n cells from a on pass a test
+abbrev passing : (ℕ → Bool) → ℕ → ℕ → ℕ
+passing test a n = length (filter test (range a n))
 
--- n of the first i nodes pass
-pub record Counting (test : ℕ → Bool) (l : Layout) (v : View) (i n : ℕ) : Type 0 where
-  pub few : i ≤ l .nodes
-  pub sum : n + length (cellsWith test v (firstNode l + i) (l .nodes - i)) ≡ length (cellsWith test v (firstNode l) (l .nodes))
+passing-few : (test : ℕ → Bool) (a n : ℕ) → passing test a n ≤ n
+passing-few test a n = omega (arith, filter-length test (range a n), length-range a n)
 
-module _ (test : ℕ → Bool) (l : Layout) (v : View) where
-  next-cell : (a n : ℕ) → length (cellsWith test v a (suc n)) ≡ oneIn test v a + length (cellsWith test v (suc a) n)
-  unfolding range filter
-  next-cell a n = by (test (v .ident a))
-    where
-      by : (b : Bool)
-          → length (cond b (a ∷ cellsWith test v (suc a) n) (cellsWith test v (suc a) n)) ≡ cond b 1 0 + length (cellsWith test v (suc a) n)
-      by true = omega arith
-      by false = omega arith
+-- of one cell, of m and n cells, and of one more
+passing-one : (test : ℕ → Bool) (a : ℕ) → passing test a 1 ≡ cond (test a) 1 0
+unfolding range filter
+passing-one test a = by (test a)
+  where
+    by : (b : Bool) → length (cond b (a ∷ []) []) ≡ cond b 1 0
+    by true = refl
+    by false = refl
 
-  counting-first : Counting test l v 0 0
-  counting-first =
-      let a : firstNode l + 0 ≡ firstNode l = omega arith in
-      let b : l .nodes - 0 ≡ l .nodes = omega arith in
-      record { few = omega arith; sum = rw (a, b) (omega arith) }
+passing-append : (test : ℕ → Bool) (a m n : ℕ) → passing test a (m + n) ≡ passing test a m + passing test (a + m) n
+passing-append test a m n =
+    ap (λ (s : List ℕ). length (filter test s)) (range-append a m n)
+    ∙ ap length (filter-append test (range a m) (range (a + m) n))
+    ∙ length-append (filter test (range a m)) (filter test (range (a + m) n))
 
-  counting-next : (i n : ℕ) → Counting test l v i n → i < l .nodes → Counting test l v (i + 1) (n + oneIn test v (firstNode l + i))
-  counting-next i n c h =
-      let a : l .nodes - i ≡ suc (l .nodes - (i + 1)) = omega arith in
-      let b : suc (firstNode l + i) ≡ firstNode l + (i + 1) = omega arith in
-      let q : length (cellsWith test v (firstNode l + i) (l .nodes - i)) ≡ oneIn test v (firstNode l + i) + length (cellsWith test v (firstNode l + (i + 1)) (l .nodes - (i + 1))) =
-      ap (λ (m : ℕ). length (cellsWith test v (firstNode l + i) m)) a
-      ∙ next-cell (firstNode l + i) (l .nodes - (i + 1))
-      ∙ ap (λ (d : ℕ). oneIn test v (firstNode l + i) + length (cellsWith test v d (l .nodes - (i + 1)))) b in
-      record { few = omega arith; sum = omega (arith, c .sum) }
+passing-more : (test : ℕ → Bool) (a n : ℕ) → passing test a (n + 1) ≡ passing test a n + cond (test (a + n)) 1 0
+passing-more test a n = passing-append test a n 1 ∙ ap (λ (m : ℕ). passing test a n + m) (passing-one test (a + n))
 
-  counting-few : (i n : ℕ) → Counting test l v i n → n ≤ l .nodes
-  counting-few i n c = omega (arith, c .sum, cells-few test v (firstNode l) (l .nodes))
-
-  counting-done : (i n : ℕ) → Counting test l v i n → l .nodes ≤ i → n ≡ length (cellsWith test v (firstNode l) (l .nodes))
-  counting-done i n c h =
-      let z : l .nodes - i ≡ 0 = omega arith in
-      omega (arith, c .sum, cells-few test v (firstNode l + i) (l .nodes - i))
+-- two tests are passed by no more cells than one
+passing-both : (p q : ℕ → Bool) (a n : ℕ) → passing (λ c. p c && q c) a n ≤ passing p a n
+unfolding range filter
+passing-both p q a zero = omega arith
+passing-both p q a (suc n) = by (p a) (q a) (passing-both p q (suc a) n)
+  where
+    by : (x y : Bool) → passing (λ c. p c && q c) (suc a) n ≤ passing p (suc a) n
+        → length (cond (x && y) (a ∷ filter (λ c. p c && q c) (range (suc a) n)) (filter (λ c. p c && q c) (range (suc a) n)))
+        ≤ length (cond x (a ∷ filter p (range (suc a) n)) (filter p (range (suc a) n)))
+    by true true h = omega arith
+    by true false h = omega arith
+    by false y h = omega arith
 
 pub one-small : (b : Bool) → cond b 1 0 ≤ 1
 one-small true = omega arith
 one-small false = omega arith
 
--- the tally of the first i nodes
-pub record Tallying (l : Layout) (v : View) (i : ℕ) (t : Tally) : Type 0 where
-  pub free : Counting isFree l v i (t .free)
-  pub used : Counting inUse l v i (t .used)
+-- the tests of a cell: is it free, is it in use, is it free with a record that is not blank?
+abbrev freeIn : View → ℕ → Bool
+freeIn v c = isFree (v .ident c)
 
-module _ (l : Layout) (v : View) where
-  pub tallying-first : Tallying l v 0 (record { free = 0; used = 0 })
-  tallying-first = record { free = counting-first isFree l v; used = counting-first inUse l v }
+abbrev usedIn : View → ℕ → Bool
+usedIn v c = inUse (v .ident c)
 
-  pub tallying-next : (i : ℕ) (t : Tally) → Tallying l v i t → i < l .nodes → Tallying l v (i + 1) (tallied t (v .ident (firstNode l + i)))
-  tallying-next i t c h =
-      record { free = counting-next isFree l v i (t .free) (c .free) h; used = counting-next inUse l v i (t .used) (c .used) h }
+abbrev unwipedIn : View → ℕ → Bool
+unwipedIn v c = isFree (v .ident c) && not (v .blank c)
 
-  pub tallying-few : (i : ℕ) (t : Tally) → Tallying l v i t → (t .free ≤ l .nodes) × (t .used ≤ l .nodes)
-  tallying-few i t c = (counting-few isFree l v i (t .free) (c .free), counting-few inUse l v i (t .used) (c .used))
+module _ (v : View) (a : ℕ) where
+  -- no cell, and one more, by the identifiers
+  pub idents-none : noTally ≡ identsOf v a 0
+  unfolding range filter
+  idents-none = refl
 
-  pub tallying-done : (i : ℕ) (t : Tally) → Tallying l v i t → l .nodes ≤ i → t ≡ tallyOf v (firstNode l) (l .nodes)
-  tallying-done i t c h =
-      λ j.
-      record { free = counting-done isFree l v i (t .free) (c .free) h j; used = counting-done inUse l v i (t .used) (c .used) h j }
+  pub idents-more : (n : ℕ) → identsOf v a (n + 1) ≡ tallied (identsOf v a n) (v .ident (a + n))
+  idents-more n = λ i. record { free = passing-more (freeIn v) a n i; used = passing-more (usedIn v) a n i; unwiped = 0 }
+
+  -- none is free: that is all there is to tell
+  pub idents-all : (n : ℕ) → length (cellsWith isFree v a n) ≡ 0 → identsOf v a n ≡ tallyOf v a n
+  idents-all n e =
+      let z : 0 ≡ length (unwiped v a n) = omega (arith, e, passing-both (freeIn v) (λ c. not (v .blank c)) a n) in
+      λ i. record { free = length (cellsWith isFree v a n); used = length (used v a n); unwiped = z i }
+
+  -- one cell more that is free, and whose record is blank if b says so; or one that is not free
+  unwiped-more : (n : ℕ) (b : Bool) → unwipedIn v (a + n) ≡ b → length (unwiped v a (n + 1)) ≡ length (unwiped v a n) + cond b 1 0
+  unwiped-more n b e = passing-more (unwipedIn v) a n ∙ ap (λ (d : Bool). length (unwiped v a n) + cond d 1 0) e
+
+  pub unwiped-none : 0 ≡ length (unwiped v a 0)
+  unfolding range filter
+  unwiped-none = refl
+
+  pub unwiped-free : (n : ℕ) (b : Bool) → isFree (v .ident (a + n)) ≡ true → b ≡ v .blank (a + n)
+      → length (unwiped v a (n + 1)) ≡ length (unwiped v a n) + cond (not b) 1 0
+  unwiped-free n b e q = unwiped-more n (not b) (rw (e, q))
+
+  pub unwiped-other : (n : ℕ) → isFree (v .ident (a + n)) ≡ false → length (unwiped v a (n + 1)) ≡ length (unwiped v a n)
+  unwiped-other n e = omega (arith, unwiped-more n false (rw e))
+
+  -- the cells before c, and n from there on
+  pub tally-none : noTally ≡ tallyOf v a 0
+  unfolding range filter
+  tally-none = refl
+
+  pub tally-plus : (c n : ℕ) → a ≤ c → tallyOf v a (c + n - a) ≡ bothTallies (tallyOf v a (c - a)) (tallyOf v c n)
+  tally-plus c n h =
+      let m = c - a in
+      let e : c + n - a ≡ m + n = omega arith in
+      let d : a + m ≡ c = omega arith in
+      ap (tallyOf v a) e
+      ∙ (λ i. record {
+        free = passing-append (freeIn v) a m n i;
+        used = passing-append (usedIn v) a m n i;
+        unwiped = passing-append (unwipedIn v) a m n i;
+      })
+      ∙ ap (λ (b : ℕ). bothTallies (tallyOf v a m) (tallyOf v b n)) d
+
+  -- no more than there are cells
+  pub tally-few : (n : ℕ) → n ≤ mostNodes → FewIn (tallyOf v a n)
+  tally-few n h =
+      record {
+        free = omega (arith, passing-few (freeIn v) a n);
+        used = omega (arith, passing-few (usedIn v) a n);
+        unwiped = omega (arith, passing-few (unwipedIn v) a n);
+      }
 
 -- the sum of no counts, and of one count more
 pub sum-none : (count : ℕ → ℕ) → 0 ≡ countSum count 0
@@ -119,11 +159,11 @@ module _ (l : Layout) (v : View) (count : ℕ → ℕ) where
 
   -- another sum than there are nodes in use
   pub sum-not : (length (used v (firstNode l) (l .nodes)) ≡ countSum count (l .lists) → ⊥) → false ≡ soundIn l v count
-  unfolding soundIn
-  sum-not q =
-      unsound (λ e.
-      let a = and-eq-true-iff (allHold l v count (l .lists)) (eqb (length (members l v (l .lists))) (length (used v (firstNode l) (l .nodes)))) .0 e in
-      q (sym (eqb-true _ _ (a .1)) ∙ hold-sum (l .lists) (a .0)))
+  sum-not q = unsound (λ e. let a = sound-number l v count e in q (sym (a .1) ∙ hold-sum (l .lists) (a .0)))
+
+  -- a free node that has a record
+  pub unwiped-not : (length (unwiped v (firstNode l) (l .nodes)) ≡ 0 → ⊥) → false ≡ soundIn l v count
+  unwiped-not q = unsound (λ e. q (sound-blank l v count e))
 
   -- a list that does not hold, or one of two
   pub held-not : (k : ℕ) → k < l .lists → (Held l v count k → ⊥) → false ≡ soundIn l v count
@@ -132,14 +172,14 @@ module _ (l : Layout) (v : View) (count : ℕ → ℕ) where
   pub pair-not : (k j : ℕ) → k < l .lists → j < l .lists → (Held l v count k × Held l v count j → ⊥) → false ≡ soundIn l v count
   pair-not k j h g n = unsound (λ e. n (sound-hold l v count e k h, sound-hold l v count e j g))
 
-  -- the sum is right, and all lists hold
-  module _ (q : length (used v (firstNode l) (l .nodes)) ≡ countSum count (l .lists)) where
+  -- the sum is right, no free node has a record, and all lists hold
+  module _ (q : length (used v (firstNode l) (l .nodes)) ≡ countSum count (l .lists)) (z : length (unwiped v (firstNode l) (l .nodes)) ≡ 0) where
     pub sum-sound : (k : ℕ) → k ≡ l .lists → allHold l v count k ≡ true → true ≡ soundIn l v count
     sum-sound k e h =
         let m = length (members l v k) in
         let n = length (used v (firstNode l) (l .nodes)) in
         let s : m ≡ n = hold-sum k h ∙ ap (countSum count) e ∙ sym q in
-        sym (eq-eqb m n s) ∙ sound-by l v count k m n e h refl refl
+        sym (eq-eqb m n s) ∙ sound-by l v count k m n e h refl refl z
 
     -- and but for the last all hold: this one decides
     pub last-sound : (k : ℕ) (r : Bool) → k + 1 ≡ l .lists → allHold l v count k ≡ true → Decides r (Held l v count k) → r ≡ soundIn l v count

@@ -1,13 +1,13 @@
--- Where the words of nodes stand: computed by a product, or one after another.
-use Prim.Native.Nat.{ℕ, suc, _+_, _*_, _-_, _≤_, _<_}
+-- Where the words of nodes stand: computed by a product.
+use Prim.Native.Nat.{ℕ, _+_, _*_, _-_, _≤_, _<_}
 use mathlib.Core.Path.{_≡_, ap}
 use mathlib.Core.List.{List}
 use native.Mathlib.Omega.{arith}
-use native.Mathlib.Nat.{mul-le-mul, mul-le-mul-left, mul-add, mul-suc}
+use native.Mathlib.Nat.{mul-le-mul, mul-le-mul-left, mul-add}
 use lib.ListN.{length}
 use Rattle.layout.specs.declared.Layout.{Layout}
-use Rattle.layout.specs.Words.{mostWidth, mostCells, headerWords, linkWords, firstNode, cellCount, nodeWords, nodesAt, headerAt, nodeAt, cellAt, InRange, Laid}
-use Rattle.layout.proofs.Laws.{cell-node, cell-fits, header-fits, size-small}
+use Rattle.layout.specs.Words.{mostWidth, mostCells, headerWords, linkWords, firstNode, cellCount, Node, tailWords, nodeWords, nodesAt, headerAt, nodeAt, cellAt, recordAt, InRange, Laid}
+use Rattle.layout.proofs.Laws.{cell-node, node-fits, cell-fits, header-fits, size-small}
 
 module _ (l : Layout) where
   -- the products are small
@@ -27,29 +27,16 @@ module _ (l : Layout) where
   unfolding nodeAt
   place-at y h = omega (arith, product-parts y h, cell-node l y h)
 
-  -- the first node, and the next
-  pub first-place : cellAt l (firstNode l) ≡ nodesAt l
-  unfolding nodeAt
-  first-place =
-      let z : firstNode l - firstNode l ≡ 0 = omega arith in
-      omega (arith, cell-node l (firstNode l) (omega arith), ap (λ (n : ℕ). nodeWords l * n) z)
-
-  pub next-place : (y : ℕ) → firstNode l ≤ y → cellAt l (y + 1) ≡ cellAt l y + nodeWords l
-  unfolding nodeAt
-  next-place y h =
-      let e : y + 1 - firstNode l ≡ suc (y - firstNode l) = omega arith in
-      omega (
-        arith,
-        cell-node l y h,
-        cell-node l (y + 1) (omega arith),
-        ap (λ (n : ℕ). nodeWords l * n) e,
-        mul-suc (nodeWords l) (y - firstNode l),
-      )
-
 -- the words of a cell stand within the store, whose words are few
 module _ {l : Layout} {w : List ℕ} (h : Laid l w) where
   pub in-words : (y : ℕ) → y < cellCount l → cellAt l y + linkWords ≤ length w
   in-words y q = omega (arith, h .exact, cell-fits l y (h .inRange) q)
+
+  -- and so do those of a node's tail
+  pub tail-words : (y : ℕ) → Node l y → (cellAt l y + linkWords ≡ recordAt l y) × (recordAt l y + tailWords l ≤ length w)
+  tail-words y n =
+      let e = cell-node l y (n .low) in
+      (omega (arith, e), omega (arith, e, h .exact, node-fits l y n))
 
   pub head-words : (k : ℕ) → k < l .lists → headerAt l k + headerWords ≤ length w
   head-words k q = omega (arith, h .exact, header-fits l k q)

@@ -1,13 +1,13 @@
 -- A list walked from both ends at once: what lies between the two cells that the walks have come to.
-use Prim.Native.Nat.{ℕ, zero, suc, _+_, _*_, _-_}
+use Prim.Native.Nat.{ℕ, zero, suc, _+_, _*_, _-_, _≤_}
 use mathlib.Core.Path.{_≡_}
 use mathlib.Core.List.{List}
 use mathlib.Core.Bool.{Bool, true, cond}
 use lib.ListN.{length, getD}
 use Rattle.sequences.specs.Sequence.{All, Forward, Backward}
 use Rattle.layout.specs.declared.Layout.{Layout}
-use Rattle.layout.specs.Words.{firstNode, cellCount, isNode, nodeWords, nodesAt, forwardWord, backWord, identOf, isFree, inUse}
-use Rattle.lists.specs.Decide.{View, sequenceIn, holds, cellsWith, used}
+use Rattle.layout.specs.Words.{mostNodes, firstNode, cellCount, isNode, nodeWords, nodesAt, forwardWord, backWord, identOf, isFree, inUse}
+use Rattle.lists.specs.Decide.{View, sequenceIn, holds, cellsWith, used, unwiped}
 use Rattle.spans.specs.declared.Grid.{Grid}
 use Rattle.spans.specs.declared.Cell.{Cell}
 use Rattle.spans.specs.declared.Tally.{Tally}
@@ -23,13 +23,28 @@ pub record Gridded (l : Layout) (g : Grid) : Type 0 where
   pub from : g .from ≡ firstNode l
   pub to : g .to ≡ cellCount l
 
--- how many of the n cells from a on are free, and how many are in use
+-- how many of the n cells from a on are free, how many are in use, and how many are free and have a record; and the same by the identifiers alone
 abbrev pub tallyOf : View → ℕ → ℕ → Tally
-tallyOf v a n = record { free = length (cellsWith isFree v a n); used = length (used v a n) }
+tallyOf v a n = record { free = length (cellsWith isFree v a n); used = length (used v a n); unwiped = length (unwiped v a n) }
 
--- a tally with one node more, which has the identifier x
+abbrev pub identsOf : View → ℕ → ℕ → Tally
+identsOf v a n = record { free = length (cellsWith isFree v a n); used = length (used v a n); unwiped = 0 }
+
+-- the tally of no node, with one node more, which has the identifier x, and with the nodes of another
+abbrev pub noTally : Tally
+noTally = record { free = 0; used = 0; unwiped = 0 }
+
 abbrev pub tallied : Tally → ℕ → Tally
-tallied t x = record { free = t .free + cond (isFree x) 1 0; used = t .used + cond (inUse x) 1 0 }
+tallied t x = record { free = t .free + cond (isFree x) 1 0; used = t .used + cond (inUse x) 1 0; unwiped = t .unwiped }
+
+abbrev pub bothTallies : Tally → Tally → Tally
+bothTallies t u = record { free = t .free + u .free; used = t .used + u .used; unwiped = t .unwiped + u .unwiped }
+
+-- no more nodes than a store has
+pub record FewIn (t : Tally) : Type 0 where
+  pub free : t .free ≤ mostNodes
+  pub used : t .used ≤ mostNodes
+  pub unwiped : t .unwiped ≤ mostNodes
 
 -- r says whether P
 pub record Decides (r : Bool) (P : Type 0) : Type 0 where

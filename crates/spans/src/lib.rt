@@ -1,12 +1,13 @@
 // A list walked from both ends at once. What the two walks have yet to meet is a span: so many cells between two cells. A round
 // takes its first and its last cell away, if they are right; in the middle nothing is left, or one cell. The nodes are tallied by
-// their identifiers. What stands here is what the walks in lent words and in lent bytes share: they differ only in how they read a cell.
+// their identifiers, and the free ones by their records too. What stands here is what the walks in lent words and in lent bytes
+// share: they differ only in how they read a cell.
 use layout::Layout;
 ghost use mathlib.Core.Path.{_≡_};
 ghost use Prim.Native.Nat.{_<_, _≤_};
 ghost use mathlib.Core.Bool.{cond};
-ghost use Rattle.layout.specs.Words.{mostLists, mostNodes, InRange, Node, isNode, cellAt};
-ghost use Rattle.spans.specs.Spans.{Gridded, tallied, wholeSpan, narrowed, Closed, Single, Decides};
+ghost use Rattle.layout.specs.Words.{mostLists, mostNodes, tailWords, InRange, Node, isNode, cellAt};
+ghost use Rattle.spans.specs.Spans.{Gridded, noTally, tallied, bothTallies, FewIn, wholeSpan, narrowed, Closed, Single, Decides};
 
 // What the address of a node is computed from: node y begins at word first + step * y - low.
 pub struct Grid {
@@ -39,28 +40,71 @@ pub enum Round {
     Broken,
 }
 
-// How many nodes are free, and how many are in use.
+// How many nodes are free, how many are in use, and how many of the free ones have a record that is not blank.
 pub struct Tally {
     pub free: u32,
     pub used: u32,
+    pub unwiped: u32,
 }
 
 // 1 for yes, 0 for no.
-fn one(yes: bool) -> u32
+pub fn one(yes: bool) -> u32
     ensures { λ r. ⌜ r ≡ cond yes 1 0 ⌝ }
 {
     if yes { 1 } else { 0 }
 }
 
 impl Tally {
-    // The tally with one node more, which has this identifier.
+    // So many nodes are tallied at once: enough for vectors, and few enough that most portions of a full store have no free node.
+    pub const AT_ONCE: usize = 32;
+
+    // The next portion, of the nodes that are left.
+    pub fn portion(left: usize) -> usize
+        requires { ⌜ 0 < left ⌝ }
+        ensures { λ r. ⌜ (0 < r) × (r ≤ left) ⌝ }
+    {
+        if left < Tally::AT_ONCE {
+            left
+        } else {
+            Tally::AT_ONCE
+        }
+    }
+
+    // The tally of no node.
+    pub fn none() -> Self
+        ensures { λ r. ⌜ r ≡ noTally ⌝ }
+    {
+        Self {
+            free: 0,
+            used: 0,
+            unwiped: 0,
+        }
+    }
+
+    // The tally with one node more, which has this identifier. Its record is not asked.
     pub fn with(self, ident: u16) -> Self
         requires { ⌜ (self .free ≤ mostNodes) × (self .used ≤ mostNodes) ⌝ }
         ensures { λ r. ⌜ r ≡ tallied self ident ⌝ }
     {
         let free = self.free + one(Layout::is_free(ident));
         let used = self.used + one(Layout::in_use(ident));
-        Self { free, used }
+        Self {
+            free,
+            used,
+            unwiped: self.unwiped,
+        }
+    }
+
+    // The tally with the nodes of another.
+    pub fn plus(self, other: Tally) -> Self
+        requires { ⌜ FewIn self × FewIn other ⌝ }
+        ensures { λ r. ⌜ r ≡ bothTallies self other ⌝ }
+    {
+        Self {
+            free: self.free + other.free,
+            used: self.used + other.used,
+            unwiped: self.unwiped + other.unwiped,
+        }
     }
 }
 
@@ -97,6 +141,14 @@ impl Grid {
         ensures { λ r. ⌜ r ≡ cellAt l y ⌝ }
     {
         self.step * y + self.first - self.low
+    }
+
+    // The words of a node behind its links.
+    pub fn tail(self, l: Layout) -> u16
+        requires { ⌜ Gridded l self × InRange l ⌝ }
+        ensures { λ r. ⌜ r ≡ tailWords l ⌝ }
+    {
+        (self.step - Layout::LINK_WORDS) as u16
     }
 }
 

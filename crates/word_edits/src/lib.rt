@@ -1,4 +1,5 @@
-// The stores of insert and delete, made in the lent words: a record and its links, records one behind the other, and the links of a member.
+// The stores of insert and delete, made in the lent words: a record and its links, records one behind the other, and
+// the links of a member and zeros over its record.
 use layout::Layout;
 use requests::Site;
 use stores::Answer;
@@ -69,7 +70,7 @@ pub fn insert_all(
     }
 }
 
-// Makes the stores of a delete, up to the allowance.
+// Makes the stores of a delete, the links and then zeros over the record, up to the allowance.
 pub fn delete_at(words: &mut [u16], l: Layout, list: u16, t: Site, allowance: u16) -> Answer
     requires { ⌜ Placed l list t × (length (now words) ≡ sizeOf l) ⌝ }
     ensures answer { λ r. ⌜ r ≡ answerOf (stores (deleteWrites l list t)) allowance ⌝ }
@@ -78,5 +79,14 @@ pub fn delete_at(words: &mut [u16], l: Layout, list: u16, t: Site, allowance: u1
     let links = edits::delete_links(l, list, t);
     let at = links.at;
     let values = links.values;
-    stores::run(words, &at, &values, allowance)
+    let Answer::Done(n) = stores::run(words, &at, &values, allowance) else {
+        return Answer::Stopped(allowance);
+    };
+    let row = l.node(t.cell) + Layout::LINK_WORDS;
+    let size = l.node_words() - Layout::LINK_WORDS;
+    let zeros = [0; Layout::MAX_WIDTH];
+    let Answer::Done(m) = stores::put_row(words, row, &zeros[..size], allowance - n) else {
+        return Answer::Stopped(allowance);
+    };
+    Answer::Done(n + m)
 }

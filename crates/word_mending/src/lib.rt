@@ -1,5 +1,6 @@
 // Recovery of a store in words, decided in the lent words: each list is walked there, and the mends are kept in short rows. Only if a
-// node in no list may be in use by its identifier, the identifiers are read into a column and the members erased there.
+// node in no list may be in use by its identifier, the identifiers are read into a column and the members erased there. The wipes need no
+// column: once the mends and the clears are made, the nodes to be wiped are the free ones.
 use layout::Layout;
 use mending::Mends;
 use spans::Grid;
@@ -9,12 +10,12 @@ ghost use mathlib.Core.Path.{_≡_};
 ghost use Prim.Native.Nat.{_+_};
 ghost use mathlib.Core.List.{_++_};
 ghost use lib.ListN.{length};
-ghost use Rattle.stores.specs.Stores.{stores, answerOf, applied, wordsAfter, writesIn, Held};
+ghost use Rattle.stores.specs.Stores.{run, stores, answerOf, applied, wordsAfter, writesIn, Held};
 ghost use Rattle.layout.specs.Words.{mostCells, Laid, sizeOf};
 ghost use Rattle.lists.specs.Decide.{viewOf, countIn};
 ghost use Rattle.spans.specs.Spans.{Gridded};
 ghost use Rattle.recovery.specs.Plan.{recoverOf};
-ghost use Rattle.mending.specs.Mending.{clears, MendsOf};
+ghost use Rattle.mending.specs.Mending.{clears, wipes, MendsOf};
 
 // Makes the mends and then the clears, up to the allowance.
 fn make(
@@ -37,7 +38,7 @@ fn make(
     Answer::Done(n + m)
 }
 
-// Recovers a store where a node in no list may be in use by its identifier: the mends, and then the clears.
+// Recovers a store where a node in no list may be in use by its identifier: the mends, the clears, and then the wipes.
 fn recover_left(
     words: &mut [u16],
     l: Layout,
@@ -54,24 +55,38 @@ fn recover_left(
     let mends = m.rows;
     word_clears::read_nodes(idents, words, l, g);
     word_clears::erase_all(idents, words, l, g, back);
-    make(words, mends, idents, l, allowance)
+    let made = make(words, mends, idents, l, allowance);
+    word_wipes::go_on(words, l, g, made, allowance)
 }
 
-// Recovers a store of this layout. The nodes in use are counted first: that fetches the words in order.
+// Recovers a store where none is: the mends, and then the wipes.
+fn recover_none_left(words: &mut [u16], l: Layout, g: Grid, mends: Rows, allowance: u16) -> Answer
+    requires { ⌜ Gridded l g × Laid l (now words) × Held (sizeOf l) mends (writesIn mends) ⌝ }
+    ensures answer { λ r. ⌜ r ≡ answerOf (stores (writesIn mends ++ wipes l (run (writesIn mends) (now (words .entry))))) allowance ⌝ }
+    ensures words { λ _. ⌜ now (words .exit) ≡ applied (writesIn mends ++ wipes l (run (writesIn mends) (now (words .entry)))) allowance (now (words .entry)) ⌝ }
+{
+    let made = stores::run_rows(words, mends, allowance);
+    word_wipes::go_on(words, l, g, made, allowance)
+}
+
+// Recovers a store of this layout. The nodes are tallied first: that fetches the words in order.
 pub fn recover_in(words: &mut [u16], l: Layout, allowance: u16) -> Answer
     requires { ⌜ Laid l (now words) ⌝ }
     ensures answer { λ r. ⌜ r ≡ answerOf (recoverOf l (now (words .entry))) allowance ⌝ }
     ensures words { λ _. ⌜ now (words .exit) ≡ wordsAfter (recoverOf l (now (words .entry))) allowance (now (words .entry)) ⌝ }
 {
     let g = Grid::of(l);
-    let used = word_walks::tally(words, l, g).used;
+    let t = word_walks::tally(words, l, g);
     let found = word_mends::all_mends(words, l, g);
     if found.refusal != 0 {
         return Answer::Refused(found.refusal);
     }
-    if found.none_left(used) {
+    if found.none_left(t.used) {
         let mends = found.rows;
-        return stores::run_rows(words, mends, allowance);
+        if t.unwiped == 0 {
+            return stores::run_rows(words, mends, allowance);
+        }
+        return recover_none_left(words, l, g, mends, allowance);
     }
     let mut idents = mending::column();
     recover_left(words, l, g, found, &mut idents, allowance)

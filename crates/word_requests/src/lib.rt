@@ -103,7 +103,7 @@ fn gaps(words: &[u16], l: Layout, g: Grid, k: u16, n: u16, p: u16, start: u16, s
     if refusal != 0 {
         return Sited::Refused(refusal);
     }
-    let free = word_walks::tally(words, l, g).free as usize;
+    let free = word_walks::free_nodes(words, l, g) as usize;
     let width = l.width as usize;
     if free < size / width {
         return Sited::Refused(10);

@@ -1,6 +1,7 @@
 // The lists of a store, decided in the lent words. The nodes in use are counted in one pass, which fetches the words in order, and
-// compared with the sum of the counts. Then each list is walked from both ends at once, and two lists in one loop: four chains of
-// links, of which none waits for another.
+// compared with the sum of the counts. It goes portion by portion: where one has a free node, the records of its free nodes are read too,
+// and a portion in use is passed over with no branch for each node. Then each list is walked from both ends at once, and two lists in one
+// loop: four chains of links, of which none waits for another.
 use layout::Layout;
 use spans::Cell;
 use spans::Grid;
@@ -10,9 +11,9 @@ use spans::Tally;
 ghost use mathlib.Core.Path.{_≡_};
 ghost use Prim.Native.Nat.{_+_, _≤_, _<_};
 ghost use lib.ListN.{length, getD};
-ghost use Rattle.layout.specs.Words.{Laid, Node, firstNode, cellCount, linkWords, identOf};
-ghost use Rattle.lists.specs.Decide.{viewOf, countIn, soundOf};
-ghost use Rattle.spans.specs.Spans.{Gridded, tallyOf, Decides, Held, countSum, cellOf, cellIn, wholeSpan, Spanned, Led, rounded};
+ghost use Rattle.layout.specs.Words.{mostWidth, Laid, Node, firstNode, cellCount, linkWords, identOf, isFree};
+ghost use Rattle.lists.specs.Decide.{blankFrom, viewOf, countIn, cellsWith, unwiped, soundOf};
+ghost use Rattle.spans.specs.Spans.{Gridded, tallyOf, identsOf, Decides, Held, countSum, cellOf, cellIn, wholeSpan, Spanned, Led, rounded};
 
 // The word at a.
 fn word(words: &[u16], a: usize) -> u16
@@ -196,18 +197,95 @@ pub fn two_hold(words: &[u16], l: Layout, g: Grid, k: u16, j: u16) -> bool
     both_spanned(words, l, g, k, s, j, t)
 }
 
-// How many nodes are free, and how many are in use.
+// Are the n words from a on all 0? They are added up, and the sum is asked once.
+pub fn blank(words: &[u16], a: usize, n: u16) -> bool
+    requires { ⌜ (n ≤ mostWidth) × (a + n ≤ length (now words)) ⌝ }
+    ensures { λ r. ⌜ r ≡ blankFrom (now (words .entry)) a n ⌝ }
+{
+    let mut sum: u32 = 0;
+    let mut i: u16 = 0;
+    while i < n {
+        sum += word(words, a + i as usize) as u32;
+        i += 1;
+    }
+    sum == 0
+}
+
+// Is the record of node y blank?
+fn is_blank(words: &[u16], l: Layout, g: Grid, y: usize) -> bool
+    requires { ⌜ Gridded l g × Laid l (now words) × Node l y ⌝ }
+    ensures { λ r. ⌜ r ≡ viewOf l (now (words .entry)) .blank y ⌝ }
+{
+    blank(words, g.place(l, y) + Layout::LINK_WORDS, g.tail(l))
+}
+
+// The n nodes from cell c on, tallied by their identifiers: no record is read.
+fn by_idents(words: &[u16], l: Layout, g: Grid, c: usize, n: usize) -> Tally
+    requires { ⌜ Gridded l g × Laid l (now words) × (firstNode l ≤ c) × (c + n ≤ cellCount l) ⌝ }
+    ensures { λ r. ⌜ r ≡ identsOf (viewOf l (now (words .entry))) c n ⌝ }
+{
+    let mut t = Tally::none();
+    let mut j: usize = 0;
+    while j < n {
+        t = t.with(node(words, l, g, c + j).ident);
+        j += 1;
+    }
+    t
+}
+
+// How many nodes are free.
+pub fn free_nodes(words: &[u16], l: Layout, g: Grid) -> u32
+    requires { ⌜ Gridded l g × Laid l (now words) ⌝ }
+    ensures { λ r. ⌜ r ≡ length (cellsWith isFree (viewOf l (now (words .entry))) (firstNode l) (l .nodes)) ⌝ }
+{
+    by_idents(words, l, g, g.from, l.nodes as usize).free
+}
+
+// How many of the n nodes from cell c on are free and have a record that is not blank.
+fn unwiped(words: &[u16], l: Layout, g: Grid, c: usize, n: usize) -> u32
+    requires { ⌜ Gridded l g × Laid l (now words) × (firstNode l ≤ c) × (c + n ≤ cellCount l) ⌝ }
+    ensures { λ r. ⌜ r ≡ length (unwiped (viewOf l (now (words .entry))) c n) ⌝ }
+{
+    let mut found: u32 = 0;
+    let mut j: usize = 0;
+    while j < n {
+        let y = c + j;
+        let ident = node(words, l, g, y).ident;
+        if Layout::is_free(ident) {
+            found += spans::one(!is_blank(words, l, g, y));
+        }
+        j += 1;
+    }
+    found
+}
+
+// Their tally: where none of them is free, their records are not asked.
+fn part(words: &[u16], l: Layout, g: Grid, c: usize, n: usize) -> Tally
+    requires { ⌜ Gridded l g × Laid l (now words) × (firstNode l ≤ c) × (c + n ≤ cellCount l) ⌝ }
+    ensures { λ r. ⌜ r ≡ tallyOf (viewOf l (now (words .entry))) c n ⌝ }
+{
+    let t = by_idents(words, l, g, c, n);
+    if t.free == 0 {
+        return t;
+    }
+    Tally {
+        free: t.free,
+        used: t.used,
+        unwiped: unwiped(words, l, g, c, n),
+    }
+}
+
+// How many nodes are free, how many are in use, and how many of the free ones have a record that is not blank.
 pub fn tally(words: &[u16], l: Layout, g: Grid) -> Tally
     requires { ⌜ Gridded l g × Laid l (now words) ⌝ }
     ensures { λ r. ⌜ r ≡ tallyOf (viewOf l (now (words .entry))) (firstNode l) (l .nodes) ⌝ }
 {
-    let mut a = g.first;
-    let mut t = Tally { free: 0, used: 0 };
-    let mut i: u16 = 0;
-    while i < l.nodes {
-        t = t.with(word(words, a));
-        a += g.step;
-        i += 1;
+    let mut t = Tally::none();
+    let mut c = g.from;
+    while c < g.to {
+        let n = Tally::portion(g.to - c);
+        t = t.plus(part(words, l, g, c, n));
+        c += n;
     }
     t
 }
@@ -226,13 +304,17 @@ fn counted(words: &[u16], l: Layout) -> u32
     n
 }
 
-// Are the lists sound?
+// Are the lists sound, and the records of the free nodes blank?
 pub fn sound_in(words: &[u16], l: Layout) -> bool
     requires { ⌜ Laid l (now words) ⌝ }
     ensures { λ r. ⌜ r ≡ soundOf l (now (words .entry)) ⌝ }
 {
     let g = Grid::of(l);
-    if tally(words, l, g).used != counted(words, l) {
+    let t = tally(words, l, g);
+    if t.used != counted(words, l) {
+        return false;
+    }
+    if t.unwiped != 0 {
         return false;
     }
     let mut k: u16 = 0;

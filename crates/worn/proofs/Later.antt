@@ -15,7 +15,7 @@ use Rattle.layout.specs.declared.Layout.{Layout}
 use Rattle.layout.specs.declared.Opened.the-variants as O
 use Rattle.layout.specs.Words.{Node, identAt, wornIdent, layoutOf, opened}
 use Rattle.layout.proofs.Laws.{opened-open}
-use Rattle.lists.specs.Lists.{Sound, KeepsWorn}
+use Rattle.lists.specs.Lists.{Ordered, Sound, KeepsWorn}
 use Rattle.lists.specs.Decide.{viewOf, countIn, soundOf}
 use Rattle.lists.proofs.Same.{kept-worn}
 use Rattle.requests.specs.declared.Looked.the-variants as K
@@ -68,14 +68,14 @@ after-both l w y v h a =
     }
 
 -- sound words
-sound-out : (w : List ℕ) (s : Sound w) → Out (layoutOf w) w (s .lists .sequence)
+sound-out : (w : List ℕ) (s : Sound w) → Out (layoutOf w) w (s .ordered .lists .sequence)
 sound-out w s c n z = kinds w s c n .1 (inr (record { node = n; worn = z }))
 
 sound-after : (w : List ℕ) → Sound w → After (layoutOf w) w w
 sound-after w s =
     record {
-      sequence = s .lists .sequence;
-      standing = record { opens = sound-opened w s; size = s .exact; accepted = sound-accepted (layoutOf w) w (s .lists) };
+      sequence = s .ordered .lists .sequence;
+      standing = record { opens = sound-opened w s; size = s .ordered .exact; accepted = sound-accepted (layoutOf w) w (s .ordered .lists) };
       out = sound-out w s;
       kept = λ c n z d f i g. refl;
     }
@@ -94,7 +94,7 @@ recover-after l w y a m =
           ∙ a .kept c n z d f i g;
     })
 
--- an insert or a delete of a sound store, whole or cut: the course of demand 3 in which no word is altered
+-- an insert or a delete of an ordered store, whole or cut: the course of demand 3 in which no word is altered
 altered-none : (l : Layout) (k n : ℕ) (w : List ℕ) → alteredBelow l k (λ _. untouched) n w ≡ w
 unfolding alteredBelow
 altered-none l k zero w = refl
@@ -105,7 +105,7 @@ altered-none l k (suc j) w = by (eqb j k) (altered-none l k j w)
     by true e = e
     by false e = e
 
-edit-after : (y : List ℕ) (s : Sound y) (e : Edit) (m : ℕ) → After (layoutOf y) y (wordsAfter (editPlan y e) m y)
+edit-after : (y : List ℕ) (s : Ordered y) (e : Edit) (m : ℕ) → After (layoutOf y) y (wordsAfter (editPlan y e) m y)
 edit-after y s e m =
     let l = layoutOf y in
     let k = named e in
@@ -169,7 +169,7 @@ module _ (l : Layout) (w y : List ℕ) (a : After l w y) where
   call-after (edit e m) = by (soundOf l y) refl
     where
       by : (b : Bool) → soundOf l y ≡ b → After l w (wordsAfter (editPlan y e) m y)
-      by true q = whole (wordsAfter (editPlan y e) m y) (edit-after y (is-sound q) e m)
+      by true q = whole (wordsAfter (editPlan y e) m y) (edit-after y (is-sound q .ordered) e m)
       by false q = subst (After l w) (sym (unsound-edit y l (a .standing .opens) q e m)) a
   call-after (mark c) = by (soundOf l y) refl (lookOf y (Mark c)) refl
     where

@@ -11,9 +11,9 @@ use Rattle.stores.specs.Stores.{run, Plan, refuse, stores, answerOf, wordsAfter
 use Rattle.layout.specs.declared.Layout.{Layout}
 use Rattle.layout.specs.Words.{Node, isNode, ask, identAt, wornIdent, worn, isFree, layoutOf}
 use Rattle.layout.proofs.Laws.{node-is}
-use Rattle.lists.specs.Lists.{Sound, SameCells}
+use Rattle.lists.specs.Lists.{Wiped, Sound, SameCells}
 use Rattle.lists.specs.Decide.{viewOf}
-use Rattle.lists.proofs.Unlisted.{given-ident, given-list, given-layout, given-sound}
+use Rattle.lists.proofs.Unlisted.{given-ident, given-list, given-layout, given-ordered, given-wiped}
 use Rattle.requests.specs.declared.Sited.the-variants as S
 use Rattle.requests.specs.declared.Request.the-variants.{Mark}
 use Rattle.requests.specs.Requests.{markAt, siteIn, siteOf}
@@ -64,28 +64,40 @@ module _ (w : List ℕ) (s : Sound w) (c : ℕ) where
     unfolding run
     mark-words = ap (λ (p : Plan). wordsAfter p markStores w) mark-plan
 
-    out : (k : ℕ) → k < l .lists → c ∈ s .lists .sequence k → ⊥
-    out = free-out l w (s .lists) c (f .free)
+    out : (k : ℕ) → k < l .lists → c ∈ s .ordered .lists .sequence k → ⊥
+    out = free-out l w (s .ordered .lists) c (f .free)
 
     mark-layout : layoutOf Marked ≡ l
-    mark-layout = given-layout w s c (f .node) out wornIdent
+    mark-layout = given-layout w (s .ordered) c (f .node) out wornIdent
+
+    mark-sound : (s′ : Sound Marked) × (s′ .ordered .lists .sequence ≡ s .ordered .lists .sequence)
+    mark-sound =
+        let x = given-ordered w (s .ordered) c (f .node) out wornIdent (worn refl) in (
+          record {
+            ordered = x .0;
+            wiped =
+                subst (λ (m : Layout). Wiped m Marked (x .0 .lists .sequence)) (sym mark-layout)
+                (subst (Wiped l Marked) (sym (x .1)) (given-wiped w (s .ordered) c (f .node) out wornIdent (s .wiped) (λ n. absurd (n refl))));
+          },
+          x .1,
+        )
 
     mark-leaves : (v : List ℕ) → v ≡ Marked
-        → (s′ : Sound v) × (layoutOf v ≡ l) × (s′ .lists .sequence ≡ s .lists .sequence)
-        × ((k : ℕ) → k < l .lists → SameCells l w v (k ∷ s .lists .sequence k)) × WornNode v c
+        → (s′ : Sound v) × (layoutOf v ≡ l) × (s′ .ordered .lists .sequence ≡ s .ordered .lists .sequence)
+        × ((k : ℕ) → k < l .lists → SameCells l w v (k ∷ s .ordered .lists .sequence k)) × WornNode v c
     mark-leaves v e =
         subst
         (λ (v : List ℕ).
-        (s′ : Sound v) × (layoutOf v ≡ l) × (s′ .lists .sequence ≡ s .lists .sequence)
-        × ((k : ℕ) → k < l .lists → SameCells l w v (k ∷ s .lists .sequence k)) × WornNode v c)
+        (s′ : Sound v) × (layoutOf v ≡ l) × (s′ .ordered .lists .sequence ≡ s .ordered .lists .sequence)
+        × ((k : ℕ) → k < l .lists → SameCells l w v (k ∷ s .ordered .lists .sequence k)) × WornNode v c)
         (sym e) (
-          given-sound w s c (f .node) out wornIdent (worn refl) .0,
+          mark-sound .0,
           mark-layout,
-          given-sound w s c (f .node) out wornIdent (worn refl) .1,
-          given-list w s c (f .node) out wornIdent,
+          mark-sound .1,
+          given-list w (s .ordered) c (f .node) out wornIdent,
           record {
             node = subst (λ (m : Layout). Node m c) (sym mark-layout) (f .node);
-            worn = ap (λ (m : Layout). getD Marked (identAt m c) 0) mark-layout ∙ given-ident w s c (f .node) out wornIdent;
+            worn = ap (λ (m : Layout). getD Marked (identAt m c) 0) mark-layout ∙ given-ident w (s .ordered) c (f .node) out wornIdent;
           },
         )
 

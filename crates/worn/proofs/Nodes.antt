@@ -2,24 +2,23 @@
 use Prim.Native.Nat.{ℕ, zero, suc, _+_, _*_, _/_, _%_, _<_, _≤_}
 use mathlib.Core.Path.{_≡_, refl, ap, _∙_, sym}
 use mathlib.Core.List.{List, _++_}
-use mathlib.Core.Bool.{and-eq-true-iff}
 use mathlib.Core.Logic.{_⊎_, inl, inr, _↔_}
 use native.Mathlib.Decide.{decLt}
 use native.Mathlib.Omega.{arith}
 use native.Mathlib.Nat.{mul-div-left, mul-mod-left, suc-mul}
-use lib.Dec.{eqb}
 use lib.ListN.{length, getD, take}
 use lib.Seq.{length-take-le}
-use borrow.Author.Tests.{eq-eqb, eqb-true, lt-ltb, le-leb, lt-leb}
+use borrow.Author.Tests.{eq-eqb, lt-ltb, le-leb, lt-leb}
 use Rattle.sequences.specs.Sequence.{_∈_}
 use Rattle.stores.specs.Stores.{Write, refuse, stores}
 use Rattle.layout.specs.declared.Layout.{Layout}
 use Rattle.layout.specs.Words.{Node, firstNode, identAt, Unlisted, free, worn, layoutOf}
 use Rattle.layout.proofs.Laws.{node-is}
 use Rattle.lists.specs.Lists.{Sound}
-use Rattle.lists.specs.Decide.{View, viewOf, countIn, sequenceIn, sequenceOf, allHold, members, used, soundIn}
+use Rattle.lists.specs.Decide.{View, viewOf, countIn, sequenceIn, sequenceOf, members, used}
 use Rattle.lists.proofs.Nodes.{unlisted-out, cells-sum}
 use Rattle.lists.proofs.Unique.{list-sequence}
+use Rattle.lists.proofs.Stepwise.{sound-number}
 use Rattle.requests.specs.declared.Free.{Free}
 use Rattle.requests.specs.declared.Free.the-variants.{Cell, Full}
 use Rattle.requests.specs.declared.Sited.the-variants.{Refused}
@@ -49,8 +48,8 @@ module _ (w : List ℕ) (s : Sound w) where
   abbrev l : Layout
   l = layoutOf w
 
-  pub kinds : (i : ℕ) → Node l i → (i ∈ joined (s .lists .sequence) (l .lists) → ⊥) ↔ (FreeNode w i ⊎ WornNode w i)
-  kinds i n = ((λ o. by (s .lists .outside i n (λ k h m. o (one-joined (s .lists .sequence) (l .lists) k i h m)))), from)
+  pub kinds : (i : ℕ) → Node l i → (i ∈ joined (s .ordered .lists .sequence) (l .lists) → ⊥) ↔ (FreeNode w i ⊎ WornNode w i)
+  kinds i n = ((λ o. by (s .ordered .lists .outside i n (λ k h m. o (one-joined (s .ordered .lists .sequence) (l .lists) k i h m)))), from)
     where
       by : Unlisted (getD w (identAt l i) 0) → FreeNode w i ⊎ WornNode w i
       by (free e) = inl (record { node = n; free = e })
@@ -60,29 +59,28 @@ module _ (w : List ℕ) (s : Sound w) where
       unlisted (inl f) = free (f .free)
       unlisted (inr f) = worn (f .worn)
 
-      from : FreeNode w i ⊎ WornNode w i → i ∈ joined (s .lists .sequence) (l .lists) → ⊥
+      from : FreeNode w i ⊎ WornNode w i → i ∈ joined (s .ordered .lists .sequence) (l .lists) → ⊥
       from u m =
-          let k = joined-one (s .lists .sequence) (l .lists) i m in
-          unlisted-out l w (k .0) (s .lists .sequence (k .0)) (s .inRange) (k .1) (s .lists .lists (k .0) (k .1)) i (unlisted u) (k .2)
+          let k = joined-one (s .ordered .lists .sequence) (l .lists) i m in
+          let x = s .ordered in
+          unlisted-out l w (k .0) (x .lists .sequence (k .0)) (x .inRange) (k .1) (x .lists .lists (k .0) (k .1)) i (unlisted u) (k .2)
 
   -- as many nodes are in use as the lists have members
-  members-used : length (joined (s .lists .sequence) (l .lists)) ≡ length (used (viewOf l w) (firstNode l) (l .nodes))
-  unfolding soundIn
+  members-used : length (joined (s .ordered .lists .sequence) (l .lists)) ≡ length (used (viewOf l w) (firstNode l) (l .nodes))
   members-used =
+      let x = s .ordered .lists in
       ap length
-      (joined-same (s .lists .sequence) (sequenceOf l w) (l .lists) (λ k h. sym (list-sequence l w k h (s .lists .sequence k) (s .lists .lists k h)))
+      (joined-same (x .sequence) (sequenceOf l w) (l .lists) (λ k h. sym (list-sequence l w k h (x .sequence k) (x .lists k h)))
       ∙ sym (members-joined l (viewOf l w) (l .lists)))
-      ∙ eqb-true _ _
-      (and-eq-true-iff (allHold l (viewOf l w) (countIn l w) (l .lists))
-      (eqb (length (members l (viewOf l w) (l .lists))) (length (used (viewOf l w) (firstNode l) (l .nodes)))) .0 (sound-decided w s) .1)
+      ∙ sound-number l (viewOf l w) (countIn l w) (sound-decided w s) .1
 
-  pub sum : length (freeNodes w) + (length (wornNodes w) + length (joined (s .lists .sequence) (l .lists))) ≡ l .nodes
+  pub sum : length (freeNodes w) + (length (wornNodes w) + length (joined (s .ordered .lists .sequence) (l .lists))) ≡ l .nodes
   sum = omega (arith, members-used, cells-sum (viewOf l w) (firstNode l) (l .nodes))
 
   -- where all else is answered yes
-  module _ (k p c : ℕ) (words : List ℕ) (hk : k < l .lists) (hp : p ≤ length (s .lists .sequence k)) (hc : Node l c) where
-    its : sequenceOf l w k ≡ s .lists .sequence k
-    its = list-sequence l w k hk (s .lists .sequence k) (s .lists .lists k hk)
+  module _ (k p c : ℕ) (words : List ℕ) (hk : k < l .lists) (hp : p ≤ length (s .ordered .lists .sequence k)) (hc : Node l c) where
+    its : sequenceOf l w k ≡ s .ordered .lists .sequence k
+    its = list-sequence l w k hk (s .ordered .lists .sequence k) (s .ordered .lists .lists k hk)
 
     stores-refused : {ps : List Write} {n : ℕ} → stores ps ≡ refuse n → ⊥
     stores-refused e = let z : _≡_ {A = ℕ} 0 1 = cc in omega arith
@@ -110,14 +108,14 @@ module _ (w : List ℕ) (s : Sound w) where
       met = free-count l (viewOf l w) c hc
 
       number : length words / l .width ≡ r
-      number = ap (λ (n : ℕ). n / l .width) size ∙ mul-div-left r (s .inRange .someWidth)
+      number = ap (λ (n : ℕ). n / l .width) size ∙ mul-div-left r (s .ordered .inRange .someWidth)
 
       positive : 0 < length words
       positive = by r some size
         where
           by : (n : ℕ) → 0 < n → length words ≡ n * l .width → 0 < length words
           by zero h e = absurd (omega arith)
-          by (suc n) h e = omega (arith, e, suc-mul n (l .width), s .inRange .someWidth)
+          by (suc n) h e = omega (arith, e, suc-mul n (l .width), s .ordered .inRange .someWidth)
 
       few-site : length (freeNodes w) < r → siteOf l w (Gaps k p c (length words)) ≡ Refused 10
       unfolding siteIn gapsAt

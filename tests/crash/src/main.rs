@@ -60,8 +60,8 @@ pub fn same_lists(bytes: &[u8], plain: &Plain) -> bool {
     found.as_ref() == Some(&plain.lists)
 }
 
-/// Recovery of a state that a call left, and what is due after it: the lists, and the worn nodes. Then `plain` is what the store holds.
-/// Is it?
+/// Recovery of a state that a call left, and what is due after it: the lists, wiped records in the free nodes, and the worn nodes. Then
+/// `plain` is what the store holds. Is it?
 pub fn recovered(counts: &mut Counts, store: &mut [u8], plain: &mut Plain, call: &Call, state: &State) -> bool {
     let (expected, left) = Call::Recover.expected(store, ENOUGH);
     let answer = Call::Recover.make(store, &[], ENOUGH);

@@ -128,7 +128,8 @@ impl Plain {
             (shape.cell(list) + 3, self.lists[list].len() as u16),
             (shape.cell(cell), 0),
         ]);
-        DONE + 4
+        self.words[shape.record(cell)].fill(0);
+        DONE + shape.width as u32 + 4
     }
 
     /// Marks a node.

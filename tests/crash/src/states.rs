@@ -11,8 +11,9 @@
 //! Word j + 1 is torn, and is neither the old nor the new value: one wrong word more than specified, in the list of the call. By
 //! place of the word, for a call between the members a and b:
 //!
-//!   * record or link of the cell that is not in the list yet: free words. The list is as before.
-//!   * identifier of that cell, or of the cell just deleted: in no list, so recovery clears it, whatever it is.
+//!   * link of the cell that is not in the list yet: a free word. The list is as before.
+//!   * record of that cell, or of the cell just deleted: in no list, so recovery wipes it, whatever it is.
+//!   * identifier of either: in no list, so recovery clears it, whatever it is.
 //!   * the count: the one word that is wrong already. Before the central store (insert) the old list lacks only the count, after
 //!     it (delete) the new list does.
 //!   * b's back: in an insert it is the last store, and the only word that the new list lacks. In a delete it is the first, and the
@@ -24,6 +25,8 @@
 //! numbers go beyond 255, a count only where the length goes past a multiple of 256.
 //!
 //! A mark makes one store, the identifier of a cell in no list. Torn, it is cleared, and the node is free.
+//!
+//! A recovery that is killed while it clears or wipes may leave half a word of a cell in no list: the next one stores 0 to it.
 //!
 //! After such a refusal the test puts the low byte back, as if the store had not been made at all; then the old list is due.
 

@@ -1,16 +1,17 @@
 //! Altered words. In a sound store one, two or three altered to other values are noticed, among each header's four, the
 //! identifiers of all nodes and the links of the members; one is put back by recovery. Four can make another sound store. All
-//! other words are free.
+//! other words are free, but for the records of free nodes, which are 0.
 //!
-//! Changes to and from 65,535 on a node in no list are excepted. From 0 to 65,535 and back is not noticed, nothing is stored, and it hides no
-//! other alteration. From 65,535 to another value is noticed, and recovery stores 0.
+//! Changes to and from 65,535 on a node in no list are excepted. From 0 to 65,535 is not noticed, nor is the way back if the node has zero
+//! record words; nothing is stored, and it hides no other alteration. From 65,535 to another value is noticed, and recovery stores 0 to it
+//! and to the record.
 
 use crate::checks::Tests;
 use interface::stores::{alteration, edit, sound};
-use interface::{bytes_of, words_of, Call::*, DONE, ENOUGH, STOPPED};
+use interface::{bytes_of, words_of, Call::*, ENOUGH};
 use model::alterations::{adversarial, mended, noticeable, noticed};
 use model::random::Random;
-use model::samples::{all_lists_and_worn, deal, with_worn};
+use model::samples::{all_lists_and_worn, carriers, deal, with_worn};
 use model::store::{all_lists, check, open, store_of, Shape, WordStore, IDENTIFIER};
 use std::collections::{BTreeMap, BTreeSet};
 
@@ -74,10 +75,12 @@ fn places(words: &[u16]) -> Vec<usize> {
     noticeable(words).expect("a sound store")
 }
 
-/// The words behind the first eight where they are not.
+/// The words behind the first eight that may hold anything: the other ones, but for the records of free nodes.
 fn free(words: &[u16]) -> Vec<usize> {
-    let places = places(words);
-    (8..words.len()).filter(|at| places.binary_search(at).is_err()).collect()
+    let shape = open(words).expect("a store");
+    let mut fixed = places(words);
+    fixed.extend(carriers(words, 0).into_iter().flat_map(|cell| shape.record(cell)));
+    (8..words.len()).filter(|at| !fixed.contains(at)).collect()
 }
 
 /// All sound stores of one and two lists over one and two nodes, each node in no list free or worn. The links of such nodes are those of
@@ -133,20 +136,14 @@ impl Tests {
     }
 
     /// One altered word is put back, or becomes what it must, by one store, and with no allowance it is left as it is. If it may stay
-    /// nothing is stored.
+    /// nothing is stored; if it was the mark of a worn node, its record is wiped too.
     fn put_back(&mut self, sound: &[u16], altered: WordStore) {
         let mut store = Store::new(sound);
         store.exchange(&[altered]);
-        let found = store.bytes.clone();
-        store.put(altered.0, mended(sound, altered));
-        let (left, stores) = (store.bytes, u32::from(mended(sound, altered) != altered.1));
-        let cut = if stores == 0 { DONE } else { STOPPED };
-        for (allowance, answer, left) in [(0, cut, &found), (1, DONE + stores, &left), (ENOUGH, DONE + stores, &left)] {
-            let recovered = self.call(&found, &Recover, allowance);
-            self.holds((recovered.0, &recovered.1) == (answer, left), || {
-                format!("put back with {allowance}: answer {}, or the bytes left; {altered:?} on {sound:?}", recovered.0)
-            });
-        }
+        let left = mended(sound, altered);
+        let differing = (0..left.len()).filter(|&at| left[at] != store.words[at]);
+        let stores: Vec<WordStore> = differing.map(|at| (at, left[at])).collect();
+        self.recovers(&store.words, &stores);
     }
 
     /// Two sound stores that differ in four words, each made of the other: noticed with some of the four, not with all.
@@ -219,8 +216,8 @@ pub fn larger_stores(t: &mut Tests) {
     }
 }
 
-/// Four altered words that are not noticed: a member leaves its list or comes back, or it and a node in no list with the same links
-/// change places. That node is free or worn, and so is the member then.
+/// Four altered words that are not noticed: a member with zero record words leaves its list or comes back, or it and a node in no list with
+/// the same links change places. That node is free or worn, and so is the member then.
 pub fn four_words(t: &mut Tests) {
     let smallest = Shape::new(1, 1, 1);
     t.four_apart(&store_of(smallest, &[vec![]], || 0), &store_of(smallest, &[vec![1]], || 0));
@@ -230,6 +227,7 @@ pub fn four_words(t: &mut Tests) {
         let used = t.random.between(1, shape.nodes - 1);
         let lists = deal(&mut t.random, shape, used);
         let mut words = sound(&mut t.random, shape, &lists);
+        lists.iter().flatten().for_each(|&cell| words[shape.record(cell)].fill(0));
         let deleted = edit(&mut t.random, &words, &lists, 1).expected(&bytes_of(&words), ENOUGH).1;
         t.four_apart(&words, &words_of(&deleted));
         let members = lists.concat();
@@ -244,7 +242,7 @@ pub fn four_words(t: &mut Tests) {
     }
 }
 
-/// The links of nodes in no list and all records: altered one by one in small stores, all at once in larger ones.
+/// The links of nodes in no list, the records of members and worn nodes: altered one by one in small stores, all at once in larger ones.
 pub fn free_words(t: &mut Tests) {
     for words in small_stores() {
         let mut store = Store::new(&words);

@@ -3,7 +3,7 @@
 use crate::checks::{Tests, MOST_BYTES};
 use interface::stores::{alteration, record, sound, unworn};
 use interface::{bytes_of, Call::*, ENOUGH, STOPPED};
-use model::samples::{carriers, deal, wear};
+use model::samples::{carriers, deal, remain, wear};
 use model::store::{store_of, Shape, IDENTIFIER, WORN};
 
 /// Every length up to 60 bytes and some around the largest, of a store, of one byte and of random bytes; no bytes as NULL.
@@ -155,11 +155,12 @@ pub fn several_records(t: &mut Tests) {
     }
 }
 
-/// Sound stores with some words altered, from one to nearly all.
+/// Sound stores with some words altered, from one to nearly all. In some of them something remains in free nodes.
 pub fn damaged_stores(t: &mut Tests) {
     for turn in 0..2000 {
         let shape = t.shape(if turn % 2 == 0 { 4 } else { 12 });
-        let (_, mut words) = t.sound_store(shape);
+        let (_, words) = t.sound_store(shape);
+        let mut words = if turn % 5 == 0 { remain(&mut t.random, words) } else { words };
         for _ in 0..if turn % 10 == 9 { 40 } else { t.random.between(1, 5) } {
             let cell = t.random.below(shape.lists + shape.nodes);
             let (at, value) = alteration(&mut t.random, shape, &words, cell);
@@ -212,11 +213,13 @@ pub fn garbage(t: &mut Tests) {
     }
 }
 
-/// A fault in every list, and every free node carrying an identifier beside the worn ones: recovery cut everywhere.
+/// A fault in every list, and every free node carrying an identifier beside the worn ones, by two turns of three with remains of a record:
+/// recovery cut everywhere.
 pub fn many_stores(t: &mut Tests) {
     let shapes = [Shape::new(1, 1, 1), Shape::new(3, 6, 8), Shape::new(8, 40, 2), Shape::new(8, 8, 13)];
-    for shape in shapes.into_iter().cycle().take(5 * shapes.len()) {
-        let (lists, mut words) = t.sound_store(shape);
+    for (turn, shape) in shapes.into_iter().cycle().take(6 * shapes.len()).enumerate() {
+        let (lists, words) = t.sound_store(shape);
+        let mut words = if turn % 3 > 0 { remain(&mut t.random, words) } else { words };
         for (list, sequence) in lists.iter().enumerate() {
             let cell = [&[list][..], sequence].concat()[t.random.below(sequence.len() + 1)];
             let i = t.random.below(if cell == list { 4 } else { 3 });

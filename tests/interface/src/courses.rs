@@ -1,16 +1,17 @@
 //! Courses: an insert, of one record or several, or a delete, alterations in the lists that it does not name, recoveries.
 
 use crate::checks::Tests;
+use crate::worn::with_words;
 use interface::stores::{alteration, edit, sound};
 use interface::{answer_of, bytes_of, words_of, Call, Call::*, ENOUGH};
 use model::alterations::{adversarial, alterable};
 use model::recovery::Course;
 use model::samples::{all_lists_and_worn, deal, with_worn};
-use model::store::{open, store_of, Answer, Shape};
+use model::store::{open, store_of, Answer, Shape, WordStore};
 use std::panic::{catch_unwind, AssertUnwindSafe};
 
 /// The list of the call that a course begins with.
-fn named(call: &Call) -> u16 {
+pub fn named(call: &Call) -> u16 {
     match *call {
         Insert { list, .. } | InsertSeveral { list, .. } | Delete { list, .. } => list,
         _ => unreachable!("a course begins with an insert or delete"),
@@ -21,17 +22,19 @@ impl Tests {
     /// One insert or delete on a sound store, cut; then these alterations, at most one in each list that it does not name; then
     /// recoveries with these allowances, and a whole one. It must end as `Course` says.
     fn course(&mut self, sound: &[u16], call: &Call, allowance: u16, altered: &[(usize, u16)], recoveries: &[u16]) {
-        self.courses += 1;
         let bytes = bytes_of(sound);
         let width = open(sound).expect("a store").width;
         let new = words_of(&call.expected(&bytes, call.due(width, allowance)).1);
         let (_, left) = self.call(&bytes, call, allowance);
-        let mut found = words_of(&left);
-        for &(at, value) in altered {
-            found[at] = value;
-        }
-        let mut course = Course::new(sound, named(call), &new, &found);
-        let mut bytes = bytes_of(&found);
+        let found = with_words(&words_of(&left), altered);
+        let course = Course::new(sound, named(call), &new, &found);
+        self.ends(course, &found, recoveries, || format!("{call:?} with {allowance}, {altered:?} on {sound:?}"));
+    }
+
+    /// Recoveries of the store that a course finds, with these allowances, and a whole one. It must end as it says.
+    pub fn ends(&mut self, mut course: Course, found: &[u16], recoveries: &[u16], told: impl FnOnce() -> String) {
+        self.courses += 1;
+        let mut bytes = bytes_of(found);
         let mut answers = vec![];
         for &allowance in recoveries.iter().chain(&[ENOUGH]) {
             let (answer, left) = self.call(&bytes, &Recover, allowance);
@@ -43,20 +46,31 @@ impl Tests {
             answers.iter().for_each(|&(answer, allowance)| course.recovered(answer, allowance));
             course.ended(&words_of(&bytes));
         }));
-        self.holds(done && ended.is_ok(), || format!("a course: {call:?} with {allowance}, {altered:?} on {sound:?}"));
+        self.holds(done && ended.is_ok(), || format!("a course: {}", told()));
         self.call(&bytes, &Check, 0);
     }
 
-    /// A random course that begins so.
-    fn random_course(&mut self, shape: Shape, sound: &[u16], lists: &[Vec<usize>], call: &Call, allowance: usize) {
+    /// Words to alter in some of the lists that a course does not name.
+    pub fn altered(&mut self, words: &[u16], lists: &[Vec<usize>], named: u16) -> Vec<WordStore> {
+        let shape = open(words).expect("a store");
         let mut altered = vec![];
-        for (list, sequence) in lists.iter().enumerate().filter(|&(list, _)| list != usize::from(named(call))) {
+        for (list, sequence) in lists.iter().enumerate().filter(|&(list, _)| list != usize::from(named)) {
             if self.random.below(5) > 0 {
                 let cell = [&[list][..], sequence].concat()[self.random.below(sequence.len() + 1)];
-                altered.push(alteration(&mut self.random, shape, sound, cell));
+                altered.push(alteration(&mut self.random, shape, words, cell));
             }
         }
-        let recoveries: Vec<u16> = (0..self.random.below(4)).map(|_| self.random.pick(&[0, 1, 1, 2, 3, 5])).collect();
+        altered
+    }
+
+    /// The allowances of some recoveries that are cut.
+    pub fn cuts(&mut self) -> Vec<u16> {
+        (0..self.random.below(4)).map(|_| self.random.pick(&[0, 1, 1, 2, 3, 5])).collect()
+    }
+
+    /// A random course that begins so.
+    fn random_course(&mut self, sound: &[u16], lists: &[Vec<usize>], call: &Call, allowance: usize) {
+        let (altered, recoveries) = (self.altered(sound, lists, named(call)), self.cuts());
         self.course(sound, call, allowance as u16, &altered, &recoveries);
     }
 
@@ -68,10 +82,10 @@ impl Tests {
             let whole = usize::from(call.whole(shape.width));
             let some = vec![self.random.below(whole), whole - 1 - turn % 3, self.random.between(0, whole)];
             for allowance in if everywhere { (0..=whole).collect() } else { some } {
-                self.random_course(shape, &sound, lists, &call, allowance);
+                self.random_course(&sound, lists, &call, allowance);
             }
         }
-        self.random_course(shape, &sound, lists, &Delete { list: shape.lists as u16, position: 0 }, 4);
+        self.random_course(&sound, lists, &Delete { list: shape.lists as u16, position: 0 }, 4);
     }
 }
 

@@ -89,7 +89,7 @@ impl Call {
     pub fn whole(&self, width: usize) -> u16 {
         let records = self.records().len() / 2 / width;
         match self {
-            Delete { .. } => 4,
+            Delete { .. } => width as u16 + 4,
             MarkWorn { .. } => 1,
             _ => (records * (width + 6)) as u16,
         }
@@ -98,7 +98,7 @@ impl Call {
     /// The stores of an insert, a delete or a mark that count as made if it is cut after so many.
     pub fn due(&self, width: usize, made: u16) -> u16 {
         match self {
-            Delete { .. } => due_of_delete(made),
+            Delete { .. } => due_of_delete(width, made),
             MarkWorn { .. } => made,
             _ => due_of_insert(width, made).min(self.whole(width)),
         }

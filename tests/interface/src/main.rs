@@ -1,6 +1,7 @@
 //! The archive held against the model: each call through C on many stores, at every allowance. A check is one call: its answer,
 //! every byte of the store, the bytes round it, the record and the bytes round that. In `alterations` it is mostly check's answer
-//! alone. In `positions` it may be an answer alone, or read's on words. In `worn` it may be that what is said there holds of the nodes.
+//! alone. In `positions` it may be an answer alone, or read's on words. In `worn` and `wiped` it may be that what is said there holds of the
+//! nodes.
 //! The last line is 'N passed, M failed'.
 
 mod alterations;
@@ -8,6 +9,7 @@ mod calls;
 mod checks;
 mod courses;
 mod positions;
+mod wiped;
 mod worn;
 
 use checks::Tests;
@@ -43,7 +45,7 @@ fn answers(t: &mut Tests) {
             t.holds(found[1] == (7..=19).collect::<Vec<_>>() && found[2] == (0..=18).collect::<Vec<_>>(), || call.into());
         }
         if call == "delete" {
-            t.holds(found[1] == [4] && found[2] == [0, 1, 2, 3], || call.into());
+            t.holds(found[1] == (5..=17).collect::<Vec<_>>() && found[2] == (0..=16).collect::<Vec<_>>(), || call.into());
         }
         if call == "mark_worn" {
             t.holds(found[1] == [1], || call.into());
@@ -55,7 +57,7 @@ type Part = (&'static str, fn(&mut Tests));
 
 fn main() {
     let mut t = Tests::new(1201);
-    let parts: [Part; 32] = [
+    let parts: [Part; 41] = [
         ("lengths", calls::lengths),
         ("heads", calls::heads),
         ("formats", calls::formats),
@@ -87,6 +89,15 @@ fn main() {
         ("worn nodes passed over", worn::passed_over),
         ("worn nodes recovered", worn::recoveries),
         ("runs with worn nodes", worn::runs),
+        ("older small stores", wiped::small_stores),
+        ("older stores refused, then recovered", wiped::refused_until_recovered),
+        ("single words of records", wiped::single_words),
+        ("deleted records searched for", wiped::nothing_remains),
+        ("records that are kept", wiped::kept),
+        ("courses of older small stores", wiped::every_course),
+        ("courses of older stores", wiped::courses),
+        ("most wipes", wiped::most_stores),
+        ("runs from older stores", wiped::runs),
         ("answers", answers),
     ];
     for (name, part) in parts {

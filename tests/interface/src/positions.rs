@@ -14,7 +14,7 @@ fn told(cell: usize) -> u16 {
     10_000 + cell as u16
 }
 
-/// A sound store, and one of its lists. Each record tells its cell.
+/// A sound store, and one of its lists. Each record, of worn nodes too, tells its cell.
 struct Tried {
     shape: Shape,
     words: Vec<u16>,
@@ -32,7 +32,7 @@ impl Tried {
         let worn = lists.pop().expect("the worn nodes");
         let free = lists.pop().expect("the free nodes");
         let mut words = with_worn(unworn(random, shape, &lists), &worn);
-        shape.node_cells().for_each(|cell| words[shape.cell(cell) + 3] = told(cell));
+        lists.iter().flatten().chain(&worn).for_each(|&cell| words[shape.cell(cell) + 3] = told(cell));
         Tried { shape, bytes: bytes_of(&words), words, list, members: lists[list].clone(), free }
     }
 

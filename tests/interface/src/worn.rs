@@ -9,7 +9,7 @@ use model::store::{lists, open, store_of, Shape, WordStore, IDENTIFIER, WORN};
 
 impl Tests {
     /// The call answers so and makes these stores. The model says the same. Gives the words that it must leave.
-    fn stores(&mut self, words: &[u16], call: &Call, allowance: u16, answer: u32, stores: &[WordStore]) -> Vec<u16> {
+    pub fn stores(&mut self, words: &[u16], call: &Call, allowance: u16, answer: u32, stores: &[WordStore]) -> Vec<u16> {
         let mut left = words.to_vec();
         stores.iter().for_each(|&(at, value)| left[at] = value);
         let (bytes, expected) = (bytes_of(words), (answer, bytes_of(&left)));
@@ -20,7 +20,7 @@ impl Tests {
     }
 
     /// Makes the call and holds it against the model. Gives the words that it must leave.
-    fn follow(&mut self, words: &[u16], call: &Call, allowance: u16) -> Vec<u16> {
+    pub fn follow(&mut self, words: &[u16], call: &Call, allowance: u16) -> Vec<u16> {
         let bytes = bytes_of(words);
         let expected = call.expected(&bytes, allowance);
         self.call_leaves(&bytes, call, allowance, &expected);
@@ -28,14 +28,14 @@ impl Tests {
     }
 
     /// The call is refused with this number, at any allowance, and stores nothing.
-    fn refused(&mut self, words: &[u16], call: &Call, number: u32) {
+    pub fn refused(&mut self, words: &[u16], call: &Call, number: u32) {
         for allowance in [0, 1, ENOUGH] {
             self.stores(words, call, allowance, number, &[]);
         }
     }
 
     /// Recovery makes these stores, at every allowance the first of them.
-    fn recovers(&mut self, words: &[u16], stores: &[WordStore]) {
+    pub fn recovers(&mut self, words: &[u16], stores: &[WordStore]) {
         let whole = stores.len();
         for allowance in (0..=whole + 1).chain([ENOUGH.into()]) {
             let made = whole.min(allowance);
@@ -153,7 +153,7 @@ pub fn larger_stores(t: &mut Tests) {
 }
 
 /// The lists of a sound store.
-fn lists_of(words: &[u16]) -> Vec<Vec<usize>> {
+pub fn lists_of(words: &[u16]) -> Vec<Vec<usize>> {
     lists(words, open(words).expect("a store")).expect("a sound store")
 }
 
@@ -239,8 +239,14 @@ pub fn passed_over(t: &mut Tests) {
     }
 }
 
+/// The stores that wipe a node's record: 0 to each word that is not 0.
+pub fn wipes(words: &[u16], cell: usize) -> Vec<WordStore> {
+    let record = open(words).expect("a store").record(cell);
+    record.filter(|&at| words[at] != 0).map(|at| (at, 0)).collect()
+}
+
 /// Worn is judged after membership: a member or header with identifier 65,535 is mended, nodes in no list with it stay, all others there
-/// are cleared. One altered identifier of a node in no list.
+/// are cleared, and their records wiped. One altered identifier of a node in no list.
 pub fn recoveries(t: &mut Tests) {
     let shape = Shape::new(1, 2, 1);
     let words = with_worn(store_of(shape, &[vec![1]], || 0), &[1]);
@@ -257,40 +263,53 @@ pub fn recoveries(t: &mut Tests) {
                 stores.push((shape.cell(cell), sound[shape.cell(cell)]));
             }
         }
-        for cell in shape.node_cells().filter(|&cell| [0, WORN].contains(&sound[shape.cell(cell)])) {
+        let others = shape.node_cells().filter(|&cell| [0, WORN].contains(&sound[shape.cell(cell)]));
+        let others: Vec<usize> = others.collect();
+        for &cell in &others {
             found[shape.cell(cell)] = t.random.pick(&[0, WORN, WORN, sound[shape.cell(cell)], 1, WORN - 1, IDENTIFIER]);
             if ![0, WORN].contains(&found[shape.cell(cell)]) {
                 stores.push((shape.cell(cell), 0));
             }
         }
+        let unworn = others.iter().filter(|&&cell| found[shape.cell(cell)] != WORN);
+        stores.extend(unworn.flat_map(|&cell| wipes(&found, cell)));
         t.recovers(&found, &stores);
         for cell in carriers(&sound, 0).into_iter().chain(carriers(&sound, WORN)).take(6) {
             let at = shape.cell(cell);
-            for value in [0, WORN] {
-                t.stores(&with_words(&sound, &[(at, value)]), &Check, 0, 0, &[]);
-                t.recovers(&with_words(&sound, &[(at, value)]), &[]);
-            }
+            let wipes = wipes(&sound, cell);
+            t.stores(&with_words(&sound, &[(at, WORN)]), &Check, 0, 0, &[]);
+            t.recovers(&with_words(&sound, &[(at, WORN)]), &[]);
+            t.stores(&with_words(&sound, &[(at, 0)]), &Check, 0, if wipes.is_empty() { 0 } else { 6 }, &[]);
+            t.recovers(&with_words(&sound, &[(at, 0)]), &wipes);
             for value in [1, WORN - 1, IDENTIFIER] {
                 t.stores(&with_words(&sound, &[(at, value)]), &Check, 0, 6, &[]);
-                t.recovers(&with_words(&sound, &[(at, value)]), &[(at, 0)]);
+                t.recovers(&with_words(&sound, &[(at, value)]), &[&[(at, 0)][..], &wipes].concat());
             }
         }
     }
 }
 
 /// The words with these put.
-fn with_words(words: &[u16], changes: &[WordStore]) -> Vec<u16> {
+pub fn with_words(words: &[u16], changes: &[WordStore]) -> Vec<u16> {
     let mut words = words.to_vec();
     changes.iter().for_each(|&(at, value)| words[at] = value);
     words
 }
 
-/// Random runs of all calls, some of them cut; a word altered in the lists that they do not name; recoveries, some of them cut. A worn
-/// node keeps all its words, and lengths, free and worn nodes add up to N.
+/// Random runs of all calls, in stores up to the largest.
 pub fn runs(t: &mut Tests) {
     for turn in 0..300 {
         let shape = if turn % 100 == 0 { Shape::new(8, 2000, 3) } else { t.shape(if turn % 3 == 0 { 40 } else { 8 }) };
-        let (_, mut words) = t.sound_store(shape);
+        let (_, words) = t.sound_store(shape);
+        t.run(words);
+    }
+}
+
+impl Tests {
+    /// A run of calls, some of them cut; a word altered in the lists that they do not name; recoveries, some of them cut. A worn node keeps
+    /// all its words, and lengths, free and worn nodes add up to N.
+    pub fn run(&mut self, mut words: Vec<u16>) {
+        let (t, shape) = (self, open(&words).expect("a store"));
         for step in 0..25 {
             let cell = t.random.below(shape.node_cells().end + 1);
             let call = match t.random.below(6) {

@@ -1,11 +1,13 @@
 //! Words to alter, and what to alter them to.
 
-use crate::store::{lists, open, Shape, WordStore, IDENTIFIER, WORN};
+use crate::store::{open, ordered, Shape, WordStore, IDENTIFIER, WORN};
+use std::ops::Range;
 
-/// The words that may be altered in each list, one of each: the header's four, and a member's identifier, forward and back.
+/// The words that may be altered in each list of an ordered store, one of each: the header's four, and a member's identifier, forward and
+/// back.
 pub fn alterable(words: &[u16]) -> Option<Vec<Vec<usize>>> {
     let shape = open(words).ok()?;
-    let lists = lists(words, shape)?;
+    let lists = ordered(words, shape)?;
     let of = |(k, sequence): (usize, &Vec<usize>)| {
         let header = (0..4).map(|i| shape.cell(k) + i);
         let members = sequence.iter().flat_map(|&cell| (0..3).map(move |i| shape.cell(cell) + i));
@@ -25,22 +27,38 @@ pub fn noticeable(words: &[u16]) -> Option<Vec<usize>> {
     Some(places)
 }
 
-/// What recovery leaves of one such word, altered to this value. It is put back; but the identifier of a node in no list becomes 0, or
-/// stays if it is 65,535. So changes to and from 65,535 there are not put back.
-pub fn mended(words: &[u16], (at, value): WordStore) -> u16 {
+/// The record of the node in no list whose identifier this word of a sound store is.
+fn record_in_no_list(words: &[u16], at: usize) -> Option<Range<usize>> {
     let shape = open(words).expect("a store");
     let nodes = shape.cell(shape.lists);
     let identifier = at >= nodes && (at - nodes) % (3 + shape.width) == 0;
-    match words[at] {
-        0 | WORN if identifier && value == WORN => WORN,
-        0 | WORN if identifier => 0,
-        right => right,
-    }
+    (identifier && [0, WORN].contains(&words[at])).then_some(at + 3..at + 3 + shape.width)
 }
 
-/// Are these altered words of a sound store, three at most, noticed? Not if all of them mark free nodes or make worn ones free.
+/// What recovery leaves of a sound store with one such word altered. It is put back; but the identifier of a node in no list becomes 0, with
+/// zero record words, or stays if it is 65,535. So changes to and from 65,535 there are not put back.
+pub fn mended(words: &[u16], (at, value): WordStore) -> Vec<u16> {
+    let mut left = words.to_vec();
+    match record_in_no_list(words, at) {
+        Some(_) if value == WORN => left[at] = WORN,
+        Some(record) => {
+            left[at] = 0;
+            left[record].fill(0);
+        }
+        None => (),
+    }
+    left
+}
+
+/// Are these altered words of a sound store, three at most, noticed? Not if all of them mark free nodes or make worn ones free that have zero
+/// record words.
 pub fn noticed(words: &[u16], altered: &[WordStore]) -> bool {
-    altered.iter().any(|&(at, value)| mended(words, (at, value)) != value)
+    let blank = |record: Range<usize>| words[record].iter().all(|&word| word == 0);
+    let passes = |&(at, value): &WordStore| match record_in_no_list(words, at) {
+        Some(record) => value == WORN || (value == 0 && blank(record)),
+        None => value == words[at],
+    };
+    !altered.iter().all(passes)
 }
 
 /// The values that a word of a cell is altered to: every cell number and one beyond, every identifier, 65,535.
@@ -75,24 +93,37 @@ mod tests {
     /// Changes to and from 65,535 on a node in no list are not put back, and all others are.
     #[test]
     fn exceptions() {
-        let shape = Shape::new(1, 3, 2);
-        let words = with_worn(store_of(shape, &[vec![1]], || 7), &[2]);
-        let [member, worn, free] = [1, 2, 3].map(|cell| shape.cell(cell));
+        let shape = Shape::new(1, 4, 2);
+        let mut words = with_worn(store_of(shape, &[vec![1]], || 7), &[2, 4]);
+        words[shape.record(4)].fill(0);
+        let [member, worn, free, blank] = [1, 2, 3, 4].map(|cell| shape.cell(cell));
+        let with = |changes: &[WordStore]| {
+            let mut words = words.clone();
+            changes.iter().for_each(|&(at, value)| words[at] = value);
+            words
+        };
         for at in noticeable(&words).expect("a sound store") {
             for value in adversarial(shape).into_iter().filter(|&value| value != words[at]) {
-                let excepted = at == worn || (at == free && value == WORN);
-                assert_eq!(mended(&words, (at, value)) != words[at], excepted, "word {at} is {value}");
+                let excepted = [worn, blank].contains(&at) || (at == free && value == WORN);
+                assert_eq!(mended(&words, (at, value)) != words, excepted, "word {at} is {value}");
             }
         }
-        let kept = [(member, WORN), (8, WORN), (9, WORN), (member + 1, WORN), (free, 7), (free, 42_400)];
-        assert_eq!(kept.map(|altered| mended(&words, altered)), [42_400, 42_400, 1, 0, 0, 0]);
-        let lost = [(free, WORN), (worn, 0), (worn, 7), (worn, 42_400)];
-        assert_eq!(lost.map(|altered| mended(&words, altered)), [WORN, 0, 0, 0]);
-        assert!(!noticed(&words, &[(free, WORN), (worn, 0)]) && !noticed(&words, &[]));
-        assert!(noticed(&words, &[(free, WORN), (worn, 7)]) && noticed(&words, &[(worn, 0), (member, WORN)]));
+        for altered in [(member, WORN), (8, WORN), (9, WORN), (member + 1, WORN), (free, 7), (free, 42_400)] {
+            assert_eq!((mended(&words, altered), noticed(&words, &[altered])), (words.clone(), true));
+        }
+        for altered in [(free, WORN), (blank, 0)] {
+            assert_eq!((mended(&words, altered), noticed(&words, &[altered])), (with(&[altered]), false));
+        }
+        for value in [0, 7, 42_400] {
+            let left = with(&[(worn, 0), (worn + 3, 0), (worn + 4, 0)]);
+            assert_eq!((mended(&words, (worn, value)), noticed(&words, &[(worn, value)])), (left, true));
+        }
+        assert!(!noticed(&words, &[(free, WORN), (blank, 0)]) && !noticed(&words, &[]));
+        assert!(noticed(&words, &[(free, WORN), (worn, 0)]) && noticed(&words, &[(blank, 0), (member, WORN)]));
     }
 
-    /// All sound stores of one and two lists over two nodes: of one altered word recovery leaves that, with one store or none.
+    /// All sound stores of one and two lists over two nodes: of one altered word recovery leaves that, with one store or none; if a
+    /// worn node is free then, with one more for each word of its record.
     #[test]
     fn one_word() {
         for shape in [Shape::new(1, 2, 1), Shape::new(2, 2, 1)] {
@@ -100,13 +131,12 @@ mod tests {
                 let words = with_worn(store_of(shape, &lists, || 7), &worn);
                 for at in noticeable(&words).expect("a sound store") {
                     for value in adversarial(shape) {
-                        let mut expected = words.clone();
-                        expected[at] = mended(&words, (at, value));
+                        let expected = mended(&words, (at, value));
                         let mut found = words.clone();
                         found[at] = value;
                         assert_eq!(check(&found) == 6, noticed(&words, &[(at, value)]));
-                        let stores = u16::from(found != expected);
-                        assert_eq!((recover(&mut found, 1), found), (Answer::Done(stores), expected));
+                        let stores = (0..found.len()).filter(|&at| found[at] != expected[at]).count() as u16;
+                        assert_eq!((recover(&mut found, 2), found), (Answer::Done(stores), expected));
                     }
                 }
             }

@@ -56,7 +56,7 @@ impl Call {
     /// The stores that count as made if it is cut after so many.
     fn due(self, allowance: u16) -> u16 {
         match self.start {
-            0 => due_of_delete(allowance),
+            0 => due_of_delete(1, allowance),
             _ => due_of_insert(1, allowance),
         }
     }

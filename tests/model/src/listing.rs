@@ -40,7 +40,8 @@ mod tests {
         words.iter().flat_map(|w| w.to_le_bytes()).collect()
     }
 
-    /// The listing of C1, of C3, and of C3 with its third node worn; of what is no store. Each record is what read gives.
+    /// The listing of C1, of C3, and of C3 with remains in its third node, free and worn; of what is no store. Each record is what read
+    /// gives.
     #[test]
     fn marked_store() {
         let mut words = vec![7; 24];
@@ -50,7 +51,11 @@ mod tests {
         insert(&mut words, 0, 1, 2, &[512], 65_535);
         assert_eq!(listing(&bytes(&words)), "list 0 count 2\n0 2 700\n1 3 512\nsound\n");
         assert_eq!((read(&words, 0, 0), read(&words, 0, 1)), (Ok(&[700][..]), Ok(&[512][..])));
+        words[15] = 9;
+        assert_eq!(listing(&bytes(&words)), "refused 6\n");
+        words[15] = 0;
         mark_worn(&mut words, 1);
+        words[15] = 9;
         assert_eq!(listing(&bytes(&words)), "list 0 count 2\n0 2 700\n1 3 512\nsound\n");
         assert_eq!(listing(&[]), "refused 1\n");
         assert_eq!(listing(&[0]), "refused 4\n");

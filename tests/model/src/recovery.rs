@@ -2,9 +2,12 @@
 //!
 //! A sequence of different nodes fits a list if at most one word differs from what it asks of the header and of its members.
 //! If one alone fits each list, the differing words are stored, list 0 first, then 0 to each identifier of a node in none
-//! of them that is neither 0 nor 65,535, lowest cell first.
+//! of them that is neither 0 nor 65,535, lowest cell first, then 0 to each record word of a node in none that is not worn, lowest word
+//! first. Words that are 0 already are not stored.
 
-use crate::store::{identifier_of, in_no_list, lists, make, open, sequences, walk, Answer, Shape, WordStore, WORN};
+use crate::store::{
+    act, check, identifier_of, lists, make, open, ordered, sequences, to_be_blank, walk, Answer, Shape, WordStore, WORN,
+};
 use std::collections::BTreeSet;
 
 /// In stores of at most so many nodes the fitting sequences are found by enumeration too.
@@ -73,9 +76,12 @@ fn fitting_lists(words: &[u16]) -> Result<(Shape, Vec<Vec<usize>>), u16> {
     Ok((shape, lists))
 }
 
-/// The nodes in none of the lists that are neither free nor worn, lowest first.
-fn orphans(words: &[u16], shape: Shape, lists: &[Vec<usize>]) -> Vec<usize> {
-    in_no_list(shape, lists).into_iter().filter(|&cell| ![0, WORN].contains(&words[shape.cell(cell)])).collect()
+/// The words that must be 0 beside these lists, in recover's order: of the nodes in none that are not worn first the identifiers, then the
+/// record words.
+fn cleared(words: &[u16], shape: Shape, lists: &[Vec<usize>]) -> Vec<usize> {
+    let cells = to_be_blank(words, shape, lists);
+    let identifiers = cells.iter().map(|&cell| shape.cell(cell));
+    identifiers.chain(cells.iter().flat_map(|&cell| shape.record(cell))).collect()
 }
 
 /// The stores of recover in their order, or the number of the refusal. All made, they leave a sound store of the sequences
@@ -86,7 +92,8 @@ pub(crate) fn recover_plan(words: &[u16]) -> Result<Vec<WordStore>, u16> {
     for (list, sequence) in sequences.iter().enumerate() {
         stores.extend(differing(words, shape, list, sequence));
     }
-    stores.extend(orphans(words, shape, &sequences).into_iter().map(|cell| (shape.cell(cell), 0)));
+    stores.extend(cleared(words, shape, &sequences).into_iter().filter(|&at| words[at] != 0).map(|at| (at, 0)));
+    assert!(stores.len() <= shape.lists + shape.nodes + shape.width * shape.nodes, "recover goes beyond its bound");
     let (_, left) = make(words, &stores, stores.len() as u16);
     assert_eq!(lists(&left, shape), Some(sequences), "recover does not leave a sound store");
     Ok(stores)
@@ -94,13 +101,7 @@ pub(crate) fn recover_plan(words: &[u16]) -> Result<Vec<WordStore>, u16> {
 
 /// Recover.
 pub fn recover(words: &mut [u16], allowance: u16) -> Answer {
-    let stores = match recover_plan(words) {
-        Err(number) => return Answer::Refused(number),
-        Ok(stores) => stores,
-    };
-    let (answer, left) = make(words, &stores, allowance);
-    words.copy_from_slice(&left);
-    answer
+    act(words, recover_plan(words), allowance)
 }
 
 /// The stores of an insert, of one record or several, that count as made if it is cut after so many: all of each record whose central
@@ -110,16 +111,17 @@ pub fn due_of_insert(width: usize, allowance: u16) -> u16 {
     ((0..2000).take_while(|&i| central(i) <= allowance.into()).count() * (width + 6)) as u16
 }
 
-/// The stores of a delete that count as made: all four if the second, the central one, was made.
-pub fn due_of_delete(allowance: u16) -> u16 {
+/// The stores of a delete that count as made: all, four and one for each record word, if the second, the central one, was made.
+pub fn due_of_delete(width: usize, allowance: u16) -> u16 {
     if allowance < 2 {
         0
     } else {
-        4
+        4 + width as u16
     }
 }
 
-/// A course: an insert or delete on a sound store, alterations in the lists that it does not name, then recover calls.
+/// A course: an insert or delete on an ordered store, alterations in the lists that it does not name, then recover calls. The insert or
+/// delete may be a former one.
 #[derive(Clone)]
 pub struct Course {
     /// The store that the recover calls find.
@@ -135,14 +137,14 @@ pub struct Course {
 impl Course {
     /// `new` are the words that the call leaves if it is made with exactly the stores that count as made: those before it, if
     /// none does or it is refused.
-    pub fn new(sound: &[u16], list: u16, new: &[u16], found: &[u16]) -> Course {
-        let shape = open(sound).expect("a store");
-        let sequences = |words| lists(words, shape).expect("a sound store");
-        let (before, after) = (sequences(sound), sequences(new));
+    pub fn new(old: &[u16], list: u16, new: &[u16], found: &[u16]) -> Course {
+        let shape = open(old).expect("a store");
+        let sequences = |words| ordered(words, shape).expect("an ordered store");
+        let (before, after) = (sequences(old), sequences(new));
         let mut last = found.to_vec();
         let mut members = vec![];
         for k in 0..shape.lists {
-            let (words, sequence) = if k == usize::from(list) { (new, &after[k]) } else { (sound, &before[k]) };
+            let (words, sequence) = if k == usize::from(list) { (new, &after[k]) } else { (old, &before[k]) };
             let header = shape.cell(k)..shape.cell(k) + 4;
             last[header.clone()].copy_from_slice(&words[header]);
             for node in sequence.iter().map(|&cell| shape.node(cell)) {
@@ -150,11 +152,9 @@ impl Course {
             }
             members.push(sequence.clone());
         }
-        for cell in orphans(found, shape, &members) {
-            last[shape.cell(cell)] = 0;
-        }
-        let worn = shape.node_cells().filter(|&cell| sound[shape.cell(cell)] == WORN);
-        let worn = worn.flat_map(|cell| shape.node(cell)).map(|at| (at, sound[at])).collect();
+        cleared(found, shape, &members).into_iter().for_each(|at| last[at] = 0);
+        let worn = shape.node_cells().filter(|&cell| old[shape.cell(cell)] == WORN);
+        let worn = worn.flat_map(|cell| shape.node(cell)).map(|at| (at, old[at])).collect();
         Course { found: found.to_vec(), last, worn, stores: 0 }
     }
 
@@ -176,6 +176,7 @@ impl Course {
     /// At the end, the last recover call done.
     pub fn ended(&self, words: &[u16]) {
         assert_eq!(words, self.last, "a course does not end as it must");
+        assert_eq!(check(words), 0, "a course does not end with a sound store");
         assert!(self.worn.iter().all(|&(at, value)| words[at] == value), "a worn node is not as it was: {words:?}");
         let changed = (0..words.len()).filter(|&i| words[i] != self.found[i]).count();
         assert_eq!(self.stores, changed, "the numbers of stores do not add up");
@@ -185,9 +186,10 @@ impl Course {
 #[cfg(test)]
 mod tests {
     use super::*;
+    use crate::former;
     use crate::random::Random;
-    use crate::samples::{carriers, deal, wear, with_worn};
-    use crate::store::{check, delete, format, insert, insert_several, store_of};
+    use crate::samples::{carriers, deal, remain, wear, with_worn};
+    use crate::store::{delete, format, insert, insert_several, store_of};
     use std::collections::HashSet;
 
     const ENOUGH: u16 = 65_535;
@@ -224,7 +226,9 @@ mod tests {
             insert(&mut words, 0, 1, 2, &[512], allowance);
             words
         };
-        stores(&inserted(5), &[(11, 1), (20, 0)]);
+        stores(&inserted(1), &[(23, 0)]);
+        stores(&inserted(4), &[(20, 0), (23, 0)]);
+        stores(&inserted(5), &[(11, 1), (20, 0), (23, 0)]);
         stores(&inserted(6), &[(10, 3)]);
         let deleted = |allowance| {
             let mut words = c3.clone();
@@ -232,8 +236,10 @@ mod tests {
             words
         };
         stores(&deleted(1), &[(22, 2)]);
-        stores(&deleted(2), &[(11, 1), (16, 0)]);
-        stores(&deleted(3), &[(16, 0)]);
+        stores(&deleted(2), &[(11, 1), (16, 0), (19, 0)]);
+        stores(&deleted(3), &[(16, 0), (19, 0)]);
+        stores(&deleted(4), &[(19, 0)]);
+        stores(&deleted(5), &[]);
         for allowance in [0, 1, ENOUGH] {
             let mut c9 = with(&c2, &[(12, 42_400), (13, 0), (14, 0), (9, 1)]);
             assert_eq!(recover(&mut c9, allowance), Answer::Refused(12));
@@ -272,31 +278,38 @@ mod tests {
         }
     }
 
-    /// Worn is judged after membership: a member or header with identifier 65,535 is mended; of the nodes in no list those with it keep
-    /// all words.
+    /// Worn is judged after membership: a member or header with identifier 65,535 is mended, and its record stays; of the nodes in no list
+    /// those with it keep all words. All others are cleared and wiped, the identifiers first.
     #[test]
     fn worn_nodes() {
         let shape = Shape::new(1, 2, 1);
-        let words = store_of(shape, &[vec![1]], || 0);
+        let words = with(&store_of(shape, &[vec![1]], || 5), &[(17, 0), (18, 0)]);
         stores(&with(&words, &[(12, WORN), (16, 7)]), &[(12, 42_400), (16, 0)]);
-        stores(&with(&words, &[(12, WORN), (16, WORN)]), &[(12, 42_400)]);
-        stores(&with(&words, &[(16, WORN), (17, 0), (18, 0)]), &[]);
+        stores(&with(&words, &[(12, WORN), (16, 7), (19, 8)]), &[(12, 42_400), (16, 0), (19, 0)]);
+        stores(&with(&words, &[(12, WORN), (19, 8)]), &[(12, 42_400), (19, 0)]);
+        stores(&with(&words, &[(12, WORN), (16, WORN), (19, 8)]), &[(12, 42_400)]);
+        stores(&with(&words, &[(16, WORN), (17, 0), (18, 0), (19, 8)]), &[]);
         let shape = Shape::new(3, 8, 2);
         let sound = with_worn(store_of(shape, &[vec![7, 3], vec![], vec![10]], || 9), &[5, 8]);
         stores(&sound, &[]);
         let identifier = |cell| shape.cell(cell);
         let altered = [(identifier(7), WORN), (identifier(1), WORN), (identifier(10), WORN)];
-        stores(&with(&sound, &altered), &altered.map(|(at, _)| (at, sound[at])));
-        let others = [(identifier(4), 7), (identifier(6), WORN), (identifier(8), WORN - 1), (identifier(9), 42_400)];
-        let cleared = [(identifier(4), 0), (identifier(8), 0), (identifier(9), 0)];
-        stores(&with(&sound, &others), &cleared);
         let mended = altered.map(|(at, _)| (at, sound[at]));
-        stores(&with(&with(&sound, &others), &altered), &[&mended[..], &cleared].concat());
-        stores(&with(&sound, &[(identifier(5), 0)]), &[]);
-        stores(&with(&sound, &[(identifier(5), 42_401)]), &[(identifier(5), 0)]);
+        stores(&with(&sound, &altered), &mended);
+        let others = [(identifier(4), 7), (identifier(6), WORN), (identifier(8), WORN - 1), (identifier(9), 42_400)];
+        let remains = [(identifier(6) + 3, 1), (identifier(9) + 4, 1)];
+        let cleared = [(identifier(4), 0), (identifier(8), 0), (identifier(9), 0)];
+        let wiped = [(identifier(8) + 3, 0), (identifier(8) + 4, 0), (identifier(9) + 4, 0)];
+        let found = with(&with(&sound, &others), &remains);
+        stores(&found, &[&cleared[..], &wiped].concat());
+        stores(&with(&found, &altered), &[&mended[..], &cleared, &wiped].concat());
+        let record = [(identifier(5) + 3, 0), (identifier(5) + 4, 0)];
+        stores(&with(&sound, &[(identifier(5), 0)]), &record);
+        stores(&with(&sound, &[(identifier(5), 42_401)]), &[&[(identifier(5), 0)][..], &record].concat());
     }
 
-    /// A cut insert uses no worn node, and what it leaves of one is as it was; of the node that it uses recovery clears the identifier.
+    /// A cut insert uses no worn node, and what it leaves of one is as it was; of the node that it uses recovery clears the identifier
+    /// and wipes the record.
     #[test]
     fn cut_beside_worn_nodes() {
         let shape = Shape::new(1, 4, 1);
@@ -307,8 +320,9 @@ mod tests {
             insert(&mut words, 0, 1, 2, &[5], allowance);
             words
         };
-        stores(&cut(4), &[(20, 0)]);
-        stores(&cut(5), &[(11, 1), (20, 0)]);
+        stores(&cut(3), &[(23, 0)]);
+        stores(&cut(4), &[(20, 0), (23, 0)]);
+        stores(&cut(5), &[(11, 1), (20, 0), (23, 0)]);
         stores(&cut(6), &[(10, 3)]);
         assert!((0..8).all(|allowance| carriers(&cut(allowance), WORN) == [2, 4]));
         assert!((0..8).all(|allowance| cut(allowance)[16..20] == sound[16..20]));
@@ -370,36 +384,45 @@ mod tests {
         let whole = |allowance| due_of_insert(1, allowance) / 7;
         assert_eq!([0, 5, 6, 7, 12, 13, 19, 20].map(whole), [0, 0, 1, 1, 1, 2, 2, 3]);
         assert_eq!([37_998, 37_999, ENOUGH].map(|allowance| due_of_insert(13, allowance) / 19), [1999, 2000, 2000]);
-        assert_eq!([0, 1, 2, 3, 4].map(due_of_delete), [0, 0, 4, 4, 4]);
+        let of_delete = |width, allowances: [u16; 5]| allowances.map(|allowance| due_of_delete(width, allowance));
+        assert_eq!((of_delete(1, [0, 1, 2, 4, 5]), of_delete(13, [0, 1, 2, 16, 17])), ([0, 0, 5, 5, 5], [0, 0, 17, 17, 17]));
     }
 
-    /// Courses from sound stores of many shapes end as they must.
+    /// Courses from ordered stores of many shapes end as they must. By one turn in three the store is an older one, and the insert or delete
+    /// a former one, or one of now, which is refused.
     #[test]
     fn courses() {
         let mut random = Random::new(9);
-        for turn in 0..10_000 {
+        let mut older = 0;
+        for turn in 0..12_000 {
             let nodes = random.between(1, if turn % 4 == 0 { 12 } else { 5 });
             let shape = Shape::new(random.between(1, if turn % 5 == 0 { 8 } else { 3 }), nodes, random.between(1, 3));
             let lists = random_lists(&mut random, shape);
             let sound = store_of(shape, &lists, || random.word());
             let sound = wear(&mut random, sound, turn % 2);
+            let old = if turn % 3 == 0 { remain(&mut random, sound.clone()) } else { sound.clone() };
+            older += usize::from(old != sound);
             let beyond = usize::from(random.below(20) == 0);
             let named = random.below(shape.lists + beyond);
             let position = random.between(0, lists.get(named).map_or(0, |s| s.len())) as u16;
             let start = (shape.lists + random.below(shape.nodes)) as u16;
-            let kind = random.below(3);
+            let kind = random.below(if turn % 3 == 0 { 5 } else { 3 });
             let number = if kind == 2 { random.between(1, 4) } else { 1 };
             let records: Vec<u16> = (0..number * shape.width).map(|_| random.word()).collect();
             let call = |words: &mut [u16], allowance| match kind {
                 0 => insert(words, named as u16, position, start, &records, allowance),
                 1 => delete(words, named as u16, position, allowance),
-                _ => insert_several(words, named as u16, position, start, &records, allowance),
+                2 => insert_several(words, named as u16, position, start, &records, allowance),
+                3 => former::insert(words, named as u16, position, start, &records, allowance),
+                _ => former::delete(words, named as u16, position, allowance),
             };
             let allowance = random.below(number * (shape.width + 6) + 2) as u16;
-            let mut found = sound.clone();
-            call(&mut found, allowance);
-            let due = if kind == 1 { due_of_delete(allowance) } else { due_of_insert(shape.width, allowance) };
-            let mut new = sound.clone();
+            let mut found = old.clone();
+            let answer = call(&mut found, allowance);
+            assert!(kind > 2 || old == sound || matches!(answer, Answer::Refused(5 | 6)), "{answer:?} on {old:?}");
+            let deletes = [1, 4].contains(&kind);
+            let due = if deletes { due_of_delete(shape.width, allowance) } else { due_of_insert(shape.width, allowance) };
+            let mut new = old.clone();
             call(&mut new, due);
             for (list, sequence) in lists.iter().enumerate().filter(|&(list, _)| list != named) {
                 let cell = [&[list][..], sequence].concat()[random.below(sequence.len() + 1)];
@@ -408,7 +431,7 @@ mod tests {
                     found[shape.cell(cell) + i] = value(&mut random, shape, i);
                 }
             }
-            let mut course = Course::new(&sound, named as u16, &new, &found);
+            let mut course = Course::new(&old, named as u16, &new, &found);
             let mut words = found;
             for _ in 0..random.below(4) {
                 let allowance = random.below(4) as u16;
@@ -419,7 +442,7 @@ mod tests {
             assert!(matches!(answer, Answer::Done(_)));
             course.recovered(answer, ENOUGH);
             course.ended(&words);
-            assert_eq!(check(&words), 0);
         }
+        assert!(older > 2_000, "{older}");
     }
 }

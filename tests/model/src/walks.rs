@@ -83,17 +83,19 @@ pub fn insert_stores(words: &[u16], list: usize, position: usize, cell: usize, r
     stores
 }
 
-/// The stores of a delete: the cell at which the walk arrives is taken out from between those that its links name.
+/// The stores of a delete: the cell at which the walk arrives is taken out from between those that its links name, and its record wiped.
 pub fn delete_stores(words: &[u16], list: usize, position: usize) -> Vec<WordStore> {
     let shape = open(words).expect("a store");
     let (cell, count) = (shape.cell(seek(words, list, position + 1)), shape.cell(list) + 3);
     let (after, before) = (words[cell + 1], words[cell + 2]);
-    vec![
+    let mut stores = vec![
         (shape.cell(after.into()) + 2, before),
         (shape.cell(before.into()) + 1, after),
         (count, words[count] - 1),
         (cell, 0),
-    ]
+    ];
+    stores.extend((0..shape.width).map(|i| (cell + 3 + i, 0)));
+    stores
 }
 
 #[cfg(test)]
@@ -245,10 +247,11 @@ mod tests {
             for position in 0..cells.len() - 1 {
                 let cell = seek(&words, list, position + 1);
                 assert_eq!(read(&words, k, position as u16), Ok(&words[shape.cell(cell) + 3..][..shape.width]));
-                for allowance in 0..6 {
+                let stores = delete_stores(&words, list, position);
+                for allowance in 0..=stores.len() as u16 + 1 {
                     let mut left = words.clone();
                     let answer = delete(&mut left, k, position as u16, allowance);
-                    assert_eq!((answer, left), make(&words, &delete_stores(&words, list, position), allowance));
+                    assert_eq!((answer, left), make(&words, &stores, allowance));
                 }
             }
         }

@@ -1,6 +1,6 @@
 -- `byte_requests::gaps` meets its contract: questions 7 to 9, then as many free nodes as have no identifier, and then the gap.
 use Prim.Native.Nat.{ℕ, _%_, _≤_, _<_}
-use mathlib.Core.Path.{_≡_, ap, _∙_, sym}
+use mathlib.Core.Path.{_≡_, _∙_, sym}
 use mathlib.Core.List.{List}
 use native.Mathlib.Omega.{arith}
 use lib.ListN.{length}
@@ -9,7 +9,6 @@ use Rattle.byte_form.specs.Bytes.{wordsIn}
 use Rattle.layout.specs.Words.{Node}
 use Rattle.lists.specs.Decide.{View, viewOf, sequenceOf}
 use Rattle.lists.proofs.Ring.{held-count}
-use Rattle.spans.specs.declared.Tally.{Tally}
 use Rattle.requests.specs.Requests.{around, freeCells}
 use Rattle.requests.proofs.Laws.{gaps-asked}
 use Rattle.requests.proofs.Sites.{gaps-shut, gaps-few, gaps-open}
@@ -36,26 +35,26 @@ returns c =
     gaps-shut (a .l) (view s .ident) (a .k) (a .p) (a .start) (members s) (held-count (s .pre .2)) (a .size) (c .before .gaps-number .ensures) (c .if1 .taken)
     )
 
-tally-requires : tie.Need-tally-requires
-tally-requires c κs = search needs
+free-nodes-requires : tie.Need-free-nodes-requires
+free-nodes-requires c κs = search needs
 
--- the questions, by the place where the nodes are tallied; their answers, and the free nodes
-abbrev asked : tie.After-tally → tie.Else1
+-- the questions, by the place where the free nodes are counted; their answers, and the free nodes
+abbrev asked : tie.After-free-nodes → tie.Else1
 asked c = c .before
 
-abbrev start : tie.After-tally → tie.Start
+abbrev start : tie.After-free-nodes → tie.Start
 start c = asked c .before .before .before
 
-yes : (c : tie.After-tally) → let a = start c .args in (a .p ≤ a .n) × Node (a .l) (a .start) × (0 < a .size) × (a .size % a .l .width ≡ 0)
+yes : (c : tie.After-free-nodes) → let a = start c .args in (a .p ≤ a .n) × Node (a .l) (a .start) × (0 < a .size) × (a .size % a .l .width ≡ 0)
 yes c =
     let a = start c .args in
     gaps-asked (a .l) (a .n) (a .p) (a .start) (a .size) (asked c .before .gaps-number .ensures) (asked c .if1 .left)
 
-free : (c : tie.After-tally) → let s = start c in let l = s .args .l in
-    length (freeCells (view s .ident) (around l (s .args .start) (l .nodes))) ≡ c .tally .result .free
+free : (c : tie.After-free-nodes) → let s = start c in let l = s .args .l in
+    length (freeCells (view s .ident) (around l (s .args .start) (l .nodes))) ≡ c .free-nodes .result
 free c =
     let s = start c in
-    free-count (s .args .l) (view s) (s .args .start) (yes c .1) ∙ sym (ap (λ (t : Tally). t .free) (c .tally .ensures))
+    free-count (s .args .l) (view s) (s .args .start) (yes c .1) ∙ sym (c .free-nodes .ensures)
 
 cast-free : tie.Need-cast-free
 cast-free c = search needs
@@ -68,7 +67,7 @@ div-if2 c = search needs
 
 returns-2 : tie.Need-returns-2
 returns-2 c =
-    let u = c .before .before .before in
+    let u = c .before .before in
     let s = start u in
     let a = s .args in
     gaps-said (a .l) (view s .ident) (a .k) (a .p) (a .start) (a .size) (members s) (
@@ -78,7 +77,7 @@ returns-2 c =
 
 free-gap-requires : tie.Need-free-gap-requires
 free-gap-requires c κs =
-    let u = c .before .before .before in
+    let u = c .before .before in
     let s = start u in
     let q = yes u in
     (s .pre .0, s .pre .1, s .pre .2, q .0, q .1)
@@ -86,7 +85,7 @@ free-gap-requires c κs =
 returns-3 : tie.Need-returns-3
 returns-3 c =
     let e = c .before in
-    let u = e .before .before .before in
+    let u = e .before .before in
     let s = start u in
     let a = s .args in
     gaps-said (a .l) (view s .ident) (a .k) (a .p) (a .start) (a .size) (members s) (
@@ -101,7 +100,7 @@ gaps-spec =
     (tie.spec
     gaps-number-requires
     returns
-    tally-requires
+    free-nodes-requires
     cast-free
     cast-if2
     div-if2

@@ -3,8 +3,8 @@ use mathlib.Core.Path.{refl}
 use native.Mathlib.Nat.{add-zero}
 use borrow.Author.Needs.{needs}
 use Rattle.stores.specs.Stores.{writesOf}
-use Rattle.edits.specs.Edits.{deleteWrites}
-use Rattle.edits.proofs.Inside.{delete-inside}
+use Rattle.edits.specs.Edits.{deleteLinks}
+use Rattle.edits.proofs.Inside.{delete-links-inside}
 use Rattle.edits.proofs.delete_links.Statement.{statement}
 use Rattle.edits.proofs.delete_links.Tie as tie
 
@@ -24,7 +24,7 @@ less-one-requires : tie.Need-less-one-requires
 less-one-requires c κs = search needs
 
 returns : tie.Need-returns
-unfolding writesOf deleteWrites
+unfolding writesOf deleteLinks
 returns c =
     let d = c .before .before .before in
     record {
@@ -38,7 +38,7 @@ returns c =
             c .less-one .ensures,
             add-zero,
           );
-      inside = delete-inside (d .before .before .pre);
+      inside = delete-links-inside (d .before .before .pre);
     }
 
 pub delete-links-spec : {M : Type 1} → statement M

@@ -1,6 +1,6 @@
 -- `word_requests::gaps` meets its contract: questions 7 to 9, then question 10 by the number of free nodes, and the search, which then finds one.
 use Prim.Native.Nat.{ℕ, _≤_}
-use mathlib.Core.Path.{_≡_, ap, _∙_, sym}
+use mathlib.Core.Path.{_≡_, _∙_, sym}
 use mathlib.Core.List.{List}
 use native.Mathlib.Omega.{arith}
 use lib.ListN.{length}
@@ -8,7 +8,6 @@ use borrow.Author.Needs.{needs}
 use Rattle.layout.specs.Words.{Node}
 use Rattle.lists.specs.Decide.{viewOf, sequenceOf}
 use Rattle.lists.proofs.Ring.{held-count}
-use Rattle.spans.specs.declared.Tally.{Tally}
 use Rattle.requests.specs.Requests.{around, freeCells}
 use Rattle.requests.proofs.Laws.{gaps-asked}
 use Rattle.requests.proofs.Sites.{gaps-shut, gaps-few, gaps-open}
@@ -39,25 +38,25 @@ returns c =
     gaps-shut (a .l) (ident s) (a .k) (a .p) (a .start) (members s) (held-count (s .pre .2)) (a .size) (c .before .gaps-number .ensures) (c .if1 .taken)
     )
 
-tally-requires : tie.Need-tally-requires
-tally-requires c κs = search needs
+free-nodes-requires : tie.Need-free-nodes-requires
+free-nodes-requires c κs = search needs
 
--- the start, from behind the tally; questions 7 to 9 are answered yes
-abbrev start : tie.After-tally → tie.Start
+-- the start, from behind their count; questions 7 to 9 are answered yes
+abbrev start : tie.After-free-nodes → tie.Start
 start c = c .before .before .before .before
 
-asked : (c : tie.After-tally) → let a = start c .args in (a .p ≤ a .n) × Node (a .l) (a .start)
+asked : (c : tie.After-free-nodes) → let a = start c .args in (a .p ≤ a .n) × Node (a .l) (a .start)
 asked c =
     let a = start c .args in
     let q = gaps-asked (a .l) (a .n) (a .p) (a .start) (a .size) (c .before .before .gaps-number .ensures) (c .before .if1 .left) in
     (q .0, q .1)
 
 -- the free nodes are counted
-counted : (c : tie.After-tally) → free (start c) ≡ c .tally .result .free
+counted : (c : tie.After-free-nodes) → free (start c) ≡ c .free-nodes .result
 counted c =
     let s = start c in
     let a = s .args in
-    free-count (a .l) (viewOf (a .l) (a .words .now)) (a .start) (asked c .1) ∙ sym (ap (λ (t : Tally). t .free) (c .tally .ensures))
+    free-count (a .l) (viewOf (a .l) (a .words .now)) (a .start) (asked c .1) ∙ sym (c .free-nodes .ensures)
 
 cast-free : tie.Need-cast-free
 cast-free c = search needs
@@ -70,7 +69,7 @@ div-if2 c = search needs
 
 returns-2 : tie.Need-returns-2
 returns-2 c =
-    let u = c .before .before .before in
+    let u = c .before .before in
     let s = start u in
     let a = s .args in
     gaps-said (a .l) (ident s) (a .k) (a .p) (a .start) (a .size) (members s) (
@@ -80,14 +79,14 @@ returns-2 c =
 
 free-gap-requires : tie.Need-free-gap-requires
 free-gap-requires c κs =
-    let u = c .before .before .before in
+    let u = c .before .before in
     let s = start u in
     (s .pre .0, s .pre .1, s .pre .2, asked u .0, asked u .1)
 
 returns-3 : tie.Need-returns-3
 returns-3 c =
     let g = c .before in
-    let u = g .before .before .before in
+    let u = g .before .before in
     let s = start u in
     let a = s .args in
     gaps-said (a .l) (ident s) (a .k) (a .p) (a .start) (a .size) (members s) (
@@ -102,7 +101,7 @@ gaps-spec =
     (tie.spec
     gaps-number-requires
     returns
-    tally-requires
+    free-nodes-requires
     cast-free
     cast-width
     div-if2

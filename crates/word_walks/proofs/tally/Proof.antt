@@ -1,100 +1,98 @@
--- `word_walks::tally` meets its contract. The loop's invariant: a is the place of node i, and t is the tally of the nodes before it.
-use Prim.Native.Nat.{ℕ, _+_, _-_, _≤_}
-use mathlib.Core.Path.{_≡_, ap, _∙_, sym, subst}
-use mathlib.Core.List.{List}
+-- `word_walks::tally` meets its contract. The loop's invariant: t is the tally of the nodes before cell c.
+use Prim.Native.Nat.{_+_, _-_, _≤_}
+use mathlib.Core.Path.{_≡_, ap, ap₂, _∙_, sym, subst}
 use native.Mathlib.Omega.{arith}
-use lib.ListN.{length, getD}
+use borrow.Author.Needs.{needs}
 use Rattle.layout.specs.declared.Layout.{Layout}
-use Rattle.layout.specs.Words.{Laid, linkWords, firstNode, cellAt}
+use Rattle.layout.specs.Words.{firstNode, cellCount}
 use Rattle.lists.specs.Decide.{View, viewOf}
-use Rattle.spans.specs.Spans.{Gridded, tallied}
-use Rattle.spans.proofs.Places.{first-place, next-place, in-words, words-few}
-use Rattle.spans.proofs.Counts.{Tallying, tallying-first, tallying-next, tallying-few, tallying-done}
+use Rattle.spans.specs.Spans.{tallyOf, bothTallies, FewIn}
+use Rattle.spans.proofs.Counts.{tally-none, tally-plus, tally-few}
 use Rattle.word_walks.proofs.tally.Statement.{statement}
 use Rattle.word_walks.proofs.tally.Tie as tie
 
 abbrev Inv-loop : tie.InvT-loop
-Inv-loop words l g a₀ t₀ i₀ a t i =
-    Gridded l g × Laid l words × (a ≡ cellAt l (firstNode l + i)) × Tallying l (viewOf l words) i t
+Inv-loop words l g t₀ c₀ t c = (firstNode l ≤ c) × (c ≤ cellCount l) × (t ≡ tallyOf (viewOf l words) (firstNode l) (c - firstNode l))
 
 abbrev μ-loop : tie.MeasureT-loop
-μ-loop words l g a₀ t₀ i₀ a t i = l .nodes - i
+μ-loop words l g t₀ c₀ t c = cellCount l - c
+
+none-requires : tie.Need-none-requires Inv-loop μ-loop
+none-requires c κs = search needs
 
 loop-holds : tie.Need-loop-holds Inv-loop μ-loop
 loop-holds c =
-    let s = c .before in
+    let s = c .before .before in
     let l = s .args .l in
-    let z : firstNode l ≡ firstNode l + 0 = omega arith in (
-      s .pre .0,
-      s .pre .1,
-      s .pre .0 .first ∙ sym (first-place l) ∙ ap (cellAt l) z,
-      tallying-first l (viewOf l (s .args .words .now)),
-    )
+    let v = viewOf l (s .args .words .now) in
+    let e : 0 ≡ s .args .g .from - firstNode l = omega (arith, s .pre .0 .from) in
+    (omega (arith, s .pre .0 .from), omega (arith, s .pre .0 .from), c .none .ensures ∙ tally-none v (firstNode l) ∙ ap (tallyOf v (firstNode l)) e)
 
 -- the places in the loop, and what is known there
 abbrev At : Type 0
 At = tie.At-loop Inv-loop μ-loop
 
-abbrev layout : At → Layout
-layout c = c .before .before .args .l
+abbrev start : At → tie.Start Inv-loop μ-loop
+start h = h .before .before .before
 
-abbrev words : At → List ℕ
-words c = c .before .before .args .words .now
+abbrev layout : At → Layout
+layout h = start h .args .l
 
 abbrev view : At → View
-view c = viewOf (layout c) (words c)
+view h = viewOf (layout h) (start h .args .words .now)
 
--- the node's identifier stands within the store
-fits : (c : tie.Then1 Inv-loop μ-loop) → c .before .before .loop .a + linkWords ≤ length (words (c .before .before))
-fits c =
-    let h = c .before .before in
-    omega (arith, h .loop .inv .2, in-words (h .loop .inv .1) (firstNode (layout h) + h .loop .i) (omega arith))
+sub-portion : tie.Need-sub-portion Inv-loop μ-loop
+sub-portion c = omega arith
 
--- the node's identifier is read
-read : (c : tie.After-word Inv-loop μ-loop) → let h = c .before .before .before in
-    c .word .result ≡ view h .ident (firstNode (layout h) + h .loop .i)
-read c = let h = c .before .before .before in c .word .ensures ∙ ap (λ (a : ℕ). getD (words h) a 0) (h .loop .inv .2)
+portion-requires : tie.Need-portion-requires Inv-loop μ-loop
+portion-requires c κs = omega (arith, c .before .if1 .taken)
 
-word-requires : tie.Need-word-requires Inv-loop μ-loop
-word-requires c κs = omega (arith, fits c)
+-- a portion ends within the nodes
+inside : (c : tie.After-portion Inv-loop μ-loop) → let h = c .before .before .before .before in h .loop .c + c .portion .result ≤ cellCount (layout h)
+inside c =
+    let h = c .before .before .before .before in
+    omega (arith, c .portion .ensures .1, start h .pre .0 .to, c .before .before .if1 .taken)
 
-with-requires : tie.Need-with-requires Inv-loop μ-loop
-with-requires c κs =
-    let h = c .before .before .before in
-    let f = tallying-few (layout h) (view h) (h .loop .i) (h .loop .t) (h .loop .inv .3) in
-    let n = h .loop .inv .1 .inRange .nodes in
-    (omega (arith, f .0, n), omega (arith, f .1, n))
+part-requires : tie.Need-part-requires Inv-loop μ-loop
+part-requires c κs =
+    let h = c .before .before .before .before in
+    (start h .pre .0, start h .pre .1, h .loop .inv .0, inside c)
 
-add-a : tie.Need-add-a Inv-loop μ-loop
-add-a c =
-    let o = c .before .before in
-    let i = o .before .before .before .loop .inv in
-    omega (arith, fits (o .before), words-few (i .1), i .0 .step)
+plus-requires : tie.Need-plus-requires Inv-loop μ-loop
+plus-requires c κs =
+    let p = c .before in
+    let h = p .before .before .before .before in
+    let n = start h .pre .1 .inRange .nodes in (
+      subst FewIn (sym (h .loop .inv .2)) (tally-few (view h) (firstNode (layout h)) (h .loop .c - firstNode (layout h)) (omega (arith, h .loop .inv .1, n))),
+      subst FewIn (sym (c .part .ensures)) (tally-few (view h) (h .loop .c) (p .portion .result) (omega (arith, h .loop .inv .0, inside p, n))),
+    )
 
-add-i : tie.Need-add-i Inv-loop μ-loop
-add-i c = omega arith
+add-c : tie.Need-add-c Inv-loop μ-loop
+add-c c =
+    let p = c .before .before in
+    let r = start (p .before .before .before .before) .pre .1 .inRange in
+    omega (arith, inside p, r .lists, r .nodes)
 
 loop-less : tie.Need-loop-less Inv-loop μ-loop
-loop-less c = omega arith
+loop-less c = let p = c .before .before in omega (arith, inside p, p .portion .ensures .0)
 
 loop-again : tie.Need-loop-again Inv-loop μ-loop
 loop-again c =
-    let o = c .before in
-    let h = o .before .before .before .before in
-    let l = layout h in
-    let i = h .loop .i in
-    let e : firstNode l + i + 1 ≡ firstNode l + (i + 1) = omega arith in (
-      h .loop .inv .0,
-      h .loop .inv .1,
-      omega (arith, h .loop .inv .0 .step, h .loop .inv .2, next-place l (firstNode l + i) (omega arith), ap (cellAt l) e),
-      subst (Tallying l (view h) (i + 1)) (sym (o .with .ensures ∙ ap (tallied (h .loop .t)) (read (o .before))))
-          (tallying-next l (view h) i (h .loop .t) (h .loop .inv .3) (o .before .before .if1 .taken)),
+    let p = c .before .before in
+    let h = p .before .before .before .before in (
+      omega (arith, h .loop .inv .0),
+      inside p,
+      c .plus .ensures
+          ∙ ap₂ bothTallies (h .loop .inv .2) (c .before .part .ensures)
+          ∙ sym (tally-plus (view h) (firstNode (layout h)) (h .loop .c) (p .portion .result) (h .loop .inv .0)),
     )
 
 returns : tie.Need-returns Inv-loop μ-loop
 returns c =
     let h = c .before .before in
-    tallying-done (layout h) (view h) (h .loop .i) (h .loop .t) (h .loop .inv .3) (omega arith)
+    let l = layout h in
+    let e : h .loop .c - firstNode l ≡ l .nodes = omega (arith, c .if1 .left, start h .pre .0 .to, h .loop .inv .1) in
+    h .loop .inv .2 ∙ ap (tallyOf (view h) (firstNode l)) e
 
 pub tally-spec : {M : Type 1} → statement M
 tally-spec =
@@ -102,11 +100,13 @@ tally-spec =
     (tie.spec
     Inv-loop
     μ-loop
+    none-requires
     loop-holds
-    word-requires
-    with-requires
-    add-a
-    add-i
+    sub-portion
+    portion-requires
+    part-requires
+    plus-requires
+    add-c
     loop-less
     loop-again
     returns)

@@ -2,7 +2,7 @@
 
 use model::listing::{listing, MOST_BYTES};
 use model::random::Random;
-use model::samples::{carriers, deal, wear, with_worn};
+use model::samples::{carriers, deal, remain, wear, with_worn};
 use model::store::{delete, insert, store_of, Shape, IDENTIFIER};
 use std::io::Write;
 use std::process::{Command, ExitCode, Stdio};
@@ -52,7 +52,7 @@ fn inputs() -> Vec<(String, Vec<u8>)> {
             add(&format!("C3, word {at} is {value}"), bytes(&words));
         }
     }
-    for allowance in 0..5 {
+    for allowance in 0..6 {
         let mut words = c3.clone();
         delete(&mut words, 0, 0, allowance);
         add(&format!("C3, a delete cut after {allowance}"), bytes(&words));
@@ -64,6 +64,7 @@ fn inputs() -> Vec<(String, Vec<u8>)> {
         let words = store_of(shape, &dealt, || random.pick(&[0, 9, 10, 99, 100, 999, 1000, 9999, 10_000, 65_535, 42_400]));
         let words = wear(&mut random, words, turn % 2);
         add(&format!("random store {turn}"), bytes(&words));
+        add(&format!("random store {turn}, an older one"), bytes(&remain(&mut random, words.clone())));
         add(&format!("random store {turn}, none free"), bytes(&with_worn(words.clone(), &carriers(&words, 0))));
     }
     let largest = Shape::new(8, 2000, 13);

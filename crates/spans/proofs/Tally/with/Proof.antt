@@ -43,7 +43,7 @@ returns c =
     let o = c .before in
     let f = o .before .before .before in
     let t = f .before .before .args .self in
-    λ i. record { free = t .free + free f i; used = t .used + used o i }
+    λ i. record { free = t .free + free f i; used = t .used + used o i; unwiped = t .unwiped }
 
 pub with-spec : {M : Type 1} → statement M
 with-spec =

@@ -52,14 +52,14 @@ impl Edit {
         match self {
             Insertion { record, .. } => record.len() as u16 + 6,
             Insertions { size, .. } => (size / shape.width * (shape.width + 6)) as u16,
-            Deletion { .. } => 4,
+            Deletion { .. } => shape.width as u16 + 4,
         }
     }
 
     /// The stores that count as made if it is cut after so many.
     pub fn due(&self, shape: Shape, allowance: u16) -> u16 {
         match self {
-            Deletion { .. } => due_of_delete(allowance),
+            Deletion { .. } => due_of_delete(shape.width, allowance),
             _ => due_of_insert(shape.width, allowance),
         }
     }
@@ -143,9 +143,9 @@ pub fn marked_store(s: &mut Script) {
     for position in 0..2 {
         s.cut(shape, &Deletion { list: 0, position });
     }
-    s.add(Deletion { list: 0, position: 0 }.with(4));
+    s.add(Deletion { list: 0, position: 0 }.with(5));
     s.ask(0, 0);
-    s.add(Deletion { list: 0, position: 0 }.with(4));
+    s.add(Deletion { list: 0, position: 0 }.with(5));
     s.ask(0, 0);
 }
 
@@ -218,8 +218,8 @@ pub fn small_stores(s: &mut Script) {
     }
 }
 
-/// Every width, and in it every allowance: into an empty list, at the front, inside and at the end; of the only member, the
-/// first, one inside and the last. The lists' cells are interleaved.
+/// Every width, and in it every allowance: into an empty list, at the front, inside and at the end; by turns of the only member, the
+/// first, one inside and the last, at the ends of the range of all four. The lists' cells are interleaved.
 pub fn cuts(s: &mut Script) {
     for width in 1..=13 {
         let shape = Shape::new(3 + width % 6, s.random.between(8, 14), width);
@@ -242,11 +242,14 @@ pub fn cuts(s: &mut Script) {
             let insertion = s.insertion(shape, list, position, start);
             s.cut(shape, &insertion);
         }
-        for (list, position) in [(single, 0), (several, 0), (several, 1), (several, 3)] {
-            s.cut(shape, &Deletion { list, position });
+        let deletions = [(single, 0), (several, 0), (several, 1), (several, 3)];
+        for (i, (list, position)) in deletions.into_iter().enumerate() {
+            if i == width % 4 || [1, 13].contains(&width) {
+                s.cut(shape, &Deletion { list, position });
+            }
         }
     }
-    for _ in 0..24 {
+    for _ in 0..12 {
         let shape = Shape::new(s.random.between(1, 8), s.random.between(1, 20), s.random.between(1, 13));
         let used = s.random.between(0, shape.nodes);
         let lists = s.deal(shape, used);
@@ -532,7 +535,7 @@ pub fn largest(s: &mut Script) {
         let lists = store::lists(&s.words, shape).expect("a sound store");
         let list = s.random.below(8);
         let position = s.random.below(lists[list].len());
-        s.add(Deletion { list, position }.with(4));
+        s.add(Deletion { list, position }.with(17));
         let cell = lists[list][position];
         let next = if cell == 2007 { 8 } else { cell + 1 };
         let other = s.random.below(8);

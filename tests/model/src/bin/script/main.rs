@@ -3,6 +3,7 @@
 mod edits;
 mod recoveries;
 mod several;
+mod wiped;
 mod worn;
 
 use model::random::Random;
@@ -22,7 +23,10 @@ struct Script {
 impl Script {
     fn add(&mut self, operation: Operation) {
         self.bytes.extend(operation.words().iter().flat_map(|w| w.to_le_bytes()));
-        operation.run(&mut self.words);
+        // courses leave the store as it is
+        if !matches!(operation, AllCourses(_)) {
+            operation.run(&mut self.words);
+        }
     }
 
     /// Brings the store to these words. Only what differs is written, near differences in one entry.
@@ -498,7 +502,7 @@ fn several_reasons(s: &mut Script) {
 
 /// Sound stores with some words of headers and nodes altered to values that may well stand there.
 fn random_damage(s: &mut Script) {
-    for turn in 0..1300 {
+    for turn in 0..800 {
         let shape = Shape::new(s.random.between(1, 3), s.random.between(1, if turn % 10 == 0 { 9 } else { 5 }), 1);
         let used = s.random.between(0, shape.nodes);
         let dealt = s.deal(shape, used);
@@ -624,6 +628,12 @@ fn main() -> std::io::Result<()> {
         several::several_reasons,
         several::courses,
         several::largest,
+        wiped::older_small_stores,
+        wiped::single_words,
+        wiped::deletes,
+        wiped::former_courses,
+        wiped::every_course,
+        wiped::largest,
     ] {
         part(&mut script);
     }

@@ -269,15 +269,19 @@ pub fn many_stores(s: &mut Script) {
     }
 }
 
-/// One insert or delete on the sound store that is there, with an allowance; at most one word altered in each list that it
-/// does not name; recover calls with small allowances, and one with enough. It must end as `Course` says.
+/// One insert or delete on the sound store that is there, with an allowance, and what follows.
 pub fn course(s: &mut Script, shape: Shape, edit: &Edit, allowance: u16, most: usize) {
     let sound = s.words.clone();
-    let lists = store::lists(&sound, shape).expect("a sound store");
-    let named = edit.list();
     let mut new = sound.clone();
     edit.with(edit.due(shape, allowance)).run(&mut new);
     s.add(edit.with(allowance));
+    finish(s, shape, &sound, edit.list(), &new, most);
+}
+
+/// After an insert or delete on an ordered store: at most one word altered in each list that it does not name; recover calls with small
+/// allowances, and one with enough. It must end as `Course` says. `new` are the words with the stores that count as made.
+pub fn finish(s: &mut Script, shape: Shape, old: &[u16], named: usize, new: &[u16], most: usize) {
+    let lists = store::ordered(old, shape).expect("an ordered store");
     let mut found = s.words.clone();
     for (list, sequence) in lists.iter().enumerate().filter(|&(list, _)| list != named) {
         if s.random.below(6) > 0 {
@@ -287,7 +291,7 @@ pub fn course(s: &mut Script, shape: Shape, edit: &Edit, allowance: u16, most: u
         }
     }
     s.load(&found);
-    let mut course = Course::new(&sound, named as u16, &new, &found);
+    let mut course = Course::new(old, named as u16, new, &found);
     for _ in 0..s.random.between(0, most) {
         let allowance = s.random.pick(&[0, 1, 1, 2, 3, 5]);
         let answer = s.recover(allowance);
@@ -298,7 +302,6 @@ pub fn course(s: &mut Script, shape: Shape, edit: &Edit, allowance: u16, most: u
     course.recovered(answer, ENOUGH);
     course.ended(&s.words);
     s.add(Check);
-    assert_eq!(store::check(&s.words), 0);
 }
 
 /// Courses: each call cut after every number of its stores, the next on what the last left; and a call that names no list.
@@ -348,7 +351,7 @@ fn every_course(s: &mut Script, shape: Shape, lists: &[Vec<usize>], starts: &[us
 }
 
 /// No word of a small store.
-const NOWHERE: (usize, u16) = (65_535, 0);
+pub const NOWHERE: (usize, u16) = (65_535, 0);
 
 /// All courses of all calls on small stores: on all sound stores of one and of two lists over two nodes; on some of two and three
 /// lists over three nodes, with alterations in both other lists.

@@ -8,7 +8,7 @@ use model::store::{self, store_of, Answer, Shape, IDENTIFIER, WORN};
 
 impl Script {
     /// Marks the cell, and puts the store back.
-    fn mark(&mut self, cell: usize) {
+    pub fn mark(&mut self, cell: usize) {
         let words = self.words.clone();
         self.add(MarkWorn { cell: cell as u16 });
         self.load(&words);
@@ -57,7 +57,7 @@ pub fn marked_store(s: &mut Script) {
     }
     s.insert_from(shape, 0, 0, 2);
     let words = s.words.clone();
-    for allowance in 0..=4 {
+    for allowance in 0..=5 {
         s.add(Deletion { list: 0, position: 0 }.with(allowance));
         let cut = s.words.clone();
         s.recover_at_each(&cut);

@@ -1,0 +1,1 @@
+// No function: what is so of records that are wiped.
