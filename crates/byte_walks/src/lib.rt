@@ -7,12 +7,12 @@ use spans::Round;
 use spans::Span;
 use spans::Tally;
 ghost use mathlib.Core.Path.{_≡_};
-ghost use Prim.Native.Nat.{_+_, _≤_, _<_};
+ghost use Prim.Native.Nat.{_+_, _*_, _≤_, _<_};
 ghost use lib.ListN.{length, getD};
 ghost use Rattle.byte_form.specs.Bytes.{wordsIn};
 ghost use Rattle.layout.specs.Words.{mostWidth, Laid, Node, firstNode, cellCount, linkWords, identOf, isFree};
-ghost use Rattle.lists.specs.Decide.{blankFrom, viewOf, countIn, cellsWith, unwiped, soundOf};
-ghost use Rattle.spans.specs.Spans.{Gridded, tallyOf, identsOf, Decides, Held, countSum, cellOf, cellIn, wholeSpan, Spanned, Led, rounded};
+ghost use Rattle.lists.specs.Decide.{blankFrom, viewOf, countIn, cellsWith, soundOf};
+ghost use Rattle.spans.specs.Spans.{Gridded, FewIn, tallied, tallyOf, Decides, Held, countSum, cellOf, cellIn, wholeSpan, Spanned, Led, rounded};
 
 // The cell that the word at a names.
 fn link(bytes: &[u8], a: usize) -> usize
@@ -180,8 +180,24 @@ pub fn two_hold(bytes: &[u8], l: Layout, g: Grid, k: u16, j: u16) -> bool
     both_spanned(bytes, l, g, k, s, j, t)
 }
 
+// Two words from a on, as one number.
+fn two(bytes: &[u8], a: usize) -> u32
+    requires { ⌜ a + 2 ≤ length (wordsIn (now bytes)) ⌝ }
+    ensures { λ r. ⌜ r ≡ getD (wordsIn (now (bytes .entry))) a 0 + 65536 * getD (wordsIn (now (bytes .entry))) (a + 1) 0 ⌝ }
+{
+    byte_form::word(bytes, a) as u32 + 65536 * (byte_form::word(bytes, a + 1) as u32)
+}
+
+// Are the four words from a on all 0?
+fn four_blank(bytes: &[u8], a: usize) -> bool
+    requires { ⌜ a + 4 ≤ length (wordsIn (now bytes)) ⌝ }
+    ensures { λ r. ⌜ r ≡ blankFrom (wordsIn (now (bytes .entry))) a 4 ⌝ }
+{
+    two(bytes, a) as u64 + two(bytes, a + 2) as u64 == 0
+}
+
 // Are the n words from a on all 0? They are added up, and the sum is asked once.
-pub fn blank(bytes: &[u8], a: usize, n: u16) -> bool
+fn few_blank(bytes: &[u8], a: usize, n: u16) -> bool
     requires { ⌜ (n ≤ mostWidth) × (a + n ≤ length (wordsIn (now bytes))) ⌝ }
     ensures { λ r. ⌜ r ≡ blankFrom (wordsIn (now (bytes .entry))) a n ⌝ }
 {
@@ -194,26 +210,23 @@ pub fn blank(bytes: &[u8], a: usize, n: u16) -> bool
     sum == 0
 }
 
-// Is the record of node y blank?
-fn is_blank(bytes: &[u8], l: Layout, g: Grid, y: usize) -> bool
-    requires { ⌜ Gridded l g × Laid l (wordsIn (now bytes)) × Node l y ⌝ }
-    ensures { λ r. ⌜ r ≡ viewOf l (wordsIn (now (bytes .entry))) .blank y ⌝ }
+// The same, four words at a time; the last four may begin among those already asked.
+pub fn blank(bytes: &[u8], a: usize, n: u16) -> bool
+    requires { ⌜ (n ≤ mostWidth) × (a + n ≤ length (wordsIn (now bytes))) ⌝ }
+    ensures { λ r. ⌜ r ≡ blankFrom (wordsIn (now (bytes .entry))) a n ⌝ }
 {
-    blank(bytes, g.place(l, y) + Layout::LINK_WORDS, g.tail(l))
-}
-
-// The n nodes from cell c on, tallied by their identifiers: no record is read.
-fn by_idents(bytes: &[u8], l: Layout, g: Grid, c: usize, n: usize) -> Tally
-    requires { ⌜ Gridded l g × Laid l (wordsIn (now bytes)) × (firstNode l ≤ c) × (c + n ≤ cellCount l) ⌝ }
-    ensures { λ r. ⌜ r ≡ identsOf (viewOf l (wordsIn (now (bytes .entry)))) c n ⌝ }
-{
-    let mut t = Tally::none();
-    let mut j: usize = 0;
-    while j < n {
-        t = t.with(node(bytes, l, g, c + j).ident);
-        j += 1;
+    if n < 4 {
+        return few_blank(bytes, a, n);
     }
-    t
+    let last = n - 4;
+    let mut i: u16 = 0;
+    while i < last {
+        if !four_blank(bytes, a + i as usize) {
+            return false;
+        }
+        i += 4;
+    }
+    four_blank(bytes, a + last as usize)
 }
 
 // How many nodes are free.
@@ -221,54 +234,42 @@ pub fn free_nodes(bytes: &[u8], l: Layout, g: Grid) -> u32
     requires { ⌜ Gridded l g × Laid l (wordsIn (now bytes)) ⌝ }
     ensures { λ r. ⌜ r ≡ length (cellsWith isFree (viewOf l (wordsIn (now (bytes .entry)))) (firstNode l) (l .nodes)) ⌝ }
 {
-    by_idents(bytes, l, g, g.from, l.nodes as usize).free
+    let mut a = g.first;
+    let mut free: u32 = 0;
+    let mut i: u16 = 0;
+    while i < l.nodes {
+        free += spans::one(Layout::is_free(byte_form::word(bytes, a)));
+        a += g.step;
+        i += 1;
+    }
+    free
 }
 
-// How many of the n nodes from cell c on are free and have a record that is not blank.
-fn unwiped(bytes: &[u8], l: Layout, g: Grid, c: usize, n: usize) -> u32
-    requires { ⌜ Gridded l g × Laid l (wordsIn (now bytes)) × (firstNode l ≤ c) × (c + n ≤ cellCount l) ⌝ }
-    ensures { λ r. ⌜ r ≡ length (unwiped (viewOf l (wordsIn (now (bytes .entry)))) c n) ⌝ }
+// The tally with one node more, whose words begin at a, n of them behind its links. Only a free node's record is read.
+fn with_node(bytes: &[u8], a: usize, n: u16, t: Tally) -> Tally
+    requires { ⌜ (n ≤ mostWidth) × (a + linkWords + n ≤ length (wordsIn (now bytes))) × FewIn t ⌝ }
+    ensures { λ r. ⌜ r ≡ tallied t (getD (wordsIn (now (bytes .entry))) a 0) (blankFrom (wordsIn (now (bytes .entry))) (a + linkWords) n) ⌝ }
 {
-    let mut found: u32 = 0;
-    let mut j: usize = 0;
-    while j < n {
-        let y = c + j;
-        let ident = node(bytes, l, g, y).ident;
-        if Layout::is_free(ident) {
-            found += spans::one(!is_blank(bytes, l, g, y));
-        }
-        j += 1;
+    let ident = byte_form::word(bytes, a);
+    if Layout::is_free(ident) {
+        return t.with_free(blank(bytes, a + Layout::LINK_WORDS, n));
     }
-    found
+    t.with_other(ident)
 }
 
-// Their tally: where none of them is free, their records are not asked.
-fn part(bytes: &[u8], l: Layout, g: Grid, c: usize, n: usize) -> Tally
-    requires { ⌜ Gridded l g × Laid l (wordsIn (now bytes)) × (firstNode l ≤ c) × (c + n ≤ cellCount l) ⌝ }
-    ensures { λ r. ⌜ r ≡ tallyOf (viewOf l (wordsIn (now (bytes .entry)))) c n ⌝ }
-{
-    let t = by_idents(bytes, l, g, c, n);
-    if t.free == 0 {
-        return t;
-    }
-    Tally {
-        free: t.free,
-        used: t.used,
-        unwiped: unwiped(bytes, l, g, c, n),
-    }
-}
-
-// How many nodes are free, how many are in use, and how many of the free ones have a record that is not blank.
+// How many nodes are in use, and how many are free and have a record that is not blank.
 pub fn tally(bytes: &[u8], l: Layout, g: Grid) -> Tally
     requires { ⌜ Gridded l g × Laid l (wordsIn (now bytes)) ⌝ }
     ensures { λ r. ⌜ r ≡ tallyOf (viewOf l (wordsIn (now (bytes .entry)))) (firstNode l) (l .nodes) ⌝ }
 {
+    let tail = g.tail(l);
+    let mut a = g.first;
     let mut t = Tally::none();
-    let mut c = g.from;
-    while c < g.to {
-        let n = Tally::portion(g.to - c);
-        t = t.plus(part(bytes, l, g, c, n));
-        c += n;
+    let mut i: u16 = 0;
+    while i < l.nodes {
+        t = with_node(bytes, a, tail, t);
+        a += g.step;
+        i += 1;
     }
     t
 }

@@ -19,7 +19,7 @@ use Rattle.lists.specs.Lists.{Agrees, Blank, blankAsked}
 use Rattle.lists.specs.Decide.{View, viewOf, blankFrom, unwiped}
 
 -- words that are tested blank are 0, one by one, and the other way round
-from-words : (w : List ℕ) (a n : ℕ) → blankFrom w a n ≡ true → (f : ℕ) → f < n → getD w (a + f) 0 ≡ 0
+pub from-words : (w : List ℕ) (a n : ℕ) → blankFrom w a n ≡ true → (f : ℕ) → f < n → getD w (a + f) 0 ≡ 0
 unfolding blankFrom
 from-words w a zero e f h = absurd (omega arith)
 from-words w a (suc n) e zero h = ap (λ (b : ℕ). getD w b 0) (add-zero a) ∙ eqb-true _ 0 (and-eq-true-iff _ _ .0 e .0)

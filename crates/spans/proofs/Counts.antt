@@ -1,8 +1,8 @@
 -- Nodes counted one by one, by their identifiers and records, and the sum of the counts in place of the number of members.
 use Prim.Native.Nat.{ℕ, zero, suc, _+_, _-_, _≤_, _<_}
-use mathlib.Core.Path.{_≡_, refl, ap, _∙_, sym}
+use mathlib.Core.Path.{_≡_, refl, ap, ap₂, _∙_, sym}
 use mathlib.Core.List.{List, [], _∷_}
-use mathlib.Core.Bool.{Bool, true, false, cond, not, _&&_, and-eq-true-iff, true≢false}
+use mathlib.Core.Bool.{Bool, true, false, cond, not, _&&_, _||_, and-eq-true-iff, true≢false}
 use native.Mathlib.Omega.{arith}
 use native.Mathlib.Numerals.{add-one}
 use lib.ListN.{length, length-append}
@@ -11,11 +11,12 @@ use Rattle.sequences.specs.Sequence.{range, filter}
 use Rattle.sequences.proofs.Range.{length-range, range-append}
 use Rattle.sequences.proofs.Filter.{filter-append, filter-length}
 use Rattle.layout.specs.declared.Layout.{Layout}
-use Rattle.layout.specs.Words.{mostNodes, firstNode, isFree, inUse}
+use Rattle.layout.specs.Words.{mostNodes, firstNode, isFree, isWorn, inUse}
 use Rattle.lists.specs.Decide.{View, sequenceIn, holds, allHold, members, cellsWith, used, unwiped, soundIn}
 use Rattle.lists.proofs.Agree.{holds-true}
 use Rattle.lists.proofs.Stepwise.{all-hold-more, sound-by, sound-hold, sound-number, sound-blank}
-use Rattle.spans.specs.Spans.{tallyOf, identsOf, noTally, tallied, bothTallies, FewIn, Held, countSum, Decides}
+use Rattle.spans.specs.declared.Tally.{Tally}
+use Rattle.spans.specs.Spans.{tallyOf, noTally, withFree, withOther, tallied, FewIn, Held, countSum, Decides}
 
 -- how many of the n cells from a on pass a test
 abbrev passing : (ℕ → Bool) → ℕ → ℕ → ℕ
@@ -42,19 +43,6 @@ passing-append test a m n =
 passing-more : (test : ℕ → Bool) (a n : ℕ) → passing test a (n + 1) ≡ passing test a n + cond (test (a + n)) 1 0
 passing-more test a n = passing-append test a n 1 ∙ ap (λ (m : ℕ). passing test a n + m) (passing-one test (a + n))
 
--- two tests are passed by no more cells than one
-passing-both : (p q : ℕ → Bool) (a n : ℕ) → passing (λ c. p c && q c) a n ≤ passing p a n
-unfolding range filter
-passing-both p q a zero = omega arith
-passing-both p q a (suc n) = by (p a) (q a) (passing-both p q (suc a) n)
-  where
-    by : (x y : Bool) → passing (λ c. p c && q c) (suc a) n ≤ passing p (suc a) n
-        → length (cond (x && y) (a ∷ filter (λ c. p c && q c) (range (suc a) n)) (filter (λ c. p c && q c) (range (suc a) n)))
-        ≤ length (cond x (a ∷ filter p (range (suc a) n)) (filter p (range (suc a) n)))
-    by true true h = omega arith
-    by true false h = omega arith
-    by false y h = omega arith
-
 pub one-small : (b : Bool) → cond b 1 0 ≤ 1
 one-small true = omega arith
 one-small false = omega arith
@@ -69,62 +57,54 @@ usedIn v c = inUse (v .ident c)
 abbrev unwipedIn : View → ℕ → Bool
 unwipedIn v c = isFree (v .ident c) && not (v .blank c)
 
+-- one cell more, which has the identifier x and whose record b says to be blank, in both numbers of a tally
+abbrev numbers : ℕ → ℕ → Tally
+numbers m n = record { used = m; unwiped = n }
+
+more-tallied : (t : Tally) (x : ℕ) (b : Bool)
+    → numbers (t .used + cond (inUse x) 1 0) (t .unwiped + cond (isFree x && not b) 1 0) ≡ tallied t x b
+more-tallied t x b = by (isFree x) refl
+  where
+    none : (n : ℕ) (d : Bool) → d ≡ false → n + cond d 1 0 ≡ n
+    none n true e = absurd (true≢false e)
+    none n false e = omega arith
+
+    by : (d : Bool) → isFree x ≡ d
+        → numbers (t .used + cond (inUse x) 1 0) (t .unwiped + cond (d && not b) 1 0) ≡ elim d [ true ↦ withFree t b | false ↦ withOther t x ]
+    by true e = ap (λ (m : ℕ). numbers m (t .unwiped + cond (not b) 1 0)) (none (t .used) (inUse x) (ap (λ (y : Bool). not (y || isWorn x)) e))
+    by false e = ap (numbers (t .used + cond (inUse x) 1 0)) (none (t .unwiped) false refl)
+
+-- what is tallied of a free node, and of another
+pub tallied-free : (t : Tally) (x : ℕ) (b : Bool) → isFree x ≡ true → withFree t b ≡ tallied t x b
+tallied-free t x b e = sym (ap (λ (d : Bool). elim d [ true ↦ withFree t b | false ↦ withOther t x ]) e)
+
+pub tallied-other : (t : Tally) (x : ℕ) (b : Bool) → isFree x ≡ false → withOther t x ≡ tallied t x b
+tallied-other t x b e = sym (ap (λ (d : Bool). elim d [ true ↦ withFree t b | false ↦ withOther t x ]) e)
+
 module _ (v : View) (a : ℕ) where
-  -- no cell, and one more, by the identifiers
-  pub idents-none : noTally ≡ identsOf v a 0
-  unfolding range filter
-  idents-none = refl
-
-  pub idents-more : (n : ℕ) → identsOf v a (n + 1) ≡ tallied (identsOf v a n) (v .ident (a + n))
-  idents-more n = λ i. record { free = passing-more (freeIn v) a n i; used = passing-more (usedIn v) a n i; unwiped = 0 }
-
-  -- none is free: that is all there is to tell
-  pub idents-all : (n : ℕ) → length (cellsWith isFree v a n) ≡ 0 → identsOf v a n ≡ tallyOf v a n
-  idents-all n e =
-      let z : 0 ≡ length (unwiped v a n) = omega (arith, e, passing-both (freeIn v) (λ c. not (v .blank c)) a n) in
-      λ i. record { free = length (cellsWith isFree v a n); used = length (used v a n); unwiped = z i }
-
-  -- one cell more that is free, and whose record is blank if b says so; or one that is not free
-  unwiped-more : (n : ℕ) (b : Bool) → unwipedIn v (a + n) ≡ b → length (unwiped v a (n + 1)) ≡ length (unwiped v a n) + cond b 1 0
-  unwiped-more n b e = passing-more (unwipedIn v) a n ∙ ap (λ (d : Bool). length (unwiped v a n) + cond d 1 0) e
-
-  pub unwiped-none : 0 ≡ length (unwiped v a 0)
-  unfolding range filter
-  unwiped-none = refl
-
-  pub unwiped-free : (n : ℕ) (b : Bool) → isFree (v .ident (a + n)) ≡ true → b ≡ v .blank (a + n)
-      → length (unwiped v a (n + 1)) ≡ length (unwiped v a n) + cond (not b) 1 0
-  unwiped-free n b e q = unwiped-more n (not b) (rw (e, q))
-
-  pub unwiped-other : (n : ℕ) → isFree (v .ident (a + n)) ≡ false → length (unwiped v a (n + 1)) ≡ length (unwiped v a n)
-  unwiped-other n e = omega (arith, unwiped-more n false (rw e))
-
-  -- the cells before c, and n from there on
+  -- no cell, one more, and no more than there are cells
   pub tally-none : noTally ≡ tallyOf v a 0
   unfolding range filter
   tally-none = refl
 
-  pub tally-plus : (c n : ℕ) → a ≤ c → tallyOf v a (c + n - a) ≡ bothTallies (tallyOf v a (c - a)) (tallyOf v c n)
-  tally-plus c n h =
-      let m = c - a in
-      let e : c + n - a ≡ m + n = omega arith in
-      let d : a + m ≡ c = omega arith in
-      ap (tallyOf v a) e
-      ∙ (λ i. record {
-        free = passing-append (freeIn v) a m n i;
-        used = passing-append (usedIn v) a m n i;
-        unwiped = passing-append (unwipedIn v) a m n i;
-      })
-      ∙ ap (λ (b : ℕ). bothTallies (tallyOf v a m) (tallyOf v b n)) d
+  pub tally-more : (n : ℕ) → tallied (tallyOf v a n) (v .ident (a + n)) (v .blank (a + n)) ≡ tallyOf v a (n + 1)
+  tally-more n =
+      sym (more-tallied (tallyOf v a n) (v .ident (a + n)) (v .blank (a + n)))
+      ∙ sym (ap₂ numbers (passing-more (usedIn v) a n) (passing-more (unwipedIn v) a n))
 
-  -- no more than there are cells
   pub tally-few : (n : ℕ) → n ≤ mostNodes → FewIn (tallyOf v a n)
-  tally-few n h =
-      record {
-        free = omega (arith, passing-few (freeIn v) a n);
-        used = omega (arith, passing-few (usedIn v) a n);
-        unwiped = omega (arith, passing-few (unwipedIn v) a n);
-      }
+  tally-few n h = record { used = omega (arith, passing-few (usedIn v) a n); unwiped = omega (arith, passing-few (unwipedIn v) a n) }
+
+  -- so of the free cells alone
+  pub free-none : 0 ≡ length (cellsWith isFree v a 0)
+  unfolding range filter
+  free-none = refl
+
+  pub free-more : (n : ℕ) → length (cellsWith isFree v a (n + 1)) ≡ length (cellsWith isFree v a n) + cond (isFree (v .ident (a + n))) 1 0
+  free-more n = passing-more (freeIn v) a n
+
+  pub free-few : (n : ℕ) → length (cellsWith isFree v a n) ≤ n
+  free-few n = passing-few (freeIn v) a n
 
 -- the sum of no counts, and of one count more
 pub sum-none : (count : ℕ → ℕ) → 0 ≡ countSum count 0

@@ -1,9 +1,9 @@
--- Where the words of nodes stand: computed by a product.
-use Prim.Native.Nat.{ℕ, _+_, _*_, _-_, _≤_, _<_}
+-- Where the words of nodes stand: computed by a product, or one after another.
+use Prim.Native.Nat.{ℕ, suc, _+_, _*_, _-_, _≤_, _<_}
 use mathlib.Core.Path.{_≡_, ap}
 use mathlib.Core.List.{List}
 use native.Mathlib.Omega.{arith}
-use native.Mathlib.Nat.{mul-le-mul, mul-le-mul-left, mul-add}
+use native.Mathlib.Nat.{mul-le-mul, mul-le-mul-left, mul-add, mul-suc}
 use lib.ListN.{length}
 use Rattle.layout.specs.declared.Layout.{Layout}
 use Rattle.layout.specs.Words.{mostWidth, mostCells, headerWords, linkWords, firstNode, cellCount, Node, tailWords, nodeWords, nodesAt, headerAt, nodeAt, cellAt, recordAt, InRange, Laid}
@@ -26,6 +26,25 @@ module _ (l : Layout) where
   pub place-at : (y : ℕ) → firstNode l ≤ y → nodeWords l * y + nodesAt l - nodeWords l * firstNode l ≡ cellAt l y
   unfolding nodeAt
   place-at y h = omega (arith, product-parts y h, cell-node l y h)
+
+  -- the first node, and the next
+  pub first-place : cellAt l (firstNode l) ≡ nodesAt l
+  unfolding nodeAt
+  first-place =
+      let z : firstNode l - firstNode l ≡ 0 = omega arith in
+      omega (arith, cell-node l (firstNode l) (omega arith), ap (λ (n : ℕ). nodeWords l * n) z)
+
+  pub next-place : (y : ℕ) → firstNode l ≤ y → cellAt l (y + 1) ≡ cellAt l y + nodeWords l
+  unfolding nodeAt
+  next-place y h =
+      let e : y + 1 - firstNode l ≡ suc (y - firstNode l) = omega arith in
+      omega (
+        arith,
+        cell-node l y h,
+        cell-node l (y + 1) (omega arith),
+        ap (λ (n : ℕ). nodeWords l * n) e,
+        mul-suc (nodeWords l) (y - firstNode l),
+      )
 
 -- the words of a cell stand within the store, whose words are few
 module _ {l : Layout} {w : List ℕ} (h : Laid l w) where

@@ -1,13 +1,15 @@
--- Words added up: all of them are 0 exactly if their sum is.
-use Prim.Native.Nat.{ℕ, suc, _+_, _*_, _-_, _≤_, _<_}
+-- Words that are all 0: told by their sum, or four at a time.
+use Prim.Native.Nat.{ℕ, zero, suc, _+_, _*_, _-_, _≤_, _<_}
 use mathlib.Core.Path.{_≡_, refl, ap, _∙_, sym}
 use mathlib.Core.List.{List}
-use mathlib.Core.Bool.{Bool, true, false, _&&_, and-true, and-assoc}
+use mathlib.Core.Bool.{Bool, true, false, _&&_, and-true, and-assoc, true≢false}
 use native.Mathlib.Omega.{arith}
+use native.Mathlib.Decide.{decLt}
 use lib.Dec.{eqb}
 use lib.ListN.{getD}
-use borrow.Author.Tests.{ne-eqb, eqb-true, eqb-false}
+use borrow.Author.Tests.{eq-eqb, ne-eqb, eqb-true, eqb-false}
 use Rattle.lists.specs.Decide.{blankFrom}
+use Rattle.lists.proofs.Blank.{from-words, words-from}
 
 -- a sum is 0 exactly if both its parts are
 sum-zero : (s x : ℕ) → eqb (s + x) 0 ≡ (eqb s 0 && eqb x 0)
@@ -54,3 +56,65 @@ module _ (w : List ℕ) (a n : ℕ) where
   adding-done i s c h =
       let z : n - i ≡ 0 = omega arith in
       sym (and-true (eqb s 0)) ∙ ap (λ (y : ℕ). eqb s 0 && blankFrom w (a + i) y) (sym z) ∙ c .blank
+
+-- two answers are the same if one is yes where the other is
+same-answer : (b d : Bool) → (b ≡ true → d ≡ true) → (d ≡ true → b ≡ true) → b ≡ d
+same-answer true d f g = sym (f refl)
+same-answer false true f g = g refl
+same-answer false false f g = refl
+
+module _ (w : List ℕ) (a : ℕ) where
+  abbrev at : ℕ → ℕ
+  at f = getD w (a + f) 0
+
+  -- four words, as two numbers of two words each
+  pub four-blank : (x y : ℕ) → x ≡ at 0 + 65536 * at 1 → y ≡ at 2 + 65536 * at 3 → eqb (x + y) 0 ≡ blankFrom w a 4
+  four-blank x y e d =
+      same-answer (eqb (x + y) 0) (blankFrom w a 4)
+      (λ z. let q = eqb-true (x + y) 0 z in words-from w a 4 (by q))
+      (λ z.
+      let h = from-words w a 4 z in
+      eq-eqb (x + y) 0 (omega (arith, e, d, h 0 (omega arith), h 1 (omega arith), h 2 (omega arith), h 3 (omega arith))))
+    where
+      by : x + y ≡ 0 → (f : ℕ) → f < 4 → at f ≡ 0
+      by q zero h = omega (arith, e, d, q)
+      by q (suc zero) h = omega (arith, e, d, q)
+      by q (suc (suc zero)) h = omega (arith, e, d, q)
+      by q (suc (suc (suc zero))) h = omega (arith, e, d, q)
+      by q (suc (suc (suc (suc f)))) h = absurd (omega arith)
+
+  -- no word
+  pub blank-none : blankFrom w a 0 ≡ true
+  unfolding blankFrom
+  blank-none = refl
+
+  -- the first i words are 0, and the four from m on
+  both : (i m : ℕ) → blankFrom w a i ≡ true → blankFrom w (a + m) 4 ≡ true → m ≤ i → (f : ℕ) → f < m + 4 → at f ≡ 0
+  both i m e d q f h = by (decLt f i)
+    where
+      by : Dec (f < i) → at f ≡ 0
+      by (yes r) = from-words w a i e f r
+      by (no r) =
+          let s : a + f ≡ a + m + (f - m) = omega arith in
+          ap (λ (b : ℕ). getD w b 0) s ∙ from-words w (a + m) 4 d (f - m) (omega arith)
+
+  pub four-more : (i : ℕ) → blankFrom w a i ≡ true → blankFrom w (a + i) 4 ≡ true → blankFrom w a (i + 4) ≡ true
+  four-more i e d = words-from w a (i + 4) (both i i e d (omega arith))
+
+  -- n words are 0: so are the four from m on
+  four-of : (n m : ℕ) → m + 4 ≤ n → blankFrom w a n ≡ true → blankFrom w (a + m) 4 ≡ true
+  four-of n m h e =
+      words-from w (a + m) 4
+      (λ f g. let s : a + m + f ≡ a + (m + f) = omega arith in ap (λ (b : ℕ). getD w b 0) s ∙ from-words w a n e (m + f) (omega arith))
+
+  -- four of n words are not all 0
+  pub four-not : (n m : ℕ) → m + 4 ≤ n → blankFrom w (a + m) 4 ≡ false → false ≡ blankFrom w a n
+  four-not n m h e =
+      same-answer false (blankFrom w a n) (λ z. absurd (true≢false (sym z))) (λ z. sym e ∙ four-of n m h z)
+
+  -- the first i of n words are 0: the last four tell, if they are all the others
+  pub four-last : (n i m : ℕ) → m + 4 ≡ n → m ≤ i → blankFrom w a i ≡ true → blankFrom w (a + m) 4 ≡ blankFrom w a n
+  four-last n i m s h e =
+      same-answer (blankFrom w (a + m) 4) (blankFrom w a n)
+      (λ d. words-from w a n (λ f g. both i m e d h f (omega arith)))
+      (four-of n m (omega arith))

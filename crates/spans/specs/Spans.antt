@@ -2,12 +2,12 @@
 use Prim.Native.Nat.{ℕ, zero, suc, _+_, _*_, _-_, _≤_}
 use mathlib.Core.Path.{_≡_}
 use mathlib.Core.List.{List}
-use mathlib.Core.Bool.{Bool, true, cond}
+use mathlib.Core.Bool.{Bool, true, false, not, cond}
 use lib.ListN.{length, getD}
 use Rattle.sequences.specs.Sequence.{All, Forward, Backward}
 use Rattle.layout.specs.declared.Layout.{Layout}
 use Rattle.layout.specs.Words.{mostNodes, firstNode, cellCount, isNode, nodeWords, nodesAt, forwardWord, backWord, identOf, isFree, inUse}
-use Rattle.lists.specs.Decide.{View, sequenceIn, holds, cellsWith, used, unwiped}
+use Rattle.lists.specs.Decide.{View, sequenceIn, holds, used, unwiped}
 use Rattle.spans.specs.declared.Grid.{Grid}
 use Rattle.spans.specs.declared.Cell.{Cell}
 use Rattle.spans.specs.declared.Tally.{Tally}
@@ -23,26 +23,26 @@ pub record Gridded (l : Layout) (g : Grid) : Type 0 where
   pub from : g .from ≡ firstNode l
   pub to : g .to ≡ cellCount l
 
--- how many of the n cells from a on are free, how many are in use, and how many are free and have a record; and the same by the identifiers alone
+-- how many of the n cells from a on are in use, and how many are free and have a record
 abbrev pub tallyOf : View → ℕ → ℕ → Tally
-tallyOf v a n = record { free = length (cellsWith isFree v a n); used = length (used v a n); unwiped = length (unwiped v a n) }
+tallyOf v a n = record { used = length (used v a n); unwiped = length (unwiped v a n) }
 
-abbrev pub identsOf : View → ℕ → ℕ → Tally
-identsOf v a n = record { free = length (cellsWith isFree v a n); used = length (used v a n); unwiped = 0 }
-
--- the tally of no node, with one node more, which has the identifier x, and with the nodes of another
+-- the tally of no node; with a free node more, whose record is blank or is not; with one that is not free and has the identifier x
 abbrev pub noTally : Tally
-noTally = record { free = 0; used = 0; unwiped = 0 }
+noTally = record { used = 0; unwiped = 0 }
 
-abbrev pub tallied : Tally → ℕ → Tally
-tallied t x = record { free = t .free + cond (isFree x) 1 0; used = t .used + cond (inUse x) 1 0; unwiped = t .unwiped }
+abbrev pub withFree : Tally → Bool → Tally
+withFree t b = record { used = t .used; unwiped = t .unwiped + cond (not b) 1 0 }
 
-abbrev pub bothTallies : Tally → Tally → Tally
-bothTallies t u = record { free = t .free + u .free; used = t .used + u .used; unwiped = t .unwiped + u .unwiped }
+abbrev pub withOther : Tally → ℕ → Tally
+withOther t x = record { used = t .used + cond (inUse x) 1 0; unwiped = t .unwiped }
+
+-- with any node more, by its identifier and its record
+abbrev pub tallied : Tally → ℕ → Bool → Tally
+tallied t x b = elim (isFree x) [ true ↦ withFree t b | false ↦ withOther t x ]
 
 -- no more nodes than a store has
 pub record FewIn (t : Tally) : Type 0 where
-  pub free : t .free ≤ mostNodes
   pub used : t .used ≤ mostNodes
   pub unwiped : t .unwiped ≤ mostNodes
 

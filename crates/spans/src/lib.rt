@@ -6,8 +6,8 @@ use layout::Layout;
 ghost use mathlib.Core.Path.{_≡_};
 ghost use Prim.Native.Nat.{_<_, _≤_};
 ghost use mathlib.Core.Bool.{cond};
-ghost use Rattle.layout.specs.Words.{mostLists, mostNodes, tailWords, InRange, Node, isNode, cellAt};
-ghost use Rattle.spans.specs.Spans.{Gridded, noTally, tallied, bothTallies, FewIn, wholeSpan, narrowed, Closed, Single, Decides};
+ghost use Rattle.layout.specs.Words.{mostLists, tailWords, InRange, Node, isNode, cellAt};
+ghost use Rattle.spans.specs.Spans.{Gridded, noTally, withFree, withOther, FewIn, wholeSpan, narrowed, Closed, Single, Decides};
 
 // What the address of a node is computed from: node y begins at word first + step * y - low.
 pub struct Grid {
@@ -40,9 +40,8 @@ pub enum Round {
     Broken,
 }
 
-// How many nodes are free, how many are in use, and how many of the free ones have a record that is not blank.
+// How many nodes are in use, and how many are free and have a record that is not blank.
 pub struct Tally {
-    pub free: u32,
     pub used: u32,
     pub unwiped: u32,
 }
@@ -55,55 +54,37 @@ pub fn one(yes: bool) -> u32
 }
 
 impl Tally {
-    // So many nodes are tallied at once: enough for vectors, and few enough that most portions of a full store have no free node.
-    pub const AT_ONCE: usize = 32;
-
-    // The next portion, of the nodes that are left.
-    pub fn portion(left: usize) -> usize
-        requires { ⌜ 0 < left ⌝ }
-        ensures { λ r. ⌜ (0 < r) × (r ≤ left) ⌝ }
-    {
-        if left < Tally::AT_ONCE {
-            left
-        } else {
-            Tally::AT_ONCE
-        }
-    }
-
     // The tally of no node.
     pub fn none() -> Self
         ensures { λ r. ⌜ r ≡ noTally ⌝ }
     {
         Self {
-            free: 0,
             used: 0,
             unwiped: 0,
         }
     }
 
-    // The tally with one node more, which has this identifier. Its record is not asked.
-    pub fn with(self, ident: u16) -> Self
-        requires { ⌜ (self .free ≤ mostNodes) × (self .used ≤ mostNodes) ⌝ }
-        ensures { λ r. ⌜ r ≡ tallied self ident ⌝ }
+    // The tally with one free node more. Is its record blank?
+    pub fn with_free(self, blank: bool) -> Self
+        requires { ⌜ FewIn self ⌝ }
+        ensures { λ r. ⌜ r ≡ withFree self blank ⌝ }
     {
-        let free = self.free + one(Layout::is_free(ident));
-        let used = self.used + one(Layout::in_use(ident));
+        let unwiped = self.unwiped + one(!blank);
         Self {
-            free,
-            used,
-            unwiped: self.unwiped,
+            used: self.used,
+            unwiped,
         }
     }
 
-    // The tally with the nodes of another.
-    pub fn plus(self, other: Tally) -> Self
-        requires { ⌜ FewIn self × FewIn other ⌝ }
-        ensures { λ r. ⌜ r ≡ bothTallies self other ⌝ }
+    // The tally with one node more that is not free, and has this identifier: it is in use or worn.
+    pub fn with_other(self, ident: u16) -> Self
+        requires { ⌜ FewIn self ⌝ }
+        ensures { λ r. ⌜ r ≡ withOther self ident ⌝ }
     {
+        let used = self.used + one(Layout::in_use(ident));
         Self {
-            free: self.free + other.free,
-            used: self.used + other.used,
-            unwiped: self.unwiped + other.unwiped,
+            used,
+            unwiped: self.unwiped,
         }
     }
 }

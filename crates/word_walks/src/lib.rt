@@ -1,7 +1,6 @@
 // The lists of a store, decided in the lent words. The nodes in use are counted in one pass, which fetches the words in order, and
-// compared with the sum of the counts. It goes portion by portion: where one has a free node, the records of its free nodes are read too,
-// and a portion in use is passed over with no branch for each node. Then each list is walked from both ends at once, and two lists in one
-// loop: four chains of links, of which none waits for another.
+// compared with the sum of the counts; the same pass reads the records of the free nodes, four words at a time. Then each list is walked
+// from both ends at once, and two lists in one loop: four chains of links, of which none waits for another.
 use layout::Layout;
 use spans::Cell;
 use spans::Grid;
@@ -9,11 +8,11 @@ use spans::Round;
 use spans::Span;
 use spans::Tally;
 ghost use mathlib.Core.Path.{_≡_};
-ghost use Prim.Native.Nat.{_+_, _≤_, _<_};
+ghost use Prim.Native.Nat.{_+_, _*_, _≤_, _<_};
 ghost use lib.ListN.{length, getD};
 ghost use Rattle.layout.specs.Words.{mostWidth, Laid, Node, firstNode, cellCount, linkWords, identOf, isFree};
-ghost use Rattle.lists.specs.Decide.{blankFrom, viewOf, countIn, cellsWith, unwiped, soundOf};
-ghost use Rattle.spans.specs.Spans.{Gridded, tallyOf, identsOf, Decides, Held, countSum, cellOf, cellIn, wholeSpan, Spanned, Led, rounded};
+ghost use Rattle.lists.specs.Decide.{blankFrom, viewOf, countIn, cellsWith, soundOf};
+ghost use Rattle.spans.specs.Spans.{Gridded, FewIn, tallied, tallyOf, Decides, Held, countSum, cellOf, cellIn, wholeSpan, Spanned, Led, rounded};
 
 // The word at a.
 fn word(words: &[u16], a: usize) -> u16
@@ -197,8 +196,24 @@ pub fn two_hold(words: &[u16], l: Layout, g: Grid, k: u16, j: u16) -> bool
     both_spanned(words, l, g, k, s, j, t)
 }
 
+// Two words from a on, as one number.
+fn two(words: &[u16], a: usize) -> u32
+    requires { ⌜ a + 2 ≤ length (now words) ⌝ }
+    ensures { λ r. ⌜ r ≡ getD (now (words .entry)) a 0 + 65536 * getD (now (words .entry)) (a + 1) 0 ⌝ }
+{
+    word(words, a) as u32 + 65536 * (word(words, a + 1) as u32)
+}
+
+// Are the four words from a on all 0?
+fn four_blank(words: &[u16], a: usize) -> bool
+    requires { ⌜ a + 4 ≤ length (now words) ⌝ }
+    ensures { λ r. ⌜ r ≡ blankFrom (now (words .entry)) a 4 ⌝ }
+{
+    two(words, a) as u64 + two(words, a + 2) as u64 == 0
+}
+
 // Are the n words from a on all 0? They are added up, and the sum is asked once.
-pub fn blank(words: &[u16], a: usize, n: u16) -> bool
+fn few_blank(words: &[u16], a: usize, n: u16) -> bool
     requires { ⌜ (n ≤ mostWidth) × (a + n ≤ length (now words)) ⌝ }
     ensures { λ r. ⌜ r ≡ blankFrom (now (words .entry)) a n ⌝ }
 {
@@ -211,26 +226,23 @@ pub fn blank(words: &[u16], a: usize, n: u16) -> bool
     sum == 0
 }
 
-// Is the record of node y blank?
-fn is_blank(words: &[u16], l: Layout, g: Grid, y: usize) -> bool
-    requires { ⌜ Gridded l g × Laid l (now words) × Node l y ⌝ }
-    ensures { λ r. ⌜ r ≡ viewOf l (now (words .entry)) .blank y ⌝ }
+// The same, four words at a time; the last four may begin among those already asked.
+pub fn blank(words: &[u16], a: usize, n: u16) -> bool
+    requires { ⌜ (n ≤ mostWidth) × (a + n ≤ length (now words)) ⌝ }
+    ensures { λ r. ⌜ r ≡ blankFrom (now (words .entry)) a n ⌝ }
 {
-    blank(words, g.place(l, y) + Layout::LINK_WORDS, g.tail(l))
-}
-
-// The n nodes from cell c on, tallied by their identifiers: no record is read.
-fn by_idents(words: &[u16], l: Layout, g: Grid, c: usize, n: usize) -> Tally
-    requires { ⌜ Gridded l g × Laid l (now words) × (firstNode l ≤ c) × (c + n ≤ cellCount l) ⌝ }
-    ensures { λ r. ⌜ r ≡ identsOf (viewOf l (now (words .entry))) c n ⌝ }
-{
-    let mut t = Tally::none();
-    let mut j: usize = 0;
-    while j < n {
-        t = t.with(node(words, l, g, c + j).ident);
-        j += 1;
+    if n < 4 {
+        return few_blank(words, a, n);
     }
-    t
+    let last = n - 4;
+    let mut i: u16 = 0;
+    while i < last {
+        if !four_blank(words, a + i as usize) {
+            return false;
+        }
+        i += 4;
+    }
+    four_blank(words, a + last as usize)
 }
 
 // How many nodes are free.
@@ -238,54 +250,42 @@ pub fn free_nodes(words: &[u16], l: Layout, g: Grid) -> u32
     requires { ⌜ Gridded l g × Laid l (now words) ⌝ }
     ensures { λ r. ⌜ r ≡ length (cellsWith isFree (viewOf l (now (words .entry))) (firstNode l) (l .nodes)) ⌝ }
 {
-    by_idents(words, l, g, g.from, l.nodes as usize).free
+    let mut a = g.first;
+    let mut free: u32 = 0;
+    let mut i: u16 = 0;
+    while i < l.nodes {
+        free += spans::one(Layout::is_free(word(words, a)));
+        a += g.step;
+        i += 1;
+    }
+    free
 }
 
-// How many of the n nodes from cell c on are free and have a record that is not blank.
-fn unwiped(words: &[u16], l: Layout, g: Grid, c: usize, n: usize) -> u32
-    requires { ⌜ Gridded l g × Laid l (now words) × (firstNode l ≤ c) × (c + n ≤ cellCount l) ⌝ }
-    ensures { λ r. ⌜ r ≡ length (unwiped (viewOf l (now (words .entry))) c n) ⌝ }
+// The tally with one node more, whose words begin at a, n of them behind its links. Only a free node's record is read.
+fn with_node(words: &[u16], a: usize, n: u16, t: Tally) -> Tally
+    requires { ⌜ (n ≤ mostWidth) × (a + linkWords + n ≤ length (now words)) × FewIn t ⌝ }
+    ensures { λ r. ⌜ r ≡ tallied t (getD (now (words .entry)) a 0) (blankFrom (now (words .entry)) (a + linkWords) n) ⌝ }
 {
-    let mut found: u32 = 0;
-    let mut j: usize = 0;
-    while j < n {
-        let y = c + j;
-        let ident = node(words, l, g, y).ident;
-        if Layout::is_free(ident) {
-            found += spans::one(!is_blank(words, l, g, y));
-        }
-        j += 1;
+    let ident = word(words, a);
+    if Layout::is_free(ident) {
+        return t.with_free(blank(words, a + Layout::LINK_WORDS, n));
     }
-    found
+    t.with_other(ident)
 }
 
-// Their tally: where none of them is free, their records are not asked.
-fn part(words: &[u16], l: Layout, g: Grid, c: usize, n: usize) -> Tally
-    requires { ⌜ Gridded l g × Laid l (now words) × (firstNode l ≤ c) × (c + n ≤ cellCount l) ⌝ }
-    ensures { λ r. ⌜ r ≡ tallyOf (viewOf l (now (words .entry))) c n ⌝ }
-{
-    let t = by_idents(words, l, g, c, n);
-    if t.free == 0 {
-        return t;
-    }
-    Tally {
-        free: t.free,
-        used: t.used,
-        unwiped: unwiped(words, l, g, c, n),
-    }
-}
-
-// How many nodes are free, how many are in use, and how many of the free ones have a record that is not blank.
+// How many nodes are in use, and how many are free and have a record that is not blank.
 pub fn tally(words: &[u16], l: Layout, g: Grid) -> Tally
     requires { ⌜ Gridded l g × Laid l (now words) ⌝ }
     ensures { λ r. ⌜ r ≡ tallyOf (viewOf l (now (words .entry))) (firstNode l) (l .nodes) ⌝ }
 {
+    let tail = g.tail(l);
+    let mut a = g.first;
     let mut t = Tally::none();
-    let mut c = g.from;
-    while c < g.to {
-        let n = Tally::portion(g.to - c);
-        t = t.plus(part(words, l, g, c, n));
-        c += n;
+    let mut i: u16 = 0;
+    while i < l.nodes {
+        t = with_node(words, a, tail, t);
+        a += g.step;
+        i += 1;
     }
     t
 }

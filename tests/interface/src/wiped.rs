@@ -5,7 +5,7 @@ use crate::checks::Tests;
 use crate::courses::named;
 use crate::worn::{lists_of, wipes, with_words};
 use interface::stores::{edit, record, unworn};
-use interface::{bytes_of, words_of, Call, Call::*, DONE, ENOUGH, STOPPED};
+use interface::{bytes_of, expected_read, words_of, Call, Call::*, DONE, ENOUGH, STOPPED};
 use model::alterations::{adversarial, alterable};
 use model::former::{self, wiped};
 use model::recovery::Course;
@@ -154,19 +154,33 @@ pub fn refused_until_recovered(t: &mut Tests) {
     }
 }
 
-/// A single word of a record made not 0: noticed and wiped in a free node. In members and worn nodes nothing is noticed or stored.
+impl Tests {
+    /// Each word of each record made not 0: noticed and wiped in a free node. In members and worn nodes nothing is noticed or stored.
+    fn each_word(&mut self, sound: &[u16]) {
+        let shape = open(sound).expect("a store");
+        for cell in shape.node_cells() {
+            for at in shape.record(cell) {
+                let words = with_words(sound, &[(at, 1 << self.random.below(16))]);
+                let free = sound[shape.cell(cell)] == 0;
+                self.stores(&words, &Check, 0, if free { 6 } else { 0 }, &[]);
+                self.reads(&words, 0, 0, expected_read(&words, 0, 0));
+                self.recovers(&words, &[(at, 0)][..usize::from(free)]);
+            }
+        }
+    }
+}
+
+/// Records of every width, in members, free nodes and a worn one; then random stores.
 pub fn single_words(t: &mut Tests) {
+    for width in 1..=13 {
+        let shape = Shape::new(2, 6, width);
+        let sound = store_of(shape, &[vec![2, 4], vec![5]], || t.random.word());
+        t.each_word(&with_words(&sound, &[(shape.cell(7), WORN)]));
+    }
     for turn in 0..150 {
         let shape = t.shape(if turn % 5 == 0 { 30 } else { 6 });
         let (_, sound) = t.sound_store(shape);
-        for cell in shape.node_cells() {
-            for at in shape.record(cell) {
-                let words = with_words(&sound, &[(at, 1 << t.random.below(16))]);
-                let free = sound[shape.cell(cell)] == 0;
-                t.stores(&words, &Check, 0, if free { 6 } else { 0 }, &[]);
-                t.recovers(&words, &[(at, 0)][..usize::from(free)]);
-            }
-        }
+        t.each_word(&sound);
     }
 }
 

@@ -1,38 +1,46 @@
--- `byte_walks::blank` meets its contract. The loop's invariant: the first i words are added up. The words are half as many as the bytes, so
--- their numbers fit.
-use Prim.Native.Nat.{_-_}
+-- `byte_walks::blank` meets its contract. The loop's invariant: the first i words are 0.
+use Prim.Native.Nat.{_+_, _-_, _≤_}
+use mathlib.Core.Path.{_≡_, _∙_, sym}
+use mathlib.Core.Bool.{true}
 use native.Mathlib.Omega.{arith}
+use borrow.Author.Needs.{needs}
+use borrow.Author.Tests.{not-true, not-false}
 use Rattle.byte_form.specs.Bytes.{wordsIn}
 use Rattle.byte_form.proofs.Laws.{length-words}
-use Rattle.spans.proofs.Sums.{Adding, adding-first, adding-next, adding-done}
+use Rattle.lists.specs.Decide.{blankFrom}
+use Rattle.spans.proofs.Sums.{blank-none, four-more, four-not, four-last}
 use Rattle.byte_walks.proofs.blank.Statement.{statement}
 use Rattle.byte_walks.proofs.blank.Tie as tie
 
 abbrev Inv-loop : tie.InvT-loop
-Inv-loop bytes a n sum₀ i₀ sum i = Adding (wordsIn bytes) a n i sum
+Inv-loop bytes a n last i₀ i = (i ≤ n) × (blankFrom (wordsIn bytes) a i ≡ true)
 
 abbrev μ-loop : tie.MeasureT-loop
-μ-loop bytes a n sum₀ i₀ sum i = n - i
+μ-loop bytes a n last i₀ i = n - i
+
+few-blank-requires : tie.Need-few-blank-requires Inv-loop μ-loop
+few-blank-requires c κs = search needs
+
+returns : tie.Need-returns Inv-loop μ-loop
+returns c = c .few-blank .ensures
 
 loop-holds : tie.Need-loop-holds Inv-loop μ-loop
-loop-holds c =
-    let a = c .before .args in
-    adding-first (wordsIn (a .bytes .now)) (a .a) (a .n)
+loop-holds c = let a = c .before .before .args in (omega arith, blank-none (wordsIn (a .bytes .now)) (a .a))
 
-cast-word : tie.Need-cast-word Inv-loop μ-loop
-cast-word c = omega arith
+cast-four-blank : tie.Need-cast-four-blank Inv-loop μ-loop
+cast-four-blank c = omega arith
 
-add-word : tie.Need-add-word Inv-loop μ-loop
-add-word c = omega (arith, length-words (c .before .before .before .args .bytes .now))
+add-four-blank : tie.Need-add-four-blank Inv-loop μ-loop
+add-four-blank c = omega (arith, length-words (c .before .before .before .before .args .bytes .now))
 
-word-requires : tie.Need-word-requires Inv-loop μ-loop
-word-requires c κs = omega arith
+four-blank-requires : tie.Need-four-blank-requires Inv-loop μ-loop
+four-blank-requires c κs = omega arith
 
-cast-sum : tie.Need-cast-sum Inv-loop μ-loop
-cast-sum c = omega arith
-
-add-sum : tie.Need-add-sum Inv-loop μ-loop
-add-sum c = omega (arith, c .before .before .loop .inv .small)
+returns-2 : tie.Need-returns-2 Inv-loop μ-loop
+returns-2 c =
+    let h = c .before .before .before in
+    let a = h .before .before .before .args in
+    four-not (wordsIn (a .bytes .now)) (a .a) (a .n) (h .loop .i) (omega arith) (sym (c .before .four-blank .ensures) ∙ not-true (c .before .four-blank .result) (c .if2 .taken))
 
 add-i : tie.Need-add-i Inv-loop μ-loop
 add-i c = omega arith
@@ -42,15 +50,27 @@ loop-less c = omega arith
 
 loop-again : tie.Need-loop-again Inv-loop μ-loop
 loop-again c =
-    let h = c .before .before in
-    let a = h .before .before .args in
-    adding-next (wordsIn (a .bytes .now)) (a .a) (a .n) (h .loop .i) (h .loop .sum) (c .word .result) (h .loop .inv) (omega arith) (c .word .ensures) (omega arith)
+    let h = c .before .before .before in
+    let a = h .before .before .before .args in (
+      omega arith,
+      four-more (wordsIn (a .bytes .now)) (a .a) (h .loop .i) (h .loop .inv .1)
+          (sym (c .before .four-blank .ensures) ∙ not-false (c .before .four-blank .result) (c .if2 .left)),
+    )
 
-returns : tie.Need-returns Inv-loop μ-loop
-returns c =
-    let h = c .before in
-    let a = h .before .before .args in
-    adding-done (wordsIn (a .bytes .now)) (a .a) (a .n) (h .loop .i) (h .loop .sum) (h .loop .inv) (omega arith)
+cast-four-blank-2 : tie.Need-cast-four-blank-2 Inv-loop μ-loop
+cast-four-blank-2 c = omega arith
+
+add-four-blank-2 : tie.Need-add-four-blank-2 Inv-loop μ-loop
+add-four-blank-2 c = omega (arith, length-words (c .before .before .before .before .args .bytes .now))
+
+four-blank-requires-2 : tie.Need-four-blank-requires-2 Inv-loop μ-loop
+four-blank-requires-2 c κs = omega arith
+
+returns-3 : tie.Need-returns-3 Inv-loop μ-loop
+returns-3 c =
+    let h = c .before .before in
+    let a = h .before .before .before .args in
+    c .four-blank2 .ensures ∙ four-last (wordsIn (a .bytes .now)) (a .a) (a .n) (h .loop .i) (a .n - 4) (omega arith) (omega arith) (h .loop .inv .1)
 
 pub blank-spec : {M : Type 1} → statement M
 blank-spec =
@@ -58,13 +78,17 @@ blank-spec =
     (tie.spec
     Inv-loop
     μ-loop
+    few-blank-requires
+    returns
     loop-holds
-    cast-word
-    add-word
-    word-requires
-    cast-sum
-    add-sum
+    cast-four-blank
+    add-four-blank
+    four-blank-requires
+    returns-2
     add-i
     loop-less
     loop-again
-    returns)
+    cast-four-blank-2
+    add-four-blank-2
+    four-blank-requires-2
+    returns-3)
