@@ -1,5 +1,5 @@
 //! Wiped records. Older stores, which have remains of records in their free nodes, are refused until they are recovered. The memory of a
-//! deleted record is searched for its words. Records of members and of worn nodes stay.
+//! deleted record, and of one whose insert was cut, is searched for its words. Records of members and of worn nodes stay.
 
 use crate::checks::Tests;
 use crate::courses::named;
@@ -134,6 +134,27 @@ impl Tests {
             }
         }
     }
+
+    /// An insert, cut after each of its stores; then a recovery cut everywhere, and a whole one. The record is nowhere before the central
+    /// store.
+    fn inserted(&mut self, sound: &[u16], list: usize, position: usize) {
+        let (shape, members) = (open(sound).expect("a store"), lists_of(sound).concat());
+        let (start, stores) = (shape.lists as u16, shape.width as u16 + 6);
+        let record: Vec<u16> = (0..shape.width as u16).map(|i| 30_000 + i).collect();
+        let call = Insert { list: list as u16, position: position as u16, start, record: bytes_of(&record) };
+        for allowance in 0..=stores {
+            let (_, cut) = self.call(&bytes_of(sound), &call, allowance);
+            for first in 0..=stores {
+                let (_, left) = self.call(&cut, &Recover, first);
+                let (_, left) = self.call(&left, &Recover, ENOUGH);
+                let left = words_of(&left);
+                self.keeps(sound, &left, &members);
+                if allowance < stores - 1 {
+                    self.nowhere(&left, &record);
+                }
+            }
+        }
+    }
 }
 
 /// All older stores of some small shapes.
@@ -184,7 +205,7 @@ pub fn single_words(t: &mut Tests) {
     }
 }
 
-/// Stores whose members' records have words that stand nowhere else: each member deleted.
+/// Stores whose members' records have words that stand nowhere else: each member deleted, and a record inserted into each list.
 pub fn nothing_remains(t: &mut Tests) {
     for turn in 0..60 {
         let shape = if turn < 13 { Shape::new(2, 4, turn + 1) } else { t.shape(5) };
@@ -196,6 +217,8 @@ pub fn nothing_remains(t: &mut Tests) {
         }
         for (list, sequence) in lists.iter().enumerate() {
             (0..sequence.len()).for_each(|position| t.deleted(&sound, list, position));
+            let position = t.random.between(0, sequence.len());
+            t.inserted(&sound, list, position);
         }
     }
 }
