@@ -74,12 +74,9 @@ more-tallied t x b = by (isFree x) refl
     by true e = ap (λ (m : ℕ). numbers m (t .unwiped + cond (not b) 1 0)) (none (t .used) (inUse x) (ap (λ (y : Bool). not (y || isWorn x)) e))
     by false e = ap (numbers (t .used + cond (inUse x) 1 0)) (none (t .unwiped) false refl)
 
--- what is tallied of a free node, and of another
-pub tallied-free : (t : Tally) (x : ℕ) (b : Bool) → isFree x ≡ true → withFree t b ≡ tallied t x b
-tallied-free t x b e = sym (ap (λ (d : Bool). elim d [ true ↦ withFree t b | false ↦ withOther t x ]) e)
-
-pub tallied-other : (t : Tally) (x : ℕ) (b : Bool) → isFree x ≡ false → withOther t x ≡ tallied t x b
-tallied-other t x b e = sym (ap (λ (d : Bool). elim d [ true ↦ withFree t b | false ↦ withOther t x ]) e)
+-- what is tallied of a node, where d says whether it is free
+pub tallied-as : (t : Tally) (x : ℕ) (b d : Bool) → isFree x ≡ d → elim d [ true ↦ withFree t b | false ↦ withOther t x ] ≡ tallied t x b
+tallied-as t x b d e = sym (ap (λ (c : Bool). elim c [ true ↦ withFree t b | false ↦ withOther t x ]) e)
 
 module _ (v : View) (a : ℕ) where
   -- no cell, one more, and no more than there are cells

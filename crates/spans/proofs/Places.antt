@@ -27,23 +27,25 @@ module _ (l : Layout) where
   unfolding nodeAt
   place-at y h = omega (arith, product-parts y h, cell-node l y h)
 
-  -- the first node, and the next
-  pub first-place : cellAt l (firstNode l) ≡ nodesAt l
+  -- the first node, and the one behind i others
+  pub first-place : nodesAt l ≡ cellAt l (firstNode l + 0)
   unfolding nodeAt
   first-place =
-      let z : firstNode l - firstNode l ≡ 0 = omega arith in
-      omega (arith, cell-node l (firstNode l) (omega arith), ap (λ (n : ℕ). nodeWords l * n) z)
+      let z : firstNode l + 0 - firstNode l ≡ 0 = omega arith in
+      omega (arith, cell-node l (firstNode l + 0) (omega arith), ap (λ (n : ℕ). nodeWords l * n) z)
 
-  pub next-place : (y : ℕ) → firstNode l ≤ y → cellAt l (y + 1) ≡ cellAt l y + nodeWords l
+  pub next-place : (i : ℕ) → cellAt l (firstNode l + i) + nodeWords l ≡ cellAt l (firstNode l + (i + 1))
   unfolding nodeAt
-  next-place y h =
-      let e : y + 1 - firstNode l ≡ suc (y - firstNode l) = omega arith in
+  next-place i =
+      let d : firstNode l + i - firstNode l ≡ i = omega arith in
+      let e : firstNode l + (i + 1) - firstNode l ≡ suc i = omega arith in
       omega (
         arith,
-        cell-node l y h,
-        cell-node l (y + 1) (omega arith),
+        cell-node l (firstNode l + i) (omega arith),
+        cell-node l (firstNode l + (i + 1)) (omega arith),
+        ap (λ (n : ℕ). nodeWords l * n) d,
         ap (λ (n : ℕ). nodeWords l * n) e,
-        mul-suc (nodeWords l) (y - firstNode l),
+        mul-suc (nodeWords l) i,
       )
 
 -- the words of a cell stand within the store, whose words are few

@@ -90,6 +90,20 @@ impl Tests {
         self.all_calls(&bytes_of(&sound), shape);
     }
 
+    /// Each word of each record made not 0: noticed and wiped in a free node. In members and worn nodes nothing is noticed or stored.
+    fn each_word(&mut self, sound: &[u16]) {
+        let shape = open(sound).expect("a store");
+        for cell in shape.node_cells() {
+            for at in shape.record(cell) {
+                let words = with_words(sound, &[(at, 1 << self.random.below(16))]);
+                let free = sound[shape.cell(cell)] == 0;
+                self.stores(&words, &Check, 0, if free { 6 } else { 0 }, &[]);
+                self.reads(&words, 0, 0, expected_read(&words, 0, 0));
+                self.recovers(&words, &[(at, 0)][..usize::from(free)]);
+            }
+        }
+    }
+
     /// Worn nodes are as they were, and so are the records of these members.
     fn keeps(&mut self, before: &[u16], left: &[u16], members: &[usize]) {
         let shape = open(before).expect("a store");
@@ -172,22 +186,6 @@ pub fn refused_until_recovered(t: &mut Tests) {
         let shape = if turn < 13 { Shape::new(2, 5, turn + 1) } else { t.shape(if turn % 3 == 0 { 20 } else { 6 }) };
         let (_, older) = t.older_store(shape);
         t.older(&older);
-    }
-}
-
-impl Tests {
-    /// Each word of each record made not 0: noticed and wiped in a free node. In members and worn nodes nothing is noticed or stored.
-    fn each_word(&mut self, sound: &[u16]) {
-        let shape = open(sound).expect("a store");
-        for cell in shape.node_cells() {
-            for at in shape.record(cell) {
-                let words = with_words(sound, &[(at, 1 << self.random.below(16))]);
-                let free = sound[shape.cell(cell)] == 0;
-                self.stores(&words, &Check, 0, if free { 6 } else { 0 }, &[]);
-                self.reads(&words, 0, 0, expected_read(&words, 0, 0));
-                self.recovers(&words, &[(at, 0)][..usize::from(free)]);
-            }
-        }
     }
 }
 

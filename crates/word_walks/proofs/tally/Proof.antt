@@ -1,6 +1,6 @@
 -- `word_walks::tally` meets its contract. The loop's invariant: a is the place of node i, and t is the tally of the nodes before it.
 use Prim.Native.Nat.{ℕ, _+_, _-_, _≤_}
-use mathlib.Core.Path.{_≡_, ap, ap₂, _∙_, sym, subst}
+use mathlib.Core.Path.{_≡_, ap, _∙_, sym, subst}
 use mathlib.Core.List.{List}
 use native.Mathlib.Omega.{arith}
 use borrow.Author.Needs.{needs}
@@ -8,7 +8,6 @@ use lib.ListN.{length, getD}
 use Rattle.layout.specs.declared.Layout.{Layout}
 use Rattle.layout.specs.Words.{Laid, linkWords, tailWords, firstNode, cellAt, recordAt}
 use Rattle.lists.specs.Decide.{View, viewOf, blankFrom}
-use Rattle.spans.specs.declared.Tally.{Tally}
 use Rattle.spans.specs.Spans.{Gridded, FewIn, tallied, tallyOf}
 use Rattle.spans.proofs.Places.{first-place, next-place, tail-words, words-few}
 use Rattle.spans.proofs.Counts.{tally-none, tally-more, tally-few}
@@ -31,12 +30,11 @@ none-requires c κs = search needs
 loop-holds : tie.Need-loop-holds Inv-loop μ-loop
 loop-holds c =
     let s = c .before .before .before in
-    let l = s .args .l in
-    let z : firstNode l ≡ firstNode l + 0 = omega arith in (
+    let l = s .args .l in (
       s .pre .0,
       s .pre .1,
       omega arith,
-      s .pre .0 .first ∙ sym (first-place l) ∙ ap (cellAt l) z,
+      s .pre .0 .first ∙ first-place l,
       c .none .ensures ∙ tally-none (viewOf l (s .args .words .now)) (firstNode l),
     )
 
@@ -93,16 +91,13 @@ loop-again c =
     let o = c .before in
     let h = o .before .before .before in
     let l = layout h in
-    let i = h .loop .i in
-    let e : firstNode l + i + 1 ≡ firstNode l + (i + 1) = omega arith in (
+    let i = h .loop .i in (
       h .loop .inv .0,
       h .loop .inv .1,
       omega arith,
-      omega (arith, h .loop .inv .0 .step, h .loop .inv .3, next-place l (firstNode l + i) (omega arith), ap (cellAt l) e),
+      omega (arith, h .loop .inv .0 .step, h .loop .inv .3, next-place l i),
       o .with-node .ensures
-          ∙ ap (λ (t : Tally). tallied t (getD (words h) (h .loop .a) 0) (blankFrom (words h) (h .loop .a + linkWords) (h .before .before .tail .result))) (h .loop .inv .4)
-          ∙ ap (λ (b : ℕ). tallied (tallyOf (view h) (firstNode l) i) (getD (words h) b 0) (blankFrom (words h) (h .loop .a + linkWords) (h .before .before .tail .result))) (h .loop .inv .3)
-          ∙ ap (tallied (tallyOf (view h) (firstNode l) i) (view h .ident (firstNode l + i))) (ap₂ (blankFrom (words h)) (tail (o .before) .0) (h .before .before .tail .ensures))
+          ∙ (λ j. tallied (h .loop .inv .4 j) (getD (words h) (h .loop .inv .3 j) 0) (blankFrom (words h) (tail (o .before) .0 j) (h .before .before .tail .ensures j)))
           ∙ tally-more (view h) (firstNode l) i,
     )
 
