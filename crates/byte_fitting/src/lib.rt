@@ -4,6 +4,7 @@ use fitting::Faults;
 use fitting::Fits;
 use fitting::Fitted;
 use fitting::Trail;
+use fitting::Walk;
 use fitting::Walked;
 use layout::Layout;
 use spans::Grid;
@@ -14,7 +15,7 @@ ghost use Rattle.byte_form.specs.Bytes.{wordsIn};
 ghost use Rattle.layout.specs.Words.{Laid};
 ghost use Rattle.lists.specs.Decide.{viewOf, countIn};
 ghost use Rattle.spans.specs.Spans.{Gridded, cellIn};
-ghost use Rattle.fitting.specs.Fitting.{isOpen, nextTrail, wayFaults, fitIn, Trailing};
+ghost use Rattle.fitting.specs.Fitting.{isOpen, nextTrail, wayOf, fitIn, Trailing};
 
 // One step of a walk through list k.
 fn step(bytes: &[u8], l: Layout, g: Grid, k: u16, t: Trail) -> Trail
@@ -24,27 +25,22 @@ fn step(bytes: &[u8], l: Layout, g: Grid, k: u16, t: Trail) -> Trail
     t.step(k, byte_walks::node(bytes, l, g, t.at))
 }
 
-// Step after step: all faults of a walk through list k.
-fn rest(bytes: &[u8], l: Layout, g: Grid, k: u16, t: Trail) -> Faults
+// Step after step: a walk through list k.
+fn rest(bytes: &[u8], l: Layout, g: Grid, k: u16, t: Trail) -> Walk
     requires { ⌜ Gridded l g × Laid l (wordsIn (now bytes)) × (k < l .lists) × Trailing l (viewOf l (wordsIn (now bytes))) k t ⌝ }
-    ensures { λ r. ⌜ r ≡ wayFaults l (viewOf l (wordsIn (now (bytes .entry)))) (t .back) k (countIn l (wordsIn (now (bytes .entry))) k) ⌝ }
+    ensures { λ r. ⌜ r ≡ wayOf l (viewOf l (wordsIn (now (bytes .entry)))) (t .back) k ⌝ }
 {
     let mut t = t;
     while t.open(l, g) {
         t = step(bytes, l, g, k, t);
     }
-    t.end(
-        l,
-        k,
-        byte_walks::header(bytes, l, k),
-        byte_walks::count(bytes, l, k),
-    )
+    t.end(l, k, byte_walks::header(bytes, l, k))
 }
 
 // The walks through lists k and j, each by its back links or its forward links.
 fn walk_two(bytes: &[u8], l: Layout, g: Grid, k: u16, back: bool, j: u16, other: bool) -> Walked
     requires { ⌜ Gridded l g × Laid l (wordsIn (now bytes)) × (k < l .lists) × (j < l .lists) ⌝ }
-    ensures { λ r. ⌜ (r .first ≡ wayFaults l (viewOf l (wordsIn (now (bytes .entry)))) back k (countIn l (wordsIn (now (bytes .entry))) k)) × (r .second ≡ wayFaults l (viewOf l (wordsIn (now (bytes .entry)))) other j (countIn l (wordsIn (now (bytes .entry))) j)) ⌝ }
+    ensures { λ r. ⌜ (r .first ≡ wayOf l (viewOf l (wordsIn (now (bytes .entry)))) back k) × (r .second ≡ wayOf l (viewOf l (wordsIn (now (bytes .entry)))) other j) ⌝ }
 {
     let mut s = Trail::first(l, back, k, byte_walks::header(bytes, l, k));
     let mut t = Trail::first(l, other, j, byte_walks::header(bytes, l, j));
@@ -70,9 +66,8 @@ fn fit_one(bytes: &[u8], l: Layout, g: Grid, k: u16) -> Fitted
         return Fitted::Forward(Faults::None);
     }
     let w = walk_two(bytes, l, g, k, false, k, true);
-    let f = w.first;
-    let b = w.second;
-    fitting::choice(f, b)
+    let n = byte_walks::count(bytes, l, k);
+    fitting::choice(w.first.counted(k, n), w.second.counted(k, n))
 }
 
 // Which sequences fit lists k and j, which may be the same.
@@ -94,8 +89,10 @@ pub fn fit_two(bytes: &[u8], l: Layout, g: Grid, k: u16, j: u16) -> Fits
         };
     }
     let f = walk_two(bytes, l, g, k, false, j, false);
-    let x = f.first;
-    let y = f.second;
+    let m = byte_walks::count(bytes, l, k);
+    let n = byte_walks::count(bytes, l, j);
+    let x = f.first.counted(k, m);
+    let y = f.second.counted(j, n);
     if x.decide() {
         if y.decide() {
             return Fits {
@@ -105,10 +102,8 @@ pub fn fit_two(bytes: &[u8], l: Layout, g: Grid, k: u16, j: u16) -> Fits
         }
     }
     let b = walk_two(bytes, l, g, k, true, j, true);
-    let u = b.first;
-    let v = b.second;
     Fits {
-        first: fitting::choice(x, u),
-        second: fitting::choice(y, v),
+        first: fitting::choice(x, b.first.counted(k, m)),
+        second: fitting::choice(y, b.second.counted(j, n)),
     }
 }

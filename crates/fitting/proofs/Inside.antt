@@ -4,7 +4,6 @@ use mathlib.Core.List.{List, [], _∷_}
 use mathlib.Core.Bool.{Bool, true, false, cond}
 use native.Mathlib.Omega.{arith}
 use lib.Dec.{eqb}
-use lib.ListN.{length}
 use Rattle.sequences.specs.Sequence.{All}
 use Rattle.sequences.proofs.Trail.{trail-inside}
 use Rattle.layout.specs.declared.Layout.{Layout}
@@ -15,9 +14,9 @@ use Rattle.lists.proofs.Unique.{all-nodes}
 use Rattle.fitting.specs.declared.Faults.{Faults}
 use Rattle.fitting.specs.declared.Faults.the-variants as F
 use Rattle.fitting.specs.declared.Fitted.the-variants as G
-use Rattle.fitting.specs.Fitting.{plus, fault, turnFaults, faultsOf, walked, walkFaults, turned, choose, twoFit, fitIn}
+use Rattle.fitting.specs.Fitting.{fault, turnFaults, othersFaults, walked, walkOf, counted, turned, choose, twoFit, fitIn}
 use Rattle.fitting.specs.Fitting.{faultIn, Each, FaultFits}
-use Rattle.fitting.proofs.Walks.{Every, every-plus, every-fault, plus-assoc}
+use Rattle.fitting.proofs.Walks.{Every, every-plus, every-fault}
 
 -- the cell and the word of a fault are the store's
 abbrev Inside : Layout → ℕ → ℕ → Type 0
@@ -60,20 +59,19 @@ module _ (l : Layout) (P : ℕ → ℕ → Type 0) (link : (c f : ℕ) → c < c
       (turn-every y s c (t .1))))
 
   -- all of it
-  pub round-every : (s : List ℕ) → All (Node l) s → Every P (plus (fault (v .ident k) k identWord (identOf k)) (turnFaults v a b k k s))
-  round-every s t = every-plus (word-every (v .ident k) k identWord (identOf k) (omega arith) (omega arith)) (turn-every k s (omega arith) t)
+  pub others-every : (s : List ℕ) → All (Node l) s → Every P (othersFaults v a b k s)
+  unfolding othersFaults
+  others-every s t = every-plus (word-every (v .ident k) k identWord (identOf k) (omega arith) (omega arith)) (turn-every k s (omega arith) t)
 
 module _ (l : Layout) (r : InRange l) where
   -- the faults of a walk of list k
-  walk-fits : (v : View) (a b k n : ℕ) → a < linkWords → b < linkWords → k < l .lists → Every (Inside l) (walkFaults l v a b k n)
-  unfolding walkFaults faultsOf
+  walk-fits : (v : View) (a b k n : ℕ) → a < linkWords → b < linkWords → k < l .lists → Every (Inside l) (counted k n (walkOf l v a b k))
   walk-fits v a b k n ha hb hk =
       let s = walked l v k in
       let t = all-nodes l s (trail-inside (v .forward) (isNode l) (l .nodes) (v .forward k)) in
       let o : cellAt l k + countWord < sizeOf l = omega (arith, cell-header l k hk, header-fits l k hk) in
-      rw (← plus-assoc)
-      (every-plus (round-every l (Inside l) (λ c f h g. (h, omega (arith, cell-fits l c r h))) v a b k ha hb hk s t)
-      (every-fault n k countWord (length s) (omega arith, o)))
+      every-plus (others-every l (Inside l) (λ c f h g. (h, omega (arith, cell-fits l c r h))) v a b k ha hb hk s t)
+      (every-fault n k countWord (walkOf l v a b k .members) (omega arith, o))
 
   -- so the mend of list k is a word of the store
   pub fit-fits : (v : View) (k n : ℕ) → k < l .lists → FaultFits l (faultIn (fitIn l v k n))

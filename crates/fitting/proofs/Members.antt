@@ -14,9 +14,9 @@ use Rattle.lists.specs.Decide.{View}
 use Rattle.lists.proofs.Nodes.{in-use, ident-used}
 use Rattle.fitting.specs.declared.Faults.{Faults}
 use Rattle.fitting.specs.declared.Faults.the-variants as F
-use Rattle.fitting.specs.Fitting.{plus, fault, turnFaults, faultsOf, lengthBy, carries, Each}
-use Rattle.fitting.proofs.Walks.{plus-assoc, one-fault}
-use Rattle.fitting.proofs.Inside.{round-every}
+use Rattle.fitting.specs.Fitting.{plus, fault, turnFaults, othersFaults, faultsOf, lengthBy, carries, Each}
+use Rattle.fitting.proofs.Walks.{one-fault}
+use Rattle.fitting.proofs.Inside.{others-every}
 use Rattle.fitting.proofs.Told.{plus-comm, Few}
 
 -- word f of cell c is among the faults
@@ -62,24 +62,22 @@ counted f n k m low few = by (eqb n m) refl f low few
 
 pub members-number : (l : Layout) (v : View) (k n : ℕ) (s : List ℕ) → k < l .lists → All (Node l) s → Few (faultsOf v forwardWord backWord k n s)
     → lengthBy (faultsOf v forwardWord backWord k n s) n ≡ length s
-unfolding faultsOf
+unfolding othersFaults
 members-number l v k n s h nodes few =
-    let round = plus (fault (v .ident k) k identWord (identOf k)) (turnFaults v forwardWord backWord k k s) in
-    let e = plus-assoc (fault (v .ident k) k identWord (identOf k)) (turnFaults v forwardWord backWord k k s) (fault n k countWord (length s)) in
-    subst (λ (f : Faults). lengthBy f n ≡ length s) e
-    (counted round n k (length s) (round-every l (λ c g. g < linkWords) (λ c g _ q. q) v forwardWord backWord k (omega arith) (omega arith) h s nodes .each)
-    (subst Few (sym e) few))
+    counted (othersFaults v forwardWord backWord k s) n k (length s)
+    (others-every l (λ c g. g < linkWords) (λ c g _ q. q) v forwardWord backWord k (omega arith) (omega arith) h s nodes .each) few
 
 -- .. and that all carry an identifier that says in use, unless one is wrong that does not
 pub members-carry : (v : View) (k n : ℕ) (s : List ℕ) → Few (faultsOf v forwardWord backWord k n s) → carries (v .ident) (faultsOf v forwardWord backWord k n s) ≡ true
     → k < mostLists → (x : ℕ) → x ∈ s → Unlisted (v .ident x) → ⊥
-unfolding faultsOf
+unfolding othersFaults
 members-carry v k n s few c h x m z = by (faultsOf v forwardWord backWord k n s) has few c
   where
     has : Has x identWord (faultsOf v forwardWord backWord k n s)
     has =
-        has-right x identWord (fault (v .ident k) k identWord (identOf k)) (plus (turnFaults v forwardWord backWord k k s) (fault n k countWord (length s)))
-        (has-left x identWord (turnFaults v forwardWord backWord k k s) (fault n k countWord (length s)) (turn-has v forwardWord backWord k k s x m (λ e. ident-used h e z)))
+        has-left x identWord (othersFaults v forwardWord backWord k s) (fault n k countWord (length s))
+        (has-right x identWord (fault (v .ident k) k identWord (identOf k)) (turnFaults v forwardWord backWord k k s)
+        (turn-has v forwardWord backWord k k s x m (λ e. ident-used h e z)))
 
     by : (f : Faults) → Has x identWord f → Few f → carries (v .ident) f ≡ true → ⊥
     by F.None p few c = p

@@ -1,6 +1,6 @@
 -- The sums of the faults of the two candidates decide which of them fit, as the words themselves do.
 use Prim.Native.Nat.{ℕ, _+_, _<_, _≤_}
-use mathlib.Core.Path.{_≡_, refl, ap, _∙_, sym, subst}
+use mathlib.Core.Path.{_≡_, refl, ap, ap₂, _∙_, sym, subst}
 use mathlib.Core.List.{List, [], _∷_, _++_, map, reverse, reverse-cons}
 use mathlib.Core.Bool.{Bool, true, false, true≢false}
 use native.Mathlib.Omega.{arith}
@@ -23,9 +23,9 @@ use Rattle.fitting.specs.declared.Faults.{Faults}
 use Rattle.fitting.specs.declared.Faults.the-variants as F
 use Rattle.fitting.specs.declared.Fitted.{Fitted}
 use Rattle.fitting.specs.declared.Fitted.the-variants as G
-use Rattle.fitting.specs.Fitting.{plus, fault, turnFaults, faultsOf, walked, walkFaults, turned, choose, fitIn}
+use Rattle.fitting.specs.Fitting.{plus, fault, turnFaults, othersFaults, faultsOf, walked, turned, choose, fitIn}
 use Rattle.fitting.specs.Fitting.{mendOf, numberOf, faultIn, isBackward, membersBy}
-use Rattle.fitting.proofs.Walks.{plus-none, plus-assoc, Every, every-plus, every-fault}
+use Rattle.fitting.proofs.Walks.{plus-none, plus-assoc, counted-walk, Every, every-plus, every-fault}
 
 -- f sums up these wrong words
 abbrev pub Summed : Layout → Faults → List Write → Type 0
@@ -111,13 +111,17 @@ turn-sorted v a b k x (y ∷ s) =
         ∙ sym (plus-assoc i is (plus (plus f fs) (plus g gs)))
 
 -- the faults in the order in which the words are asked
+others-sorted : (v : View) (a b k : ℕ) (s : List ℕ)
+    → othersFaults v a b k s ≡ plus (identFaults v k (k ∷ s)) (plus (onwardFaults v a (steps k s k)) (backFaults v b (steps k s k)))
+unfolding othersFaults sumAll
+others-sorted v a b k s = rw (turn-sorted v a b k k s, plus-assoc)
+
 pub faults-sorted
     : (v : View) (a b k n : ℕ) (s : List ℕ)
     → faultsOf v a b k n s
     ≡ plus (identFaults v k (k ∷ s)) (plus (onwardFaults v a (steps k s k)) (plus (backFaults v b (steps k s k)) (fault n k countWord (length s))))
-unfolding faultsOf sumAll
 faults-sorted v a b k n s =
-    rw (turn-sorted v a b k k s, plus-assoc, plus-assoc, plus-assoc)
+    rw (others-sorted v a b k s, plus-assoc, plus-assoc)
 
 -- the same of the words of a store, kind by kind
 module _ (l : Layout) (w : List ℕ) (k : ℕ) (s : List ℕ) where
@@ -418,10 +422,13 @@ module _ (l : Layout) (w : List ℕ) (k : ℕ) (h : k < l .lists) where
 
   -- the decision from the columns is the decision on the words
   pub fit-told : Told l w k (fitIn l (viewOf l w) k (countIn l w k))
-  unfolding fitIn walkFaults
+  unfolding fitIn
   fit-told =
-      subst (λ (g : Faults). Told l w k (choose (faultSum l w k (sequenceOf l w k)) g))
-      (sym (turned-faults (viewOf l w) forwardWord backWord k (countIn l w k) (walked l (turned (viewOf l w)) k))) told-by
+      let v = viewOf l w in
+      let n = countIn l w k in
+      subst (Told l w k)
+      (sym (ap₂ choose (counted-walk k n (othersFaults v forwardWord backWord k (walked l v k)) (length (walked l v k)))
+      (counted-walk k n (othersFaults (turned v) backWord forwardWord k (walked l (turned v) k)) (length (walked l (turned v) k)) ∙ turned-faults v forwardWord backWord k n (walked l (turned v) k)))) told-by
 
 -- the members by the walk that was chosen are those of the sequence that fits
 pub members-told

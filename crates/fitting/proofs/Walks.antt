@@ -1,6 +1,6 @@
 -- Laws of the faults of a walk.
 use Prim.Native.Nat.{ℕ, suc, _-_, _≤_, _<_}
-use mathlib.Core.Path.{_≡_, refl, ap, _∙_}
+use mathlib.Core.Path.{_≡_, refl, ap, _∙_, sym}
 use mathlib.Core.List.{[], _∷_}
 use mathlib.Core.Bool.{Bool, true, false, cond, false≢true}
 use native.Mathlib.Omega.{arith}
@@ -15,7 +15,8 @@ use Rattle.fitting.specs.declared.Faults.{Faults}
 use Rattle.fitting.specs.declared.Faults.the-variants as F
 use Rattle.fitting.specs.declared.Fitted.the-variants as G
 use Rattle.fitting.specs.Fitting.{areMany, decides, choose}
-use Rattle.fitting.specs.Fitting.{Each, plus, fault, turnFaults, faultsOf, walked, walkFaults, rest, Walking}
+use Rattle.fitting.specs.declared.Walk.{Walk}
+use Rattle.fitting.specs.Fitting.{Each, plus, fault, turnFaults, othersFaults, walked, walkWith, counted, rest, Walking}
 
 -- no faults more
 pub plus-none : (f : Faults) → plus f F.None ≡ f
@@ -75,6 +76,7 @@ decided-alone F.Many g e = absurd (false≢true e)
 -- at the header its identifier is compared
 pub walking-first : (l : Layout) (v : View) (a b k : ℕ) {i : ℕ} {f : Faults} → i ≡ identOf k
     → f ≡ fault (v .ident k) k identWord i → Walking l v a b k f k (v .forward k) (l .nodes)
+unfolding othersFaults
 walking-first l v a b k q e = record { link = refl; few = omega arith; same = rw (e, q); count = omega arith }
 
 module _ {l : Layout} {v : View} {a b k : ℕ} {f : Faults} {x y left : ℕ} (w : Walking l v a b k f x y left) where
@@ -98,18 +100,14 @@ module _ {l : Layout} {v : View} {a b k : ℕ} {f : Faults} {x y left : ℕ} (w 
       }
 
   -- once there are many faults, they are many at the end
-  pub walking-many : (n : ℕ) → areMany f ≡ true → f ≡ walkFaults l v a b k n
-  unfolding faultsOf walkFaults
-  walking-many n e = by f e (w .same)
+  pub walking-many : areMany f ≡ true → f ≡ othersFaults v a b k (walked l v k)
+  walking-many e = by f e (w .same)
     where
-      by : (g : Faults) → areMany g ≡ true
-          → plus g (turnFaults v a b k x (rest l v left y)) ≡ plus (fault (v .ident k) k identWord (identOf k)) (turnFaults v a b k k (walked l v k))
-          → g ≡ walkFaults l v a b k n
+      by : (g : Faults) → areMany g ≡ true → plus g (turnFaults v a b k x (rest l v left y)) ≡ othersFaults v a b k (walked l v k)
+          → g ≡ othersFaults v a b k (walked l v k)
       by F.None e s = absurd (false≢true e)
       by (F.One c g u) e s = absurd (false≢true e)
-      by F.Many e s =
-          ap (λ (g : Faults). plus g (fault n k countWord (length (walked l v k)))) s
-          ∙ plus-assoc (fault (v .ident k) k identWord (identOf k)) (turnFaults v a b k k (walked l v k)) (fault n k countWord (length (walked l v k)))
+      by F.Many e s = s
 
   -- where no node follows, or no step is left, nothing is left
   pub rest-out : isNode l y ≡ false → rest l v left y ≡ []
@@ -118,10 +116,20 @@ module _ {l : Layout} {v : View} {a b k : ℕ} {f : Faults} {x y left : ℕ} (w 
   pub rest-none : left ≤ 0 → rest l v left y ≡ []
   rest-none h = let m : left ≡ 0 = omega arith in rw m (trail-none (v .forward) (isNode l) y)
 
-  -- the link onward, the header's link back and the count are compared
-  pub walking-done : (n : ℕ) {g h r : Faults} → rest l v left y ≡ [] → g ≡ plus f (fault y x a k)
-      → h ≡ plus g (fault (v .back k) k b x) → r ≡ plus h (fault n k countWord (l .nodes - left)) → r ≡ walkFaults l v a b k n
-  unfolding turnFaults faultsOf walkFaults
-  walking-done n e p q s =
-      let m : l .nodes - left ≡ length (walked l v k) = omega (arith, w .count, ap length e) in
-      rw (s, q, p, m, ← plus-assoc, ← w .same, e, w .link, plus-assoc f)
+  -- the link onward and the header's link back are compared
+  pub walking-done : {g h : Faults} → rest l v left y ≡ [] → g ≡ plus f (fault y x a k) → h ≡ plus g (fault (v .back k) k b x)
+      → (h ≡ othersFaults v a b k (walked l v k)) × (l .nodes - left ≡ length (walked l v k))
+  unfolding turnFaults
+  walking-done e p q = (
+    rw (q, p, ← w .same, e, w .link, plus-assoc f),
+    omega (arith, w .count, ap length e),
+  )
+
+-- the length of a walk with many faults is not told; of any other it is
+pub walk-many : (m n : ℕ) {f g : Faults} → f ≡ g → areMany f ≡ true → walkWith f m ≡ walkWith g n
+walk-many m n {f} {g} e h = ap (λ (x : Faults). walkWith x m) e ∙ rw (ap areMany (sym e) ∙ h)
+
+pub counted-walk : (k n : ℕ) (f : Faults) (m : ℕ) → counted k n (walkWith f m) ≡ plus f (fault n k countWord m)
+counted-walk k n F.None m = refl
+counted-walk k n (F.One c w v) m = refl
+counted-walk k n F.Many m = refl

@@ -16,6 +16,7 @@ use Rattle.fitting.specs.declared.Faults.the-variants as F
 use Rattle.fitting.specs.declared.Fitted.{Fitted}
 use Rattle.fitting.specs.declared.Fitted.the-variants as G
 use Rattle.fitting.specs.declared.Trail.{Trail}
+use Rattle.fitting.specs.declared.Walk.{Walk}
 
 -- the faults of two parts
 abbrev pub plus : Faults → Faults → Faults
@@ -44,25 +45,33 @@ turnFaults v a b k x (y ∷ s) =
     (plus (fault (v .back y) y b x)
     (turnFaults v a b k y s)))
 
--- all that s asks of list k, whose count is n
-unfoldable pub faultsOf : View → ℕ → ℕ → ℕ → ℕ → List ℕ → Faults
-faultsOf v a b k n s =
-    plus (fault (v .ident k) k identWord (identOf k))
-    (plus (turnFaults v a b k k s)
-    (fault n k countWord (length s)))
+-- all that s asks of list k but for the count, and with the count, which is n
+unfoldable pub othersFaults : View → ℕ → ℕ → ℕ → List ℕ → Faults
+othersFaults v a b k s = plus (fault (v .ident k) k identWord (identOf k)) (turnFaults v a b k k s)
 
--- the faults of what the links onward lead through
+abbrev pub faultsOf : View → ℕ → ℕ → ℕ → ℕ → List ℕ → Faults
+faultsOf v a b k n s = plus (othersFaults v a b k s) (fault n k countWord (length s))
+
+-- what the links onward lead through
 abbrev pub walked : Layout → View → ℕ → List ℕ
 walked l v k = trail (v .forward) (isNode l) (l .nodes) (v .forward k)
 
-unfoldable pub walkFaults : Layout → View → ℕ → ℕ → ℕ → ℕ → Faults
-walkFaults l v a b k n = faultsOf v a b k n (walked l v k)
+-- a walk with its faults and its length, which is not told where the faults are many
+abbrev pub walkWith : Faults → ℕ → Walk
+walkWith f n = record { faults = f; members = cond (areMany f) 0 n }
+
+abbrev pub walkOf : Layout → View → ℕ → ℕ → ℕ → Walk
+walkOf l v a b k = walkWith (othersFaults v a b k (walked l v k)) (length (walked l v k))
+
+-- its faults with the count, which is n
+abbrev pub counted : ℕ → ℕ → Walk → Faults
+counted k n x = plus (x .faults) (fault n k countWord (x .members))
 
 -- the view the other way round
 abbrev pub turned : View → View
 turned v = record { ident = v .ident; forward = v .back; back = v .forward; blank = v .blank }
 
--- by the direction of a walk: the words of the links onward and back, a cell, the view, and the faults
+-- by the direction of a walk: the words of the links onward and back, a cell, the view, and what it finds
 abbrev pub onwardWord : Bool → ℕ
 onwardWord back = cond back backWord forwardWord
 
@@ -77,10 +86,10 @@ abbrev pub viewBy : Bool → View → View
 viewBy false v = v
 viewBy true v = turned v
 
-abbrev pub wayFaults : Layout → View → Bool → ℕ → ℕ → Faults
-wayFaults l v back k n = walkFaults l (viewBy back v) (onwardWord back) (backwardWord back) k n
+abbrev pub wayOf : Layout → View → Bool → ℕ → Walk
+wayOf l v back k = walkOf l (viewBy back v) (onwardWord back) (backwardWord back) k
 
--- a walk: at the header h of list k; whether it goes on; behind the node c; and, at its end, all faults of list k with the count n
+-- a walk: at the header h of list k; whether it goes on; behind the node c; and at its end
 abbrev pub firstTrail : Layout → Bool → ℕ → Cell → Trail
 firstTrail l back k h =
     record {
@@ -106,12 +115,13 @@ nextTrail k c t =
       left = t .left - 1;
     }
 
-abbrev pub endFaults : Layout → ℕ → Cell → ℕ → Trail → Faults
-endFaults l k h n t =
-    plus
-    (plus (plus (t .faults) (fault (t .at) (t .last) (onwardWord (t .back)) k))
-    (fault (byWay (t .back) h .back) k (backwardWord (t .back)) (t .last)))
-    (fault n k countWord (l .nodes - t .left))
+abbrev pub endFaults : ℕ → Cell → Trail → Faults
+endFaults k h t =
+    plus (plus (t .faults) (fault (t .at) (t .last) (onwardWord (t .back)) k))
+    (fault (byWay (t .back) h .back) k (backwardWord (t .back)) (t .last))
+
+abbrev pub endOf : Layout → ℕ → Cell → Trail → Walk
+endOf l k h t = walkWith (endFaults k h t) (l .nodes - t .left)
 
 -- the cells that a walk has yet to meet when it comes to y with `left` steps left
 abbrev pub rest : Layout → View → ℕ → ℕ → List ℕ
@@ -121,9 +131,7 @@ rest l v left y = trail (v .forward) (isNode l) left y
 pub record Walking (l : Layout) (v : View) (a b k : ℕ) (f : Faults) (x y left : ℕ) : Type 0 where
   pub link : v .forward x ≡ y
   pub few : left ≤ l .nodes
-  pub same
-      : plus f (turnFaults v a b k x (rest l v left y))
-      ≡ plus (fault (v .ident k) k identWord (identOf k)) (turnFaults v a b k k (walked l v k))
+  pub same : plus f (turnFaults v a b k x (rest l v left y)) ≡ othersFaults v a b k (walked l v k)
   pub count : length (walked l v k) ≡ l .nodes - left + length (rest l v left y)
 
 -- the same of a trail
@@ -152,7 +160,7 @@ decides (F.One c f v) = not (eqb f backWord)
 decides F.Many = false
 
 unfoldable pub fitIn : Layout → View → ℕ → ℕ → Fitted
-fitIn l v k n = choose (walkFaults l v forwardWord backWord k n) (walkFaults l (turned v) backWord forwardWord k n)
+fitIn l v k n = choose (counted k n (wayOf l v false k)) (counted k n (wayOf l v true k))
 
 -- the store that mends a fault
 abbrev pub mendOf : Layout → Faults → List Write

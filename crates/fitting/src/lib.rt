@@ -8,7 +8,7 @@ ghost use mathlib.Core.Path.{_≡_};
 ghost use Prim.Native.Nat.{_<_, _≤_};
 ghost use Rattle.layout.specs.Words.{mostLists, mostCells};
 ghost use Rattle.spans.specs.Spans.{Gridded};
-ghost use Rattle.fitting.specs.Fitting.{plus, fault, areMany, decides, lengthBy, choose, numberOf, faultIn, isBackward, onwardWord, backwardWord, byWay, isOpen, firstTrail, nextTrail, endFaults};
+ghost use Rattle.fitting.specs.Fitting.{plus, fault, areMany, decides, lengthBy, choose, numberOf, faultIn, isBackward, onwardWord, backwardWord, byWay, isOpen, firstTrail, nextTrail, endOf, counted};
 
 // The words of a cell, as a fault names them.
 const IDENTIFIER: u16 = Layout::IDENTIFIER as u16;
@@ -122,6 +122,13 @@ impl Fitted {
     }
 }
 
+// A walk through a list: the wrong words that it met, the count not among them, and the number of members, which is not told where the
+// wrong words are many.
+pub struct Walk {
+    pub faults: Faults,
+    pub members: u16,
+}
+
 // Where a walk through a list stands: by the back links or the forward links, with the wrong words that it met; the last cell that it met,
 // the cell that it comes to, and how many nodes it may meet yet.
 pub struct Trail {
@@ -132,10 +139,10 @@ pub struct Trail {
     pub left: u16,
 }
 
-// The faults of walks through two lists.
+// Walks through two lists.
 pub struct Walked {
-    pub first: Faults,
-    pub second: Faults,
+    pub first: Walk,
+    pub second: Walk,
 }
 
 // Which sequences fit two lists.
@@ -233,15 +240,31 @@ impl Trail {
         }
     }
 
-    // At the end of list k, whose header is h and whose count is n: all its faults.
-    pub fn end(self, l: Layout, k: u16, h: Cell, n: u16) -> Faults
+    // At the end of list k, whose header is h.
+    pub fn end(self, l: Layout, k: u16, h: Cell) -> Walk
         requires { ⌜ self .left ≤ l .nodes ⌝ }
-        ensures { λ r. ⌜ r ≡ endFaults l k h n self ⌝ }
+        ensures { λ r. ⌜ r ≡ endOf l k h self ⌝ }
     {
         let met = self.faults;
         let f = met.and(self.at, self.last, onward(self.back), k);
-        let g = f.and(seen(h, self.back).back, k, backward(self.back), self.last);
-        g.and(n as usize, k, COUNT, l.nodes - self.left)
+        let faults = f.and(seen(h, self.back).back, k, backward(self.back), self.last);
+        if faults.are_many() {
+            return Walk { faults, members: 0 };
+        }
+        Walk {
+            faults,
+            members: l.nodes - self.left,
+        }
+    }
+}
+
+impl Walk {
+    // The wrong words of list k, whose count is n, the count among them.
+    pub fn counted(self, k: u16, n: u16) -> Faults
+        ensures { λ r. ⌜ r ≡ counted k n self ⌝ }
+    {
+        let met = self.faults;
+        met.and(n as usize, k, COUNT, self.members)
     }
 }
 

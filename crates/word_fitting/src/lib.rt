@@ -4,6 +4,7 @@ use fitting::Faults;
 use fitting::Fits;
 use fitting::Fitted;
 use fitting::Trail;
+use fitting::Walk;
 use fitting::Walked;
 use layout::Layout;
 use spans::Grid;
@@ -13,7 +14,7 @@ ghost use mathlib.Core.Bool.{true};
 ghost use Rattle.layout.specs.Words.{Laid};
 ghost use Rattle.lists.specs.Decide.{viewOf, countIn};
 ghost use Rattle.spans.specs.Spans.{Gridded, cellIn};
-ghost use Rattle.fitting.specs.Fitting.{isOpen, nextTrail, wayFaults, fitIn, Trailing};
+ghost use Rattle.fitting.specs.Fitting.{isOpen, nextTrail, wayOf, fitIn, Trailing};
 
 // One step of a walk through list k.
 fn step(words: &[u16], l: Layout, g: Grid, k: u16, t: Trail) -> Trail
@@ -23,27 +24,22 @@ fn step(words: &[u16], l: Layout, g: Grid, k: u16, t: Trail) -> Trail
     t.step(k, word_walks::node(words, l, g, t.at))
 }
 
-// Step after step: all faults of a walk through list k.
-fn rest(words: &[u16], l: Layout, g: Grid, k: u16, t: Trail) -> Faults
+// Step after step: a walk through list k.
+fn rest(words: &[u16], l: Layout, g: Grid, k: u16, t: Trail) -> Walk
     requires { ⌜ Gridded l g × Laid l (now words) × (k < l .lists) × Trailing l (viewOf l (now words)) k t ⌝ }
-    ensures { λ r. ⌜ r ≡ wayFaults l (viewOf l (now (words .entry))) (t .back) k (countIn l (now (words .entry)) k) ⌝ }
+    ensures { λ r. ⌜ r ≡ wayOf l (viewOf l (now (words .entry))) (t .back) k ⌝ }
 {
     let mut t = t;
     while t.open(l, g) {
         t = step(words, l, g, k, t);
     }
-    t.end(
-        l,
-        k,
-        word_walks::header(words, l, k),
-        word_walks::count(words, l, k),
-    )
+    t.end(l, k, word_walks::header(words, l, k))
 }
 
 // The walks through lists k and j, each by its back links or its forward links.
 fn walk_two(words: &[u16], l: Layout, g: Grid, k: u16, back: bool, j: u16, other: bool) -> Walked
     requires { ⌜ Gridded l g × Laid l (now words) × (k < l .lists) × (j < l .lists) ⌝ }
-    ensures { λ r. ⌜ (r .first ≡ wayFaults l (viewOf l (now (words .entry))) back k (countIn l (now (words .entry)) k)) × (r .second ≡ wayFaults l (viewOf l (now (words .entry))) other j (countIn l (now (words .entry)) j)) ⌝ }
+    ensures { λ r. ⌜ (r .first ≡ wayOf l (viewOf l (now (words .entry))) back k) × (r .second ≡ wayOf l (viewOf l (now (words .entry))) other j) ⌝ }
 {
     let mut s = Trail::first(l, back, k, word_walks::header(words, l, k));
     let mut t = Trail::first(l, other, j, word_walks::header(words, l, j));
@@ -69,9 +65,8 @@ fn fit_one(words: &[u16], l: Layout, g: Grid, k: u16) -> Fitted
         return Fitted::Forward(Faults::None);
     }
     let w = walk_two(words, l, g, k, false, k, true);
-    let f = w.first;
-    let b = w.second;
-    fitting::choice(f, b)
+    let n = word_walks::count(words, l, k);
+    fitting::choice(w.first.counted(k, n), w.second.counted(k, n))
 }
 
 // Which sequences fit lists k and j, which may be the same.
@@ -93,8 +88,10 @@ pub fn fit_two(words: &[u16], l: Layout, g: Grid, k: u16, j: u16) -> Fits
         };
     }
     let f = walk_two(words, l, g, k, false, j, false);
-    let x = f.first;
-    let y = f.second;
+    let m = word_walks::count(words, l, k);
+    let n = word_walks::count(words, l, j);
+    let x = f.first.counted(k, m);
+    let y = f.second.counted(j, n);
     if x.decide() {
         if y.decide() {
             return Fits {
@@ -104,10 +101,8 @@ pub fn fit_two(words: &[u16], l: Layout, g: Grid, k: u16, j: u16) -> Fits
         }
     }
     let b = walk_two(words, l, g, k, true, j, true);
-    let u = b.first;
-    let v = b.second;
     Fits {
-        first: fitting::choice(x, u),
-        second: fitting::choice(y, v),
+        first: fitting::choice(x, b.first.counted(k, m)),
+        second: fitting::choice(y, b.second.counted(j, n)),
     }
 }

@@ -7,12 +7,12 @@ use Rattle.byte_form.specs.Bytes.{wordsIn}
 use Rattle.layout.specs.declared.Layout.{Layout}
 use Rattle.layout.specs.Words.{Laid}
 use Rattle.layout.proofs.Laws.{answered-yes}
-use Rattle.lists.specs.Decide.{View, viewOf, countIn}
+use Rattle.lists.specs.Decide.{View, viewOf}
 use Rattle.spans.specs.declared.Cell.{Cell}
 use Rattle.spans.specs.Spans.{Gridded, cellIn}
-use Rattle.fitting.specs.declared.Faults.{Faults}
 use Rattle.fitting.specs.declared.Trail.{Trail}
-use Rattle.fitting.specs.Fitting.{Trailing, isOpen, firstTrail, nextTrail, wayFaults}
+use Rattle.fitting.specs.declared.Walk.{Walk}
+use Rattle.fitting.specs.Fitting.{Trailing, isOpen, firstTrail, nextTrail, wayOf}
 use Rattle.fitting.proofs.Trails.{open-node, trail-first, trail-next}
 use Rattle.byte_fitting.proofs.walk_two.Statement.{statement}
 use Rattle.byte_fitting.proofs.walk_two.Tie as tie
@@ -120,7 +120,7 @@ returns c =
     let h = r .before .before .before in
     let a = start h .args in
     let w = wordsIn (a .bytes .now) in
-    let by : ℕ → Bool → Faults = λ k b. wayFaults (a .l) (viewOf (a .l) w) b k (countIn (a .l) w k) in
+    let by : ℕ → Bool → Walk = λ k b. wayOf (a .l) (viewOf (a .l) w) b k in
     (r .rest .ensures ∙ ap (by (a .k)) (h .loop .inv .1 .1), c .rest2 .ensures ∙ ap (by (a .j)) (h .loop .inv .2 .1))
 
 pub walk-two-spec : {M : Type 1} → statement M
