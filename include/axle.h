@@ -50,7 +50,8 @@
  *                               (several: a positive multiple of it?)
  *     10    AXLE_FULL           Is some node free? (several: enough for all?)       insert
  *     11    AXLE_NO_FIT         List by list from 0: does a sequence fit the list?  recover
- *     12    AXLE_TWO_FIT        and only one? (asked before the next list's 11)     recover
+ *     12    AXLE_TWO_FIT        and only one, or one that has the count's length?   recover
+ *                               (asked before the next list's 11)
  *     13    AXLE_NOT_FREE       Is the node to mark free?                           mark_worn
  *
  * POWER CUTS. Insert, delete and recover change the store by word stores, one after the other, each low byte before high.
@@ -66,16 +67,17 @@
  *     all its records, in their order. Every other list is as it was. Of several records the list then has those whose
  *     central store was made, each of them whole: after n stores the first (n + 1) / (P + 6), rounded down.
  *   - This holds also if, besides, at most one word has been altered in each other list: one of its header's four words, or
- *     a member's identifier, forward or back.
+ *     a member's identifier, forward or back. Or two: its count and one identifier, the header's or a member's.
  *   - axle_recover may be cut too, any number of times. The final words are the same.
  *
  * Call axle_recover at every power-up. On a sound store it stores nothing and answers AXLE_DONE + 0. It needs at most
- * L + N + P * N word stores.
+ * 2 * L + N + P * N word stores.
  *
  * What is asked of the memory: it takes the stores in the order in which the processor makes them (no write-back cache
  * between, no reordering), and the two bytes of a word together, with the second. A process that is killed, over a shared
- * mapping, keeps the order but may leave the low byte of a word alone. If that happens to the central store, axle_recover
- * refuses with 11; at any other store the list is as described. (This is tested, not proved.)
+ * mapping, keeps the order but may leave the low byte of a word alone. If that happens to the central store, an insert
+ * counts as not made and a delete as made; but if the torn word leads to the header or to a member behind its place,
+ * axle_recover refuses with 12. At any other store the list is as described. (This is tested, not proved.)
  *
  * ALTERED WORDS, as beside a welding set. Take a store that was sound, and of it these words: the four of each header, the
  * identifier of each node, and forward and back of each member of a list.
@@ -87,9 +89,11 @@
  *   - One change is excepted in both: of the identifier of a node in no list to AXLE_WORN or from it. From 0 to AXLE_WORN it
  *     leaves a sound store, with a mark more, and back again with a mark less. A mark changed to anything else, or to 0 where
  *     the node has a record word that is not 0, is noticed, and axle_recover frees the node: mark it again.
- *   - If more have changed, but at most one in each list and none of a node in no list, axle_recover puts all of them back:
- *     that is a power cut that hit no call, see above. Two in one list may be refused (11, 12), or mended to another list
- *     that fits; so where this may have happened, a store that axle_recover left sound need not be the old one.
+ *   - If a list's count and one identifier of it, its header's or a member's, have changed, axle_recover puts both back, the
+ *     identifier first: AXLE_DONE + 2, and the words are those of before.
+ *   - If more have changed, but at most these in each list and none of a node in no list, axle_recover puts all of them back:
+ *     that is a power cut that hit no call, see above. Two others in one list may be refused (11, 12), or mended to another
+ *     list that fits; so where this may have happened, a store that axle_recover left sound need not be the old one.
  *
  * The other words are not among them. The records of lists, those of worn nodes and the links of nodes in no list may hold
  * anything: axle_check does not look at what they hold, so damage there is neither found nor put back. Nothing is said of
@@ -97,7 +101,9 @@
  *
  * NOT PROMISED. That damage inside records is found: they are the caller's, and have no check word. That anything is left
  * after a cut during axle_format: format again. That damage beyond the above is mended: it may be refused (11, 12), or
- * mended to another list that fits. That two callers may use one store at a time.
+ * mended to another list that fits. So a count and a link of one list that have changed together are not promised to come
+ * back: with one record, the header's forward and the count both 0, the list is recovered as empty. Nor is any damage in the
+ * list of the call that was cut. That two callers may use one store at a time.
  *
  * WORN CELLS. Memory that a fitter has found weak can be taken out of use. axle_mark_worn gives a free node the
  * identifier AXLE_WORN; a node that holds a record is marked after axle_delete. A sound store may have such nodes. The
@@ -152,7 +158,7 @@ extern "C" {
 
 /* The version of the library: in numbers, and as text "MAJOR.MINOR.PATCH". */
 #define AXLE_VERSION_MAJOR 1
-#define AXLE_VERSION_MINOR 5
+#define AXLE_VERSION_MINOR 6
 #define AXLE_VERSION_PATCH 0
 #define AXLE_VERSION AXLE_DOTTED(AXLE_VERSION_MAJOR, AXLE_VERSION_MINOR, AXLE_VERSION_PATCH)
 #define AXLE_DOTTED(a, b, c) AXLE_QUOTED(a) "." AXLE_QUOTED(b) "." AXLE_QUOTED(c)
@@ -201,7 +207,7 @@ static inline uint16_t axle_number(uint32_t answer) { return (uint16_t)(answer &
 #define AXLE_INSERT_SEVERAL_STORES(record_words, records) (AXLE_INSERT_STORES(record_words) * (records))
 #define AXLE_DELETE_STORES(record_words) ((record_words) + 4)
 #define AXLE_DELETE_CENTRAL 2
-#define AXLE_RECOVER_STORES(lists, nodes, record_words) ((lists) + (nodes) + (record_words) * (nodes))
+#define AXLE_RECOVER_STORES(lists, nodes, record_words) (2 * (lists) + (nodes) + (record_words) * (nodes))
 
 /*
  * The layout, for a caller that reads records itself once axle_check has answered 0. Cells are numbered: 0 to L - 1 are the
@@ -278,10 +284,11 @@ uint32_t axle_mark_worn(uint8_t *store, size_t store_len, uint16_t cell);
 
 /*
  * After a power cut: puts every list right, and frees and wipes the nodes in none, but for worn ones. A sequence of
- * different nodes fits a list if at most one word differs from what it asks of the header and its members. If exactly one
- * fits each list, the differing words are stored, list 0 first, then 0 to each identifier of a node in no list that is
- * neither 0 nor AXLE_WORN, lowest cell first, and last 0 to each record word of these nodes and of the free ones that is not
- * 0, lowest word first.
+ * different nodes fits a list if at most one word other than the count differs from what it asks of the header and its
+ * members. If one alone fits, it is taken, whatever the count; if several do, the one whose length is the count, if it is
+ * one only. The differing words are stored, list 0 first, of each list the count last, then 0 to each identifier of a node
+ * in no list that is neither 0 nor AXLE_WORN, lowest cell first, and last 0 to each record word of these nodes and of the
+ * free ones that is not 0, lowest word first.
  * Answers: AXLE_DONE + the number of stores, AXLE_STOPPED + the allowance, 1 to 4, 11, 12.
  */
 uint32_t axle_recover(uint8_t *store, size_t store_len, uint16_t allowance);

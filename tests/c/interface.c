@@ -298,6 +298,43 @@ static void marked_store(void)
     refused(WITH(c3, {9, 9}, {10, 9}), plain(RECOVER), 11);
 }
 
+/* The count: of two sequences it tells the one that is taken, and a single one is taken whatever the count. It is stored last. */
+static void wrong_counts(void)
+{
+    static const uint16_t counts[] = {0, 1, 2, 3, 4, 65535};
+    static const size_t words[] = {8, 16, 20, 9, 10, 17, 18, 21, 22}; /* three identifiers, then links */
+    struct bytes c9 = WITH(c2, {12, 42400}, {13, 0}, {14, 0}, {9, 1}, {15, 5});
+    for (size_t i = 0; i < sizeof counts / sizeof *counts; i++) {
+        /* C9: cell 1 in the place of cell 2, both sequences have one member. Then cell 1 before cell 2. */
+        refused(WITH(c9, {11, counts[i]}), plain(RECOVER), AXLE_TWO_FIT);
+        struct bytes before = WITH(c9, {13, 2}, {11, counts[i]});
+        if (counts[i] == 1)
+            STORES(before, plain(RECOVER), {9, 2}, {12, 0}, {15, 0});
+        else if (counts[i] == 2)
+            STORES(before, plain(RECOVER), {18, 1});
+        else
+            refused(before, plain(RECOVER), AXLE_TWO_FIT);
+
+        /* The count and one other word: two stores. Cut between them the count is left wrong, and stored by the next call. */
+        struct bytes miscounted = WITH(c3, {11, counts[i]});
+        if (counts[i] == 2)
+            continue;
+        STORES(miscounted, plain(RECOVER), {11, 2});
+        for (size_t j = 0; j < sizeof words / sizeof *words; j++) {
+            struct bytes both = WITH(miscounted, {words[j], 9});
+            uint16_t right = (uint16_t)(c3.at[2 * words[j]] + 256 * c3.at[2 * words[j] + 1]);
+            struct bytes whole = STORES(both, plain(RECOVER), {words[j], right}, {11, 2});
+            holds(memcmp(whole.at, c3.at, c3.len) == 0, "the list comes back whole", words[j], counts[i]);
+            gives(both, plain(RECOVER), 1, AXLE_STOPPED + 1, miscounted);
+        }
+    }
+
+    /* Nothing is promised of the count and a link that leads to a cell: one member, forward and count of the header 0, ends empty. */
+    static const uint16_t smallest[16] = {82, 66, 83, 1, 1, 1, 1, 0, 42400, 0, 1, 0, 42400, 0, 0, 9};
+    struct bytes empty = STORES(of_words(smallest, 16), plain(RECOVER), {10, 0}, {12, 0}, {15, 0});
+    gives(empty, length_of(0), 0, AXLE_DONE, empty);
+}
+
 /* Several records: the stores of single inserts, one after the other, the next cell after the one just used. */
 static void several_records(void)
 {
@@ -636,15 +673,15 @@ static void formats(void)
     holds(answer == AXLE_NO_FIT, "recovery of nothing", answer, 0);
     axle_format(large, len, 8, 2000, 13);
     for (uint16_t list = 0; list < 8; list++)
-        large[2 * AXLE_HEADER_WORD(list) + 6] = 1; /* every count */
+        large[2 * AXLE_HEADER_WORD(list)] = large[2 * AXLE_HEADER_WORD(list) + 6] = 1; /* every header's identifier and count */
     memset(large + 2 * AXLE_NODE_WORD(8, 13, 8), 1, 2000 * 2 * (3 + 13)); /* every word of every node */
     uint16_t most = AXLE_RECOVER_STORES(8, 2000, 13);
     answer = axle_recover(large, len, (uint16_t)(most - 1));
-    holds(answer == AXLE_STOPPED + 28007, "the most stores, cut before the last", answer, 0);
+    holds(answer == AXLE_STOPPED + 28015, "the most stores, cut before the last", answer, 0);
     holds(axle_check(large, len) == AXLE_UNSOUND, "a word is left", 0, 0);
     answer = axle_recover(large, len, AXLE_WHOLE);
     holds(answer == AXLE_DONE + 1, "the most stores, the last", answer, 0);
-    holds(axle_check(large, len) == 0 && most == 28008, "sound then", 0, 0);
+    holds(axle_check(large, len) == 0 && most == 28016, "sound then", 0, 0);
     free(large);
 }
 
@@ -735,7 +772,7 @@ static void parts_of_answers(void)
     holds(AXLE_INSERT_STORES(1) == 7 && AXLE_INSERT_CENTRAL(1) == 6, "stores", 0, 0);
     holds(AXLE_INSERT_SEVERAL_STORES(1 + 1, 2 + 1) == 24, "stores of several records", 0, 0);
     holds(AXLE_DELETE_STORES(1) == 5 && 2 * AXLE_DELETE_STORES(13) == 34 && AXLE_DELETE_CENTRAL == 2, "stores of delete", 0, 0);
-    holds(AXLE_RECOVER_STORES(1, 3, 1) == 7 && 2 * AXLE_RECOVER_STORES(1 + 1, 2 + 1, 1 + 1) == 22, "stores of recover", 0, 0);
+    holds(AXLE_RECOVER_STORES(1, 3, 1) == 8 && 2 * AXLE_RECOVER_STORES(1 + 1, 2 + 1, 1 + 1) == 26, "stores of recover", 0, 0);
     holds(AXLE_NOT_FREE == 13 && AXLE_WORN == 65535 && AXLE_DONE + 1 == 65537, "the numbers of a mark", 0, 0);
     char version[20];
     sprintf(version, "%d.%d.%d", AXLE_VERSION_MAJOR, AXLE_VERSION_MINOR, AXLE_VERSION_PATCH);
@@ -763,6 +800,7 @@ static void all_seen(void)
 int main(void)
 {
     marked_store();
+    wrong_counts();
     several_records();
     worn_nodes();
     older_stores();

@@ -1,6 +1,5 @@
-// Which sequences fit the lists of a store, decided in the lent bytes as they are in lent words: a cell's words are read from its bytes, and
+// Which sequences are chosen for the lists of a store, decided in the lent bytes as they are in lent words: a cell's words are read from its bytes, and
 // all else is the same.
-use fitting::Faults;
 use fitting::Fits;
 use fitting::Fitted;
 use fitting::Trail;
@@ -57,20 +56,19 @@ fn walk_two(bytes: &[u8], l: Layout, g: Grid, k: u16, back: bool, j: u16, other:
     }
 }
 
-// Which sequence fits list k: both walks at once.
+// Which sequence is chosen for list k: both walks at once.
 fn fit_one(bytes: &[u8], l: Layout, g: Grid, k: u16) -> Fitted
     requires { ⌜ Gridded l g × Laid l (wordsIn (now bytes)) × (k < l .lists) ⌝ }
     ensures { λ r. ⌜ r ≡ fitIn l (viewOf l (wordsIn (now (bytes .entry)))) k (countIn l (wordsIn (now (bytes .entry))) k) ⌝ }
 {
     if byte_walks::one_holds(bytes, l, g, k) {
-        return Fitted::Forward(Faults::None);
+        return Fitted::Forward(Walk::right(byte_walks::count(bytes, l, k)));
     }
     let w = walk_two(bytes, l, g, k, false, k, true);
-    let n = byte_walks::count(bytes, l, k);
-    fitting::choice(w.first.counted(k, n), w.second.counted(k, n))
+    fitting::choice(w.first, w.second, byte_walks::count(bytes, l, k))
 }
 
-// Which sequences fit lists k and j, which may be the same.
+// Which sequences are chosen for lists k and j, which may be the same.
 pub fn fit_two(bytes: &[u8], l: Layout, g: Grid, k: u16, j: u16) -> Fits
     requires { ⌜ Gridded l g × Laid l (wordsIn (now bytes)) × (k < l .lists) × (j < l .lists) ⌝ }
     ensures { λ r. ⌜ (r .first ≡ fitIn l (viewOf l (wordsIn (now (bytes .entry)))) k (countIn l (wordsIn (now (bytes .entry))) k)) × (r .second ≡ fitIn l (viewOf l (wordsIn (now (bytes .entry)))) j (countIn l (wordsIn (now (bytes .entry))) j)) ⌝ }
@@ -82,19 +80,19 @@ pub fn fit_two(bytes: &[u8], l: Layout, g: Grid, k: u16, j: u16) -> Fits
             second: f,
         };
     }
+    let m = byte_walks::count(bytes, l, k);
+    let n = byte_walks::count(bytes, l, j);
     if byte_walks::two_hold(bytes, l, g, k, j) {
         return Fits {
-            first: Fitted::Forward(Faults::None),
-            second: Fitted::Forward(Faults::None),
+            first: Fitted::Forward(Walk::right(m)),
+            second: Fitted::Forward(Walk::right(n)),
         };
     }
     let f = walk_two(bytes, l, g, k, false, j, false);
-    let m = byte_walks::count(bytes, l, k);
-    let n = byte_walks::count(bytes, l, j);
-    let x = f.first.counted(k, m);
-    let y = f.second.counted(j, n);
-    if x.decide() {
-        if y.decide() {
+    let x = f.first;
+    let y = f.second;
+    if x.decides() {
+        if y.decides() {
             return Fits {
                 first: Fitted::Forward(x),
                 second: Fitted::Forward(y),
@@ -103,7 +101,7 @@ pub fn fit_two(bytes: &[u8], l: Layout, g: Grid, k: u16, j: u16) -> Fits
     }
     let b = walk_two(bytes, l, g, k, true, j, true);
     Fits {
-        first: fitting::choice(x, b.first.counted(k, m)),
-        second: fitting::choice(y, b.second.counted(j, n)),
+        first: fitting::choice(x, b.first, m),
+        second: fitting::choice(y, b.second, n),
     }
 }

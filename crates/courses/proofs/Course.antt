@@ -22,7 +22,7 @@ use Rattle.edits.proofs.Edited.{replaced-own, replaced-other}
 use Rattle.recovery.specs.Plan.{joined, recoverStores, recoverPlan, Accepted, Kind}
 use Rattle.recovery.proofs.Joined.{joined-one}
 use Rattle.recovery.proofs.Count.{plan-kinds, plan-differs}
-use Rattle.courses.specs.Course.{allStores, needed, Alteration, untouched, altered, Allowed, AllowedBut, alteredBelow, wordsThrough}
+use Rattle.courses.specs.Course.{allStores, needed, Alteration, untouched, altered, both, Allowed, AllowedBut, alteredBelow, wordsThrough}
 use Rattle.courses.specs.Demand3.{Course}
 use Rattle.courses.proofs.Other.{Touches}
 use Rattle.courses.proofs.Cut.{Cut}
@@ -49,7 +49,7 @@ module _ (w : List ℕ) (s : Ordered w) (k : ℕ) (own x y₀ : List ℕ) (cut :
   accepted = found-accepted l w (s .lists) k alts allowed (s .inRange) y₀ (cut .others) (cut .rest) own (λ h. (cut .own h, cut .apart h))
 
   head : (a : ℕ) → a < 8 → getD y a 0 ≡ getD w a 0
-  head a h = altered-out l k alts (l .lists) y₀ a (λ j _ _ c f v _ q. omega (arith, cell-behind l c)) ∙ cut .head a h
+  head a h = altered-out l k alts (l .lists) y₀ a (omega arith) (λ j _ _ c f _ q. omega (arith, cell-behind l c)) ∙ cut .head a h
 
   size : length y ≡ length w
   size = length-altered l k alts (l .lists) y₀ ∙ cut .size
@@ -102,11 +102,15 @@ module _ (w : List ℕ) (s : Ordered w) (k : ℕ) (own x y₀ : List ℕ) (cut :
       q : t j ≡ s .lists .sequence j
       q = replaced-other (s .lists .sequence) k own j n
 
-      untouched-record : (v : Alteration) (c f : ℕ) → c ∈ s .lists .sequence j → 3 ≤ f → Allowed j (s .lists .sequence j) v → Touches v c f → ⊥
+      no-header : (c : ℕ) → c ∈ s .lists .sequence j → c ≡ j → ⊥
+      no-header c d e = omega (arith, all-in (Node l) (s .lists .sequence j) (s .lists .lists j h .nodes) d .low)
+
+      untouched-record : (v : Alteration) (c f : ℕ) → c ∈ s .lists .sequence j → 3 ≤ f → Allowed j (s .lists .sequence j) v → Touches j v c f → ⊥
       untouched-record untouched c f d g a u = u
-      untouched-record (altered b i v) c f d g (inl a) u =
-          omega (arith, all-in (Node l) (s .lists .sequence j) (s .lists .lists j h .nodes) d .low, u .0, a .0)
+      untouched-record (altered b i v) c f d g (inl a) u = no-header c d (u .0 ∙ a .0)
       untouched-record (altered b i v) c f d g (inr a) u = omega (arith, u .1, a .1)
+      untouched-record (both b v m) c f d g a (inl u) = omega (arith, u .1)
+      untouched-record (both b v m) c f d g a (inr u) = no-header c d (u .0)
 
   -- a node that is worn in w is in no list, not even in what the one named becomes,
   pub worn-out : (c : ℕ) → Node l c → getD w (identAt l c) 0 ≡ wornIdent → c ∈ joined t (l .lists) → ⊥

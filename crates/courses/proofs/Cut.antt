@@ -12,10 +12,9 @@ use Rattle.layout.specs.Words.{Node, cellAt, cellWords, identAt, identOf, Unlis
 use Rattle.lists.specs.Lists.{IsList, SoundLists, SameCells}
 use Rattle.lists.proofs.Unique.{member-ident}
 use Rattle.lists.proofs.Same.{lists-apart}
-use Rattle.recovery.proofs.Candidates.{right-forward, right-backward}
-use Rattle.courses.specs.Course.{Alteration, untouched}
-use Rattle.courses.proofs.Other.{Touches, altered-fits, forwards-right, backs-right}
+use Rattle.courses.specs.Course.{untouched}
 use Rattle.courses.proofs.Own.{Own}
+use Rattle.courses.proofs.Other.{settled}
 
 -- the words y that a call naming list k left of the sound words w: its sequence is t, and its words are to be those of x
 pub record Cut (l : Layout) (w : List ℕ) (s : SoundLists l w) (k : ℕ) (t x y : List ℕ) : Type 0 where
@@ -28,22 +27,6 @@ pub record Cut (l : Layout) (w : List ℕ) (s : SoundLists l w) (k : ℕ) (t x y
   pub apart : k < l .lists → (c : ℕ) → c ∈ (k ∷ t) → (j : ℕ) → j < l .lists → (j ≡ k → ⊥) → c ∈ (j ∷ s .sequence j) → ⊥
   pub list : k < l .lists → IsList l x k t
   pub records : k < l .lists → (c f : ℕ) → c ∈ t → 3 ≤ f → f < cellWords l c → getD y (cellAt l c + f) 0 ≡ getD x (cellAt l c + f) 0
-
--- a list with one altered word that is no link
-pub settled
-    : (l : Layout) (w y : List ℕ) (k : ℕ) (h : k < l .lists) (s : List ℕ) (i : IsList l w k s) (alt : Alteration)
-    → ((c f : ℕ) → c ∈ (k ∷ s) → f < cellWords l c → (Touches alt c f → ⊥) → getD y (cellAt l c + f) 0 ≡ getD w (cellAt l c + f) 0)
-    → ((c : ℕ) → Touches alt c 1 → ⊥) → ((c : ℕ) → Touches alt c 2 → ⊥) → Own l y k s
-settled l w y k h s i alt kept a b =
-    record {
-      fits = altered-fits l w y k h s i alt kept;
-      forward = right-forward l y k s (forwards-right l w y k h s i alt kept a);
-      other = s;
-      nodes = i .nodes;
-      within = λ c m. m;
-      back = right-backward l y k s (backs-right l w y k h s i alt kept b);
-      told = inl refl;
-    }
 
 -- a node in no list but perhaps k is free, worn or has the identifier of k
 pub rest-ident

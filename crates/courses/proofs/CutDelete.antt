@@ -20,8 +20,7 @@ use Rattle.layout.specs.declared.Layout.{Layout}
 use Rattle.layout.specs.Words.{tailWords, Node, sizeOf, cellAt, cellWords, identAt, backAt, recordAt, identOf, Unlisted, free}
 use Rattle.layout.proofs.Apart.{words-apart, links-words, words-header}
 use Rattle.lists.specs.Lists.{IsList, SoundLists, SameCells, blankAsked}
-use Rattle.lists.specs.Decide.{viewOf, countIn}
-use Rattle.lists.proofs.Agree.{agrees-holds}
+use Rattle.lists.specs.Decide.{viewOf}
 use Rattle.lists.proofs.Same.{ident-word, count-word, header-apart, list-same}
 use Rattle.requests.specs.declared.Site.{Site}
 use Rattle.edits.specs.Edits.{deleteLinks, deleteWrites, deleteCentral}
@@ -29,11 +28,12 @@ use Rattle.edits.specs.Edited.{deleteAt}
 use Rattle.edits.proofs.Writes.{blank-spares, delete-spares}
 use Rattle.edits.proofs.Delete as D
 use Rattle.edits.proofs.Done.{delete-head}
+use Rattle.recovery.specs.Fits.{Counted}
 use Rattle.recovery.proofs.Candidates.{right-forward}
 use Rattle.courses.specs.Course.{dueOf, untouched, altered}
-use Rattle.courses.proofs.Other.{altered-fits, forwards-right}
 use Rattle.courses.proofs.Own.{Own}
-use Rattle.courses.proofs.Cut.{Cut, settled, rest-ident, list-apart}
+use Rattle.courses.proofs.Other.{forwards-right, count-right, altered-fits, settled}
+use Rattle.courses.proofs.Cut.{Cut, rest-ident, list-apart}
 
 module _ (l : Layout) (w : List ℕ) (exact : length w ≡ sizeOf l) (s : SoundLists l w) (k : ℕ) (hk : k < l .lists)
     (p : ℕ) (hp : p < length (s .sequence k)) where
@@ -95,16 +95,12 @@ module _ (l : Layout) (w : List ℕ) (exact : length w ≡ sizeOf l) (s : SoundL
         back =
             backward-same (viewOf l (run full w) .back) (viewOf l One .back) k (deleteAt p S) k (λ x m. back-one x)
             (D.backs l w exact s k hk p hp);
-        told =
-            inr (λ e.
-            omega (arith, e, count-one, agrees-holds l w k S (own .agrees) .count, D.counted l w exact s k hk p hp));
+        told = inr (count, λ e. omega (arith, e, count, D.counted l w exact s k hk p hp));
       }
     where
-      count-one : countIn l One k ≡ countIn l w k
-      count-one =
-          ap (λ (n : ℕ). getD One n 0) (count-word l k hk)
-          ∙ kept-one k 3 (List·Memᴰ·head refl) (omega (arith, words-header l k hk)) (λ t. omega (arith, t .1))
-          ∙ ap (λ (n : ℕ). getD w n 0) (sym (count-word l k hk))
+      -- the count is still the old one, and not the new
+      count : Counted l One k S
+      count = count-right l w One k hk S own (altered (site .after) 2 0) kept-one (λ x t. omega (arith, t .1))
 
   full-length : length full ≡ 4 + tailWords l
   unfolding deleteWrites deleteLinks

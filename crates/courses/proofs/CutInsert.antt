@@ -20,7 +20,7 @@ use Rattle.layout.specs.declared.Layout.{Layout}
 use Rattle.layout.specs.Words.{tailWords, Node, cellCount, sizeOf, cellAt, cellWords, identAt, forwardAt, backAt, recordAt, identOf, Unlisted}
 use Rattle.layout.proofs.Apart.{words-apart, links-words, words-header, words-node}
 use Rattle.lists.specs.Lists.{IsList, SoundLists, SameCells}
-use Rattle.lists.specs.Decide.{viewOf, countIn}
+use Rattle.lists.specs.Decide.{viewOf}
 use Rattle.lists.proofs.Agree.{agrees-holds}
 use Rattle.lists.proofs.Same.{ident-word, count-word, header-apart}
 use Rattle.requests.specs.declared.Site.{Site}
@@ -29,11 +29,12 @@ use Rattle.edits.specs.Edited.{insertAt}
 use Rattle.edits.proofs.Writes.{First, first-central, first-length, first-spares, insert-spares, record-word}
 use Rattle.edits.proofs.Insert as I
 use Rattle.edits.proofs.Done.{insert-head}
+use Rattle.recovery.specs.Fits.{Counted}
 use Rattle.recovery.proofs.Candidates.{right-forward}
 use Rattle.courses.specs.Course.{dueOf, untouched, altered}
-use Rattle.courses.proofs.Other.{altered-fits, forwards-right}
 use Rattle.courses.proofs.Own.{Own}
-use Rattle.courses.proofs.Cut.{Cut, settled, rest-ident, list-apart}
+use Rattle.courses.proofs.Other.{forwards-right, count-right, altered-fits, settled}
+use Rattle.courses.proofs.Cut.{Cut, rest-ident, list-apart}
 
 -- stores that spare word a put no other value than v there
 spares-only : (a v : ℕ) (ps : List Write) → Spares a ps → All (λ (x : Write). a ≡ x .at → x .value ≡ v) ps
@@ -146,22 +147,12 @@ module _ (l : Layout) (w : List ℕ) (exact : length w ≡ sizeOf l) (s : SoundL
             (A-spares c 2 (links-words l c 2 (omega arith)) (fresh k hk c (in-front k S m)) (λ _ b. omega arith))
             ((λ e. words-apart l c (site .before) 2 1 (λ _ b. omega arith) (links-words l c 2 (omega arith)) (links-words l (site .before) 1 (omega arith)) e), tt)))
             (agrees-holds l w k S (own .agrees) .turn .backs);
-        told =
-            inr (λ e.
-            omega (
-              arith,
-              e,
-              count-central,
-              agrees-holds l (run full w) k (insertAt p i S) (new .agrees) .count,
-              I.counted l w exact s k hk p hp i hi free words size,
-            ));
+        told = inr (count, λ e. omega (arith, e, count, I.counted l w exact s k hk p hp i hi free words size));
       }
     where
-      count-central : countIn l Central k ≡ countIn l (run full w) k
-      count-central =
-          ap (λ (n : ℕ). getD Central n 0) (count-word l k hk)
-          ∙ kept-central k 3 (List·Memᴰ·head refl) (omega (arith, words-header l k hk)) (λ t. omega (arith, t .1))
-          ∙ ap (λ (n : ℕ). getD (run full w) n 0) (sym (count-word l k hk))
+      -- the count is the new one already, and not the old
+      count : Counted l Central k (insertAt p i S)
+      count = count-right l (run full w) Central k hk (insertAt p i S) new (altered (site .after) 2 0) kept-central (λ c t. omega (arith, t .1))
 
   -- from it on the new sequence's forward links are right; the last store brings the back link
   insert-from-central : (m : ℕ) → insertCentral l ≤ m → Own l (applied full m w) k (insertAt p i S)

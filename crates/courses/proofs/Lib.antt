@@ -1,12 +1,13 @@
 pub mod Rival
-pub mod Other
 pub mod Own
+pub mod Other
 pub mod Cut
 pub mod CutInsert
 pub mod CutSeveral
 pub mod CutDelete
 pub mod Calls
 pub mod Found
+pub mod Altered
 pub mod Final
 pub mod Recoveries
 pub mod Standing

@@ -1,6 +1,6 @@
--- One recovery: whatever store is not refused, a whole run leaves sound with at most L + N + P × N stores; a sound store needs none, an ordered
+-- One recovery: whatever store is not refused, a whole run leaves sound with at most 2L + N + P × N stores; a sound store needs none, an ordered
 -- one the wipes alone.
-use Prim.Native.Nat.{ℕ, _+_, _*_, _<_, _≤_}
+use Prim.Native.Nat.{ℕ, _<_, _≤_}
 use mathlib.Core.Path.{_≡_, refl, ap, _∙_, sym, subst}
 use mathlib.Core.List.{List, []}
 use mathlib.Core.Bool.{Bool, true, false}
@@ -13,17 +13,17 @@ use Rattle.stores.proofs.Laws.{length-run}
 use Rattle.layout.specs.declared.Layout.{Layout}
 use Rattle.layout.specs.declared.Opened.{Opened}
 use Rattle.layout.specs.declared.Opened.the-variants as O
-use Rattle.layout.specs.Words.{tailWords, InRange, layoutOf, sizeOf, opened, afterOpen, ask}
+use Rattle.layout.specs.Words.{InRange, layoutOf, sizeOf, opened, afterOpen, ask}
 use Rattle.layout.proofs.Laws.{opened-open, open-opened}
 use Rattle.lists.specs.Lists.{Ordered, Sound, SoundLists, Wiped}
 use Rattle.lists.proofs.Same.{same-marked, same-layout}
 use Rattle.recovery.specs.Fits.{wrong}
-use Rattle.recovery.specs.Plan.{wipesAsked, recoverStores, fittingOf, refusalFrom, recoverOf, recoverPlan, Accepted}
+use Rattle.recovery.specs.Plan.{wipesAsked, recoverStores, mostStores, fittingOf, refusalFrom, recoverOf, recoverPlan, Accepted}
 use Rattle.recovery.proofs.Whole.{number-accepted, accepted-plan, whole-sound, whole-wiped, sound-accepted, sound-settled, ordered-wipes, few-stores}
 use Rattle.courses.proofs.Final.{final-head}
 
 -- what a plan that is not a refusal tells
-planned : (w : List ℕ) (ps : List Write) → recoverPlan w ≡ stores ps
+pub planned : (w : List ℕ) (ps : List Write) → recoverPlan w ≡ stores ps
     → (opened w ≡ O.Open (layoutOf w)) × Accepted (layoutOf w) w (fittingOf (layoutOf w) w) × (ps ≡ recoverStores (layoutOf w) w (fittingOf (layoutOf w) w))
 unfolding recoverPlan recoverOf
 planned w ps = by (opened w) refl
@@ -45,13 +45,12 @@ planned w ps = by (opened w) refl
           subst (λ (m : Layout). ps ≡ recoverStores m w (fittingOf m w)) q (a .1),
         )
 
--- "Words already right aren't stored, so recovery makes at most L + N stores." "recovery's bound grows by P × N"
-pub recover-few : (w : List ℕ) (ps : List Write) → recoverPlan w ≡ stores ps
-    → let l = layoutOf w in length ps ≤ l .lists + l .nodes + tailWords l * l .nodes
+-- a plan has no more stores than recovery may make
+pub recover-few : (w : List ℕ) (ps : List Write) → recoverPlan w ≡ stores ps → length ps ≤ mostStores (layoutOf w)
 recover-few w ps e =
     let l = layoutOf w in
     let p = planned w ps e in
-    subst (λ (qs : List Write). length qs ≤ l .lists + l .nodes + tailWords l * l .nodes) (sym (p .2)) (few-stores l w (fittingOf l w) (p .1))
+    subst (λ (qs : List Write). length qs ≤ mostStores l) (sym (p .2)) (few-stores l w (fittingOf l w) (p .1))
 
 -- a whole run leaves a sound store
 pub recover-sound : (w : List ℕ) (ps : List Write) → recoverPlan w ≡ stores ps → Sound (run ps w)

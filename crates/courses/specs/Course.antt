@@ -12,7 +12,7 @@ use Rattle.stores.specs.declared.Answer.{Answer}
 use Rattle.stores.specs.declared.Answer.the-variants as A
 use Rattle.stores.specs.Stores.{Write, applied, Plan, refuse, stores, answerOf, wordsAfter, madeBy, answerStores}
 use Rattle.layout.specs.declared.Layout.{Layout}
-use Rattle.layout.specs.Words.{headerWords, linkWords, tailWords, cellAt, layoutOf}
+use Rattle.layout.specs.Words.{headerWords, linkWords, tailWords, cellAt, identAt, countAt, layoutOf}
 use Rattle.edits.specs.Edits.{insertCentral, deleteCentral}
 use Rattle.recovery.specs.Plan.{recoverPlan}
 use Rattle.axle_store.specs.Calls.{insertPlan, severalPlan, deletePlan}
@@ -64,19 +64,25 @@ due l (delete k p) = dueOf deleteCentral (4 + tailWords l)
 abbrev pub dueWords : List ℕ → Edit → ℕ → List ℕ
 dueWords w e m = applied (allStores (editPlan w e)) (due (layoutOf w) e m) w
 
--- "in each list but the one it names, at most one word is altered, to any value": word f of cell c becomes v
+-- "in each list but the one it names, at most one word is altered, to any value": word f of cell c becomes v. Or two are, for "a list with its
+-- count and one identifier altered comes back whole": the identifier of cell c becomes v, and the count n.
 pub data Alteration : Type 0 where
   untouched : Alteration
   altered : ℕ → ℕ → ℕ → Alteration
+  both : ℕ → ℕ → ℕ → Alteration
 
-abbrev pub alter : Layout → Alteration → List ℕ → List ℕ
-alter l untouched w = w
-alter l (altered c f v) w = set w (cellAt l c + f) v
+-- in list j
+abbrev pub alter : Layout → ℕ → Alteration → List ℕ → List ℕ
+alter l j untouched w = w
+alter l j (altered c f v) w = set w (cellAt l c + f) v
+alter l j (both c v n) w = set (set w (identAt l c) v) (countAt l j) n
 
--- "one of the header's four, or a member's identifier, forward or back": of list j, whose sequence is s
+-- "one of the header's four, or a member's identifier, forward or back": of list j, whose sequence is s; with the count, the header's
+-- identifier or a member's
 abbrev pub Allowed : ℕ → List ℕ → Alteration → Type 0
 Allowed j s untouched = Unit {0}
 Allowed j s (altered c f v) = ((c ≡ j) × (f < headerWords)) ⊎ ((c ∈ s) × (f < linkWords))
+Allowed j s (both c v n) = c ∈ (j ∷ s)
 
 -- of each of the n lists but list k
 abbrev pub AllowedBut : ℕ → ℕ → (ℕ → List ℕ) → (ℕ → Alteration) → Type 0
@@ -85,7 +91,7 @@ AllowedBut k n sequence alts = (j : ℕ) → j < n → (j ≡ k → ⊥) → All
 -- the alterations of the lists below n, but not of list k
 unfoldable pub alteredBelow : Layout → ℕ → (ℕ → Alteration) → ℕ → List ℕ → List ℕ
 alteredBelow l k alts zero w = w
-alteredBelow l k alts (suc j) w = cond (eqb j k) (alteredBelow l k alts j w) (alter l (alts j) (alteredBelow l k alts j w))
+alteredBelow l k alts (suc j) w = cond (eqb j k) (alteredBelow l k alts j w) (alter l j (alts j) (alteredBelow l k alts j w))
 
 -- "That is the found store."
 abbrev pub found : List ℕ → Edit → ℕ → (ℕ → Alteration) → List ℕ

@@ -1,7 +1,7 @@
 -- Nothing interprets a record: no question, answer or store depends on a word of one, but for what recovery wipes.
 use Prim.Native.Nat.{ℕ, zero, suc, _+_, _*_, _/_, _≤_, _<_}
 use mathlib.Core.Path.{_≡_, refl, ap, _∙_, sym, subst, fun-ext}
-use mathlib.Core.List.{List, [], _∷_, _++_, map, reverse, append-nil, append-assoc, List·Memᴰ, List·Memᴰ·append-cases}
+use mathlib.Core.List.{List, [], _∷_, _++_, map, reverse, append-nil, append-assoc, List·Memᴰ, List·Memᴰ·append-cases, Memᴰ·append-left}
 use mathlib.Core.Bool.{Bool, true, false, not, _&&_}
 use mathlib.Core.Logic.{⊎-elim}
 use native.Mathlib.Omega.{arith}
@@ -21,7 +21,7 @@ use Rattle.layout.specs.declared.Opened.the-variants as O
 use Rattle.layout.specs.Words.{linkWords, tailWords, firstNode, Node, isNode, cellAt, cellWords, identAt, recordAt, isFree, layoutOf, opened, afterOpen}
 use Rattle.layout.proofs.Laws.{tail-width, opened-open}
 use Rattle.layout.proofs.Apart.{words-apart, words-header, words-node, links-words, tail-word, cell-behind}
-use Rattle.lists.specs.Lists.{asked}
+use Rattle.lists.specs.Lists.{asked, othersAsked, countAsked}
 use Rattle.lists.specs.Decide.{View, viewOf, countIn, sequenceIn, unwiped, sequenceOf}
 use Rattle.lists.proofs.Decided.{sound-lists}
 use Rattle.lists.proofs.Same.{ident-word, count-word, same-opened}
@@ -37,7 +37,7 @@ use Rattle.edits.specs.Edits.{insertLinks, insertWrites, chain}
 use Rattle.edits.proofs.Writes.{record-word}
 use Rattle.edits.proofs.Done.{looked}
 use Rattle.edits.proofs.Gaps.{freeFrom, gaps-looked, gaps-cells, gaps-words}
-use Rattle.recovery.specs.Fits.{wrong, backwardOf, fewWrong, same, fitting, fitOf}
+use Rattle.recovery.specs.Fits.{wrong, backwardOf, fewWrong, same, hasCount, fitting, fitOf}
 use Rattle.recovery.specs.Plan.{joined, outOf, nodesOut, listsAsked, clearsAsked, blanksAsked, required, recoverStores, onlyOf, fittingOf, fitNumber, refusalFrom, recoverOf, recoverPlan}
 use Rattle.recovery.proofs.Slots.{Value, ident, forward, back, count, slot}
 use Rattle.recovery.proofs.Required.{wrong-append, wrong-same}
@@ -153,8 +153,8 @@ module _ (w w′ : List ℕ) (s : SameButRecords w w′) where
       word (count e q r) = rw (e, q) (same-fourth k h)
 
   same-fit : (k : ℕ) → k < l .lists → fitOf l w′ k ≡ fitOf l w k
-  unfolding fitOf fewWrong
-  same-fit k h = λ i. fitting (few i (front i)) (few i (behind i)) (same (front i) (behind i)) (front i) (behind i)
+  unfolding fitOf fewWrong hasCount asked
+  same-fit k h = λ i. fitting (few i (front i)) (few i (behind i)) (same (front i) (behind i)) (has i (front i)) (has i (behind i)) (front i) (behind i)
     where
       front : sequenceOf l w′ k ≡ sequenceOf l w k
       front = ap (λ (v : View). sequenceIn l v k) same-view
@@ -163,7 +163,10 @@ module _ (w w′ : List ℕ) (s : SameButRecords w w′) where
       behind = ap (λ (v : View). reverse (trail (v .back) (isNode l) (l .nodes) (v .back k))) same-view
 
       few : fewWrong l w′ k ≡ fewWrong l w k
-      few = fun-ext (λ t. ap (λ (ps : List Write). leb (length ps) 1) (wrong-same w w′ (asked l k t) (same-asked k h t)))
+      few = fun-ext (λ t. ap (λ (ps : List Write). leb (length ps) 1) (wrong-same w w′ (othersAsked l k t) (λ p m. same-asked k h t p (Memᴰ·append-left (countAsked l k t) m))))
+
+      has : hasCount l w′ k ≡ hasCount l w k
+      has = fun-ext (λ t. ap (λ (n : ℕ). eqb n (length t)) (moved (count-word l k h) (same-fourth k h)))
 
   same-refusal : (k n : ℕ) → k + n ≤ l .lists → refusalFrom l w′ k n ≡ refusalFrom l w k n
   unfolding refusalFrom

@@ -20,74 +20,17 @@ use Rattle.layout.specs.Words.{Node, InRange, cellAt, identAt, layoutOf}
 use Rattle.lists.specs.Lists.{Agrees, SoundLists, Ordered, Sound}
 use Rattle.lists.proofs.Same.{ident-word, list-same}
 use Rattle.lists.proofs.Unlisted.{given-list}
-use Rattle.edits.specs.Edited.{replaced}
-use Rattle.edits.proofs.Edited.{replaced-other}
-use Rattle.recovery.specs.Fits.{wrong, Fits}
+use Rattle.recovery.specs.Fits.{wrong}
 use Rattle.recovery.specs.Plan.{joined, required, recoverPlan, Accepted, differing}
 use Rattle.recovery.proofs.Required.{wrong-one}
 use Rattle.recovery.proofs.Differing.{differing-step, differ-none, differ-some}
 use Rattle.recovery.proofs.Joined.{one-joined, joined-one}
 use Rattle.recovery.proofs.Count.{required-once}
 use Rattle.recovery.proofs.Whole.{accepted-plan, lists-accepted, sound-agrees, sound-accepted}
-use Rattle.courses.specs.Course.{Alteration, untouched, altered, alter, Allowed, AllowedBut, alteredBelow}
-use Rattle.courses.proofs.Found.{found-accepted}
+use Rattle.courses.specs.Course.{altered}
+use Rattle.courses.proofs.Altered.{list-accepted}
 use Rattle.distance.specs.Distance.{Place, header, identifier, link, Changed, PutBack}
 use Rattle.distance.proofs.Noticed.{place-asked, changed-opened, changed-required, changed-unworn}
-
--- a word of a list is altered: one alteration of demand 3, after a call that names no list
-module _ (l : Layout) (range : InRange l) (w : List ℕ) (x : SoundLists l w) (j : ℕ) (h : j < l .lists) (c f v : ℕ) (allowed : Allowed j (x .sequence j) (altered c f v)) where
-  alts : ℕ → Alteration
-  alts i = cond (eqb i j) (altered c f v) untouched
-
-  own : (i : ℕ) → i ≡ j → alts i ≡ altered c f v
-  unfolding alts
-  own i e = rw (eq-eqb i j e)
-
-  others : (i : ℕ) → (i ≡ j → ⊥) → alts i ≡ untouched
-  unfolding alts
-  others i n = rw (ne-eqb i j n)
-
-  all-allowed : AllowedBut (l .lists) (l .lists) (x .sequence) alts
-  all-allowed i g n = by (ℕ-discrete i j)
-    where
-      by : Dec (i ≡ j) → Allowed i (x .sequence i) (alts i)
-      by (yes e) = subst (Allowed i (x .sequence i)) (sym (own i e)) (subst (λ (q : ℕ). Allowed q (x .sequence q) (altered c f v)) (sym e) allowed)
-      by (no q) = subst (Allowed i (x .sequence i)) (sym (others i q)) tt
-
-  -- below list j nothing is altered, and from there on that word
-  below : (n : ℕ) → n ≤ l .lists → alteredBelow l (l .lists) alts n w ≡ cond (ltb j n) (set w (cellAt l c + f) v) w
-  unfolding alteredBelow
-  below zero g = rw (le-ltb j 0 (omega arith))
-  below (suc n) g =
-      rw (ne-eqb n (l .lists) (λ e. omega (arith, e))) (ap (alter l (alts n)) (below n (omega arith)) ∙ by (ℕ-discrete n j))
-    where
-      by : Dec (n ≡ j) → alter l (alts n) (cond (ltb j n) (set w (cellAt l c + f) v) w) ≡ cond (ltb j (suc n)) (set w (cellAt l c + f) v) w
-      by (yes e) = rw (own n e, le-ltb j n (omega arith), lt-ltb j (suc n) (omega arith))
-      by (no q) = rw (others n q, later)
-        where
-          later : ltb j (suc n) ≡ ltb j n
-          later = both (ltb j n) refl
-            where
-              both : (b : Bool) → ltb j n ≡ b → ltb j (suc n) ≡ b
-              both true z = lt-ltb j (suc n) (omega (arith, ltb-true j n z))
-              both false z = le-ltb j (suc n) (omega (arith, ltb-false j n z, q))
-
-  list-accepted : Accepted l (set w (cellAt l c + f) v) (x .sequence)
-  list-accepted =
-      record {
-        fits = λ i g. subst (Fits l (set w (cellAt l c + f) v) i) (kept i g) (found .fits i g);
-        unique = λ i g r q. found .unique i g r q ∙ kept i g;
-      }
-    where
-      found : Accepted l (set w (cellAt l c + f) v) (replaced (x .sequence) (l .lists) [])
-      found =
-          subst (λ (y : List ℕ). Accepted l y (replaced (x .sequence) (l .lists) []))
-          (below (l .lists) (omega arith) ∙ rw (lt-ltb j (l .lists) h))
-          (found-accepted l w x (l .lists) alts all-allowed range w (λ _ _ _ _ _ _ _. refl)
-          (λ i n o. inl (x .outside i n (λ k g m. o k g (λ e. omega (arith, e)) m))) [] (λ g. absurd (omega arith)))
-
-      kept : (i : ℕ) → i < l .lists → replaced (x .sequence) (l .lists) [] i ≡ x .sequence i
-      kept i g = replaced-other (x .sequence) (l .lists) [] i (λ e. omega (arith, e))
 
 -- any such word is altered; of a node in no list it is the identifier, and every list has all its words
 place-accepted : (w : List ℕ) (s : Ordered w) (a v : ℕ) → Place (layoutOf w) (s .lists .sequence) a → Accepted (layoutOf w) (set w a v) (s .lists .sequence)
@@ -105,7 +48,7 @@ place-accepted w s a v = by
     node : (i : ℕ) → Node l i → a ≡ identAt l i → (i ∈ joined sequence (l .lists)) ⊎ (i ∈ joined sequence (l .lists) → ⊥) → Accepted l (set w a v) sequence
     node i n e (inl m) =
         let k = joined-one sequence (l .lists) i m in
-        here (e ∙ ident-word l i) (list-accepted l (s .inRange) w (s .lists) (k .0) (k .1) i 0 v (inr (k .2, omega arith)))
+        here (e ∙ ident-word l i) (list-accepted l (s .inRange) w (s .lists) (k .0) (k .1) (altered i 0 v) (inr (k .2, omega arith)))
     node i n e (inr o) =
         here e
         (lists-accepted l (set w (identAt l i) v) sequence
@@ -114,8 +57,8 @@ place-accepted w s a v = by
         (given-list w s i n (λ k h m. o (one-joined sequence (l .lists) k i h m)) v k h)))
 
     by : Place l sequence a → Accepted l (set w a v) sequence
-    by (header k f h g e) = here e (list-accepted l (s .inRange) w (s .lists) k h k f v (inl (refl, g)))
-    by (link k c f h m g e) = here e (list-accepted l (s .inRange) w (s .lists) k h c f v (inr (m, g)))
+    by (header k f h g e) = here e (list-accepted l (s .inRange) w (s .lists) k h (altered k f v) (inl (refl, g)))
+    by (link k c f h m g e) = here e (list-accepted l (s .inRange) w (s .lists) k h (altered c f v) (inr (m, g)))
     by (identifier i n e) = node i n e (member? i (joined sequence (l .lists)))
 
 module _ (w : List ℕ) (s : Sound w) (w′ : List ℕ) (c : Changed w s w′) (one : differing w w′ ≡ 1) where

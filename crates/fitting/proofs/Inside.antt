@@ -7,15 +7,14 @@ use lib.Dec.{eqb}
 use Rattle.sequences.specs.Sequence.{All}
 use Rattle.sequences.proofs.Trail.{trail-inside}
 use Rattle.layout.specs.declared.Layout.{Layout}
-use Rattle.layout.specs.Words.{linkWords, identWord, forwardWord, backWord, countWord, InRange, Node, isNode, cellCount, cellAt, sizeOf, identOf}
-use Rattle.layout.proofs.Laws.{cell-header, header-fits, cell-fits}
+use Rattle.layout.specs.Words.{linkWords, identWord, forwardWord, backWord, InRange, Node, isNode, cellCount, cellAt, sizeOf, identOf}
+use Rattle.layout.proofs.Laws.{cell-fits}
 use Rattle.lists.specs.Decide.{View}
 use Rattle.lists.proofs.Unique.{all-nodes}
-use Rattle.fitting.specs.declared.Faults.{Faults}
-use Rattle.fitting.specs.declared.Faults.the-variants as F
 use Rattle.fitting.specs.declared.Fitted.the-variants as G
-use Rattle.fitting.specs.Fitting.{fault, turnFaults, othersFaults, walked, walkOf, counted, turned, choose, twoFit, fitIn}
-use Rattle.fitting.specs.Fitting.{faultIn, Each, FaultFits}
+use Rattle.fitting.specs.declared.Walk.{Walk}
+use Rattle.fitting.specs.Fitting.{areMany, fault, turnFaults, othersFaults, walked, walkOf, turned, wayOf, decides, isRival, byCount, choose, fitIn}
+use Rattle.fitting.specs.Fitting.{walkIn, Each, FaultFits}
 use Rattle.fitting.proofs.Walks.{Every, every-plus, every-fault}
 
 -- the cell and the word of a fault are the store's
@@ -23,22 +22,23 @@ abbrev Inside : Layout → ℕ → ℕ → Type 0
 Inside l c f = (c < cellCount l) × (cellAt l c + f < sizeOf l)
 
 -- what holds of both candidates' faults holds of those of the candidate that is chosen
-choose-each : {P : ℕ → ℕ → Type 0} {f g : Faults} → Every P f → Every P g → Each P (faultIn (choose f g))
-choose-each {f = F.None} p q = tt
-choose-each {P} {f = F.One c f v} {g} p q = by (eqb f backWord) g
+choose-each : {P : ℕ → ℕ → Type 0} (x y : Walk) (n : ℕ) → Every P (x .faults) → Every P (y .faults) → Each P (walkIn (choose x y n) .faults)
+choose-each {P} x y n p q = by (decides (x .faults)) (areMany (x .faults)) (areMany (y .faults)) (isRival (y .faults))
   where
-    two : (b : Bool) → Each P (faultIn (cond b G.Several (G.Forward (F.One c f v))))
-    two true = tt
-    two false = p .each
+    counts : (a b : Bool) → Each P (walkIn (byCount a b x y) .faults)
+    counts true true = tt
+    counts true false = p .each
+    counts false true = q .each
+    counts false false = tt
 
-    by : (b : Bool) (g : Faults) → Each P (faultIn (cond b (twoFit (F.One c f v) g) (G.Forward (F.One c f v))))
-    by false g = p .each
-    by true F.None = p .each
-    by true (F.One d e u) = two (eqb e forwardWord)
-    by true F.Many = p .each
-choose-each {f = F.Many} {g = F.None} p q = tt
-choose-each {f = F.Many} {g = F.One c f v} p q = q .each
-choose-each {f = F.Many} {g = F.Many} p q = tt
+    by : (d m o r : Bool)
+        → Each P (walkIn (cond d (G.Forward x) (cond m (cond o G.Nothing (G.Backward y))
+        (cond r (byCount (eqb n (x .members)) (eqb n (y .members)) x y) (G.Forward x)))) .faults)
+    by true m o r = p .each
+    by false true true r = tt
+    by false true false r = q .each
+    by false false o true = counts (eqb n (x .members)) (eqb n (y .members))
+    by false false o false = p .each
 
 -- what holds of the first three words of every cell holds of the faults of a turn round list k
 module _ (l : Layout) (P : ℕ → ℕ → Type 0) (link : (c f : ℕ) → c < cellCount l → f < linkWords → P c f)
@@ -65,17 +65,15 @@ module _ (l : Layout) (P : ℕ → ℕ → Type 0) (link : (c f : ℕ) → c < c
 
 module _ (l : Layout) (r : InRange l) where
   -- the faults of a walk of list k
-  walk-fits : (v : View) (a b k n : ℕ) → a < linkWords → b < linkWords → k < l .lists → Every (Inside l) (counted k n (walkOf l v a b k))
-  walk-fits v a b k n ha hb hk =
+  walk-fits : (v : View) (a b k : ℕ) → a < linkWords → b < linkWords → k < l .lists → Every (Inside l) (walkOf l v a b k .faults)
+  walk-fits v a b k ha hb hk =
       let s = walked l v k in
       let t = all-nodes l s (trail-inside (v .forward) (isNode l) (l .nodes) (v .forward k)) in
-      let o : cellAt l k + countWord < sizeOf l = omega (arith, cell-header l k hk, header-fits l k hk) in
-      every-plus (others-every l (Inside l) (λ c f h g. (h, omega (arith, cell-fits l c r h))) v a b k ha hb hk s t)
-      (every-fault n k countWord (walkOf l v a b k .members) (omega arith, o))
+      others-every l (Inside l) (λ c f h g. (h, omega (arith, cell-fits l c r h))) v a b k ha hb hk s t
 
   -- so the mend of list k is a word of the store
-  pub fit-fits : (v : View) (k n : ℕ) → k < l .lists → FaultFits l (faultIn (fitIn l v k n))
+  pub fit-fits : (v : View) (k n : ℕ) → k < l .lists → FaultFits l (walkIn (fitIn l v k n) .faults)
   unfolding fitIn
   fit-fits v k n h =
-      choose-each (walk-fits v forwardWord backWord k n (omega arith) (omega arith) h)
-      (walk-fits (turned v) backWord forwardWord k n (omega arith) (omega arith) h)
+      choose-each (wayOf l v false k) (wayOf l v true k) n (walk-fits v forwardWord backWord k (omega arith) (omega arith) h)
+      (walk-fits (turned v) backWord forwardWord k (omega arith) (omega arith) h)

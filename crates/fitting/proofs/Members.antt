@@ -1,22 +1,17 @@
--- What one fault at most tells of the members: how many they are, and whether each is in use by its identifier.
+-- What one fault at most tells of the members: whether each is in use by its identifier.
 use Prim.Native.Nat.{ℕ, _<_}
 use mathlib.Core.Path.{_≡_, refl, ap, _∙_, sym, subst}
 use mathlib.Core.List.{List, _∷_, List·Memᴰ·head, List·Memᴰ·tail}
-use mathlib.Core.Bool.{Bool, true, false, cond}
-use native.Mathlib.Omega.{arith}
-use lib.Dec.{eqb}
-use lib.ListN.{length}
-use borrow.Author.Tests.{eq-eqb, ne-eqb, eqb-true}
-use Rattle.sequences.specs.Sequence.{_∈_, All}
-use Rattle.layout.specs.declared.Layout.{Layout}
-use Rattle.layout.specs.Words.{linkWords, identWord, forwardWord, backWord, countWord, mostLists, Node, identOf, Unlisted}
+use mathlib.Core.Bool.{true}
+use borrow.Author.Tests.{eq-eqb}
+use Rattle.sequences.specs.Sequence.{_∈_}
+use Rattle.layout.specs.Words.{identWord, forwardWord, backWord, mostLists, identOf, Unlisted}
 use Rattle.lists.specs.Decide.{View}
 use Rattle.lists.proofs.Nodes.{in-use, ident-used}
 use Rattle.fitting.specs.declared.Faults.{Faults}
 use Rattle.fitting.specs.declared.Faults.the-variants as F
-use Rattle.fitting.specs.Fitting.{plus, fault, turnFaults, othersFaults, faultsOf, lengthBy, carries, Each}
+use Rattle.fitting.specs.Fitting.{plus, fault, turnFaults, othersFaults, carries}
 use Rattle.fitting.proofs.Walks.{one-fault}
-use Rattle.fitting.proofs.Inside.{others-every}
 use Rattle.fitting.proofs.Told.{plus-comm, Few}
 
 -- word f of cell c is among the faults
@@ -47,37 +42,16 @@ turn-has v a b k x (z ∷ s) y (List·Memᴰ·tail m) n =
     (has-right y identWord (fault (v .ident z) z identWord (identOf k)) _
     (has-right y identWord (fault (v .back z) z b x) (turnFaults v a b k z s) (turn-has v a b k z s y m n)))
 
--- one fault at most tells the number of members, ..
-counted : (f : Faults) (n k m : ℕ) → Each (λ c g. g < linkWords) f → Few (plus f (fault n k countWord m)) → lengthBy (plus f (fault n k countWord m)) n ≡ m
-counted f n k m low few = by (eqb n m) refl f low few
-  where
-    by : (b : Bool) → eqb n m ≡ b → (f : Faults) → Each (λ c g. g < linkWords) f → Few (plus f (cond b F.None (F.One k countWord m)))
-        → lengthBy (plus f (cond b F.None (F.One k countWord m))) n ≡ m
-    by true e F.None low few = eqb-true n m e
-    by true e (F.One c g v) low few = rw (ne-eqb g countWord (λ q. omega (arith, q))) (eqb-true n m e)
-    by true e F.Many low few = absurd few
-    by false e F.None low few = refl
-    by false e (F.One c g v) low few = absurd few
-    by false e F.Many low few = absurd few
-
-pub members-number : (l : Layout) (v : View) (k n : ℕ) (s : List ℕ) → k < l .lists → All (Node l) s → Few (faultsOf v forwardWord backWord k n s)
-    → lengthBy (faultsOf v forwardWord backWord k n s) n ≡ length s
-unfolding othersFaults
-members-number l v k n s h nodes few =
-    counted (othersFaults v forwardWord backWord k s) n k (length s)
-    (others-every l (λ c g. g < linkWords) (λ c g _ q. q) v forwardWord backWord k (omega arith) (omega arith) h s nodes .each) few
-
--- .. and that all carry an identifier that says in use, unless one is wrong that does not
-pub members-carry : (v : View) (k n : ℕ) (s : List ℕ) → Few (faultsOf v forwardWord backWord k n s) → carries (v .ident) (faultsOf v forwardWord backWord k n s) ≡ true
+-- all carry an identifier that says in use, unless one is wrong that does not
+pub members-carry : (v : View) (k : ℕ) (s : List ℕ) → Few (othersFaults v forwardWord backWord k s) → carries (v .ident) (othersFaults v forwardWord backWord k s) ≡ true
     → k < mostLists → (x : ℕ) → x ∈ s → Unlisted (v .ident x) → ⊥
 unfolding othersFaults
-members-carry v k n s few c h x m z = by (faultsOf v forwardWord backWord k n s) has few c
+members-carry v k s few c h x m z = by (othersFaults v forwardWord backWord k s) has few c
   where
-    has : Has x identWord (faultsOf v forwardWord backWord k n s)
+    has : Has x identWord (othersFaults v forwardWord backWord k s)
     has =
-        has-left x identWord (othersFaults v forwardWord backWord k s) (fault n k countWord (length s))
-        (has-right x identWord (fault (v .ident k) k identWord (identOf k)) (turnFaults v forwardWord backWord k k s)
-        (turn-has v forwardWord backWord k k s x m (λ e. ident-used h e z)))
+        has-right x identWord (fault (v .ident k) k identWord (identOf k)) (turnFaults v forwardWord backWord k k s)
+        (turn-has v forwardWord backWord k k s x m (λ e. ident-used h e z))
 
     by : (f : Faults) → Has x identWord f → Few f → carries (v .ident) f ≡ true → ⊥
     by F.None p few c = p

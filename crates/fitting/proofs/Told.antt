@@ -1,4 +1,4 @@
--- The sums of the faults of the two candidates decide which of them fit, as the words themselves do.
+-- The sums of the faults of the two candidates and their lengths decide which of them is chosen, as the words themselves do.
 use Prim.Native.Nat.{ℕ, _+_, _<_, _≤_}
 use mathlib.Core.Path.{_≡_, refl, ap, ap₂, _∙_, sym, subst}
 use mathlib.Core.List.{List, [], _∷_, _++_, map, reverse, reverse-cons}
@@ -6,26 +6,28 @@ use mathlib.Core.Bool.{Bool, true, false, true≢false}
 use native.Mathlib.Omega.{arith}
 use lib.Dec.{eqb}
 use lib.ListN.{length, getD, length-append, length-reverse}
-use borrow.Author.Tests.{eqb-true, leb-true, leb-false}
+use borrow.Author.Tests.{eqb-true, ne-eqb, not-false, leb-true, leb-false}
 use Rattle.sequences.specs.Sequence.{_∈_, Step, steps}
 use Rattle.sequences.proofs.Reversed.{in-reverse, reverse-in}
 use Rattle.stores.specs.Stores.{Write, write}
 use Rattle.layout.specs.declared.Layout.{Layout}
-use Rattle.layout.specs.Words.{identWord, forwardWord, backWord, countWord, cellAt, identAt, forwardAt, backAt, countAt, identOf}
-use Rattle.lists.specs.Lists.{asked, identsAsked, forwardsAsked, backsAsked, countAsked, othersAsked}
+use Rattle.layout.specs.Words.{identWord, forwardWord, backWord, cellAt, identAt, forwardAt, backAt, identOf}
+use Rattle.lists.specs.Lists.{identsAsked, forwardsAsked, backsAsked, othersAsked}
 use Rattle.lists.specs.Decide.{View, viewOf, countIn, sequenceOf}
-use Rattle.lists.proofs.Same.{ident-word, count-word}
-use Rattle.recovery.specs.Fits.{wrong, backwardOf, fewWrong, same, none, only, several, fitting, fitOf}
+use Rattle.lists.proofs.Same.{ident-word}
+use Rattle.recovery.specs.Fits.{wrong, backwardOf, fewWrong, same, hasCount, none, only, several, fitting, fitOf}
+use Rattle.recovery.specs.Fits as W
 use Rattle.recovery.specs.Plan.{fittingOf}
 use Rattle.recovery.proofs.Required.{wrong-append}
-use Rattle.recovery.proofs.Candidates.{same-yes, same-refl, wrong-parts, few-fits, forward-candidate, back-candidate, forward-nodes, back-nodes}
+use Rattle.recovery.proofs.Candidates.{same-yes, same-refl, wrong-others, few-fits, forward-candidate, back-candidate, forward-nodes, back-nodes}
 use Rattle.fitting.specs.declared.Faults.{Faults}
 use Rattle.fitting.specs.declared.Faults.the-variants as F
 use Rattle.fitting.specs.declared.Fitted.{Fitted}
 use Rattle.fitting.specs.declared.Fitted.the-variants as G
-use Rattle.fitting.specs.Fitting.{plus, fault, turnFaults, othersFaults, faultsOf, walked, turned, choose, fitIn}
-use Rattle.fitting.specs.Fitting.{mendOf, numberOf, faultIn, isBackward, membersBy}
-use Rattle.fitting.proofs.Walks.{plus-none, plus-assoc, counted-walk, Every, every-plus, every-fault}
+use Rattle.fitting.specs.declared.Walk.{Walk}
+use Rattle.fitting.specs.Fitting.{plus, fault, areMany, turnFaults, othersFaults, walked, walkWith, turned, decides, isRival, byCount, choose, fitIn}
+use Rattle.fitting.specs.Fitting.{mendOf, numberOf, walkIn, isBackward, membersBy}
+use Rattle.fitting.proofs.Walks.{plus-none, plus-assoc, decided-alone, Every, every-plus, every-fault}
 
 -- f sums up these wrong words
 abbrev pub Summed : Layout → Faults → List Write → Type 0
@@ -111,17 +113,10 @@ turn-sorted v a b k x (y ∷ s) =
         ∙ sym (plus-assoc i is (plus (plus f fs) (plus g gs)))
 
 -- the faults in the order in which the words are asked
-others-sorted : (v : View) (a b k : ℕ) (s : List ℕ)
+pub others-sorted : (v : View) (a b k : ℕ) (s : List ℕ)
     → othersFaults v a b k s ≡ plus (identFaults v k (k ∷ s)) (plus (onwardFaults v a (steps k s k)) (backFaults v b (steps k s k)))
 unfolding othersFaults sumAll
 others-sorted v a b k s = rw (turn-sorted v a b k k s, plus-assoc)
-
-pub faults-sorted
-    : (v : View) (a b k n : ℕ) (s : List ℕ)
-    → faultsOf v a b k n s
-    ≡ plus (identFaults v k (k ∷ s)) (plus (onwardFaults v a (steps k s k)) (plus (backFaults v b (steps k s k)) (fault n k countWord (length s))))
-faults-sorted v a b k n s =
-    rw (others-sorted v a b k s, plus-assoc, plus-assoc)
 
 -- the same of the words of a store, kind by kind
 module _ (l : Layout) (w : List ℕ) (k : ℕ) (s : List ℕ) where
@@ -134,15 +129,12 @@ module _ (l : Layout) (w : List ℕ) (k : ℕ) (s : List ℕ) where
   abbrev pub backSum : Faults
   backSum = backFaults (viewOf l w) backWord (steps k s k)
 
-  abbrev pub countSum : Faults
-  countSum = fault (countIn l w k) k countWord (length s)
-
   abbrev pub faultSum : Faults
-  faultSum = faultsOf (viewOf l w) forwardWord backWord k (countIn l w k) s
+  faultSum = othersFaults (viewOf l w) forwardWord backWord k s
 
   -- sorted as they are asked
-  pub sum-sorted : faultSum ≡ plus identSum (plus onwardSum (plus backSum countSum))
-  sum-sorted = faults-sorted (viewOf l w) forwardWord backWord k (countIn l w k) s
+  pub sum-sorted : faultSum ≡ plus identSum (plus onwardSum backSum)
+  sum-sorted = others-sorted (viewOf l w) forwardWord backWord k s
 
   -- each kind sums up its wrong words
   pub summed-idents : Summed l identSum (wrong w (identsAsked l k s))
@@ -162,18 +154,12 @@ module _ (l : Layout) (w : List ℕ) (k : ℕ) (s : List ℕ) where
       (λ (p : Step). write (backAt l (p .target)) (p .source))
       (λ p. summed-fault l w (p .target) backWord (p .source) (backAt l (p .target)) refl) (steps k s k)
 
-  pub summed-count : k < l .lists → Summed l countSum (wrong w (countAsked l k s))
-  summed-count h = summed-fault l w k countWord (length s) (countAt l k) (count-word l k h)
-
-  -- and all sum up all
-  pub summed-forward : k < l .lists → Summed l faultSum (wrong w (asked l k s))
-  unfolding asked
-  summed-forward h =
-      subst (λ (f : Faults). Summed l f (wrong w (asked l k s)))
-      (plus-assoc identSum (plus onwardSum backSum) countSum ∙ ap (plus identSum) (plus-assoc onwardSum backSum countSum) ∙ sym sum-sorted)
-      (both (plus identSum (plus onwardSum backSum)) countSum (othersAsked l k s) (countAsked l k s)
+  -- and all sum up all but the count
+  pub summed-others : Summed l faultSum (wrong w (othersAsked l k s))
+  summed-others =
+      subst (λ (f : Faults). Summed l f (wrong w (othersAsked l k s))) (sym sum-sorted)
       (both identSum (plus onwardSum backSum) (identsAsked l k s) (forwardsAsked l k s ++ backsAsked l k s) summed-idents
-      (both onwardSum backSum (forwardsAsked l k s) (backsAsked l k s) summed-onward summed-back)) (summed-count h))
+      (both onwardSum backSum (forwardsAsked l k s) (backsAsked l k s) summed-onward summed-back))
     where
       both : (f g : Faults) (ps qs : List Write) → Summed l f (wrong w ps) → Summed l g (wrong w qs)
           → Summed l (plus f g) (wrong w (ps ++ qs))
@@ -207,26 +193,23 @@ sum-steps g x (y ∷ s) z =
     ∙ ap (plus (g (record { source = y; target = x }))) (sum-steps g y s z)
 
 -- the faults of the view the other way round are those of the reversed sequence
-pub turned-faults : (v : View) (a b k n : ℕ) (t : List ℕ) → faultsOf (turned v) b a k n t ≡ faultsOf v a b k n (reverse t)
+pub turned-faults : (v : View) (a b k : ℕ) (t : List ℕ) → othersFaults (turned v) b a k t ≡ othersFaults v a b k (reverse t)
 unfolding sumAll
-turned-faults v a b k n t =
-    faults-sorted (turned v) b a k n t
-    ∙ sym (faults-sorted v a b k n (reverse t) ∙ same)
+turned-faults v a b k t =
+    others-sorted (turned v) b a k t
+    ∙ sym (others-sorted v a b k (reverse t) ∙ same)
   where
     same
-        : plus (identFaults v k (k ∷ reverse t))
-        (plus (onwardFaults v a (steps k (reverse t) k)) (plus (backFaults v b (steps k (reverse t) k)) (fault n k countWord (length (reverse t)))))
-        ≡ plus (identFaults v k (k ∷ t))
-        (plus (onwardFaults (turned v) b (steps k t k)) (plus (backFaults (turned v) a (steps k t k)) (fault n k countWord (length t))))
+        : plus (identFaults v k (k ∷ reverse t)) (plus (onwardFaults v a (steps k (reverse t) k)) (backFaults v b (steps k (reverse t) k)))
+        ≡ plus (identFaults v k (k ∷ t)) (plus (onwardFaults (turned v) b (steps k t k)) (backFaults (turned v) a (steps k t k)))
     same =
         rw (
           sum-reverse (λ (y : ℕ). fault (v .ident y) y identWord (identOf k)) t,
           sum-steps (λ (p : Step). fault (v .forward (p .source)) (p .source) a (p .target)) k t k,
           sum-steps (λ (p : Step). fault (v .back (p .target)) (p .target) b (p .source)) k t k,
-          length-reverse t,
         )
         (ap (plus (identFaults v k (k ∷ t)))
-        (plus-swap (backFaults (turned v) a (steps k t k)) (onwardFaults (turned v) b (steps k t k)) (fault n k countWord (length t))))
+        (plus-comm (backFaults (turned v) a (steps k t k)) (onwardFaults (turned v) b (steps k t k))))
 
 -- what a sum says of its words: none of them, its mend, or more than one
 summed-none : (l : Layout) (f : Faults) (ps : List Write) → Summed l f ps → length ps ≡ 0 → f ≡ F.None
@@ -255,30 +238,38 @@ few-summed l F.None ps p e = tt
 few-summed l (F.One c f v) ps p e = tt
 few-summed l F.Many ps p e = absurd (omega arith)
 
--- the choice between two candidates that are one, and where only one fits
-choose-same : (f : Faults) → Few f → choose f f ≡ G.Forward f
-choose-same F.None h = refl
-choose-same (F.One c f v) h = by (eqb f backWord) refl (eqb f forwardWord) refl
-  where
-    by : (a : Bool) → eqb f backWord ≡ a → (b : Bool) → eqb f forwardWord ≡ b → choose (F.One c f v) (F.One c f v) ≡ G.Forward (F.One c f v)
-    by true p true q = absurd (omega (arith, eqb-true f backWord p, eqb-true f forwardWord q))
-    by true p false q = rw (p, q)
-    by false p b q = rw p
-choose-same F.Many h = absurd h
+-- faults that are few are not many
+few-not : (f : Faults) → Few f → areMany f ≡ false
+few-not F.None h = refl
+few-not (F.One c f v) h = refl
+few-not F.Many h = absurd h
 
-choose-first : (f : Faults) → Few f → choose f F.Many ≡ G.Forward f
-choose-first F.None h = refl
-choose-first (F.One c f v) h = by (eqb f backWord) refl
+-- the choice between two candidates that are one: a wrong back link is no wrong forward link
+choose-same : (x : Walk) (n : ℕ) → Few (x .faults) → choose x x n ≡ G.Forward x
+choose-same x n h = by (decides (x .faults)) refl
   where
-    by : (a : Bool) → eqb f backWord ≡ a → choose (F.One c f v) F.Many ≡ G.Forward (F.One c f v)
-    by true p = rw p
-    by false p = rw p
-choose-first F.Many h = absurd h
+    no-rival : (f : Faults) → decides f ≡ false → isRival f ≡ false
+    no-rival F.None e = refl
+    no-rival (F.One c f v) e = let b : f ≡ 2 = eqb-true f backWord (not-false _ e) in ne-eqb f forwardWord (λ q. omega (arith, q, b))
+    no-rival F.Many e = refl
 
-choose-second : (f : Faults) → Few f → choose F.Many f ≡ G.Backward f
-choose-second F.None h = refl
-choose-second (F.One c f v) h = refl
-choose-second F.Many h = absurd h
+    by : (b : Bool) → decides (x .faults) ≡ b → choose x x n ≡ G.Forward x
+    by true e = decided-alone x x n e
+    by false e = rw (e, few-not (x .faults) h, no-rival (x .faults) e)
+
+-- and where only one fits
+choose-first : (x y : Walk) (n : ℕ) → Few (x .faults) → y .faults ≡ F.Many → choose x y n ≡ G.Forward x
+choose-first x y n h e = by (decides (x .faults)) refl
+  where
+    by : (b : Bool) → decides (x .faults) ≡ b → choose x y n ≡ G.Forward x
+    by true d = decided-alone x y n d
+    by false d = rw (d, few-not (x .faults) h, e)
+
+choose-second : (x y : Walk) (n : ℕ) → x .faults ≡ F.Many → Few (y .faults) → choose x y n ≡ G.Backward y
+choose-second x y n e h = rw (e, few-not (y .faults) h)
+
+choose-none : (x y : Walk) (n : ℕ) → x .faults ≡ F.Many → y .faults ≡ F.Many → choose x y n ≡ G.Nothing
+choose-none x y n e h = rw (e, h)
 
 -- all faults are of word b
 abbrev OfWord : ℕ → ℕ → ℕ → Type 0
@@ -299,34 +290,44 @@ one-summed l b F.None ps q p n e = absurd (n (ap length p))
 one-summed l b (F.One c f v) ps q p n e = (c, v, ap (λ (x : ℕ). F.One c x v) (q .each))
 one-summed l b F.Many ps q p n e = absurd (omega arith)
 
--- only s fits, and f are its faults
-abbrev Chosen : Layout → List ℕ → ℕ → List ℕ → Faults → Type 0
-Chosen l w k s f = (fitOf l w k ≡ only s) × (mendOf l f ≡ wrong w (asked l k s)) × (f ≡ faultSum l w k s)
+-- the walk through s, as it is found
+abbrev pub walkSum : Layout → List ℕ → ℕ → List ℕ → Walk
+walkSum l w k s = walkWith (faultSum l w k s) (length s)
 
--- what the decision from the columns says of the decision on the words
+-- s is chosen, and x has its faults and its length
+abbrev Taken : Layout → List ℕ → ℕ → List ℕ → Walk → Type 0
+Taken l w k s x =
+    (fitOf l w k ≡ only s) × (mendOf l (x .faults) ≡ wrong w (othersAsked l k s)) × (x .faults ≡ faultSum l w k s) × (x .members ≡ length s)
+
+-- what the decision by the walks says of the decision on the words
 abbrev pub Told : Layout → List ℕ → ℕ → Fitted → Type 0
 Told l w k G.Nothing = fitOf l w k ≡ none
 Told l w k G.Several = fitOf l w k ≡ several
-Told l w k (G.Forward f) = Chosen l w k (sequenceOf l w k) f
-Told l w k (G.Backward f) = Chosen l w k (backwardOf l w k) f
+Told l w k (G.Forward x) = Taken l w k (sequenceOf l w k) x
+Told l w k (G.Backward x) = Taken l w k (backwardOf l w k) x
 
 module _ (l : Layout) (w : List ℕ) (k : ℕ) (h : k < l .lists) where
-  -- with at most one wrong word, a wrong back link is the only fault, and so is a wrong forward link
+  -- the two candidates
+  abbrev Ahead : List ℕ
+  Ahead = sequenceOf l w k
+
+  abbrev Behind : List ℕ
+  Behind = backwardOf l w k
+
+  -- with at most one wrong word beside the count, a wrong back link is the only fault, and so is a wrong forward link
   back-only
-      : (s : List ℕ) → length (wrong w (asked l k s)) ≤ 1 → (length (wrong w (backsAsked l k s)) ≡ 0 → ⊥)
+      : (s : List ℕ) → length (wrong w (othersAsked l k s)) ≤ 1 → (length (wrong w (backsAsked l k s)) ≡ 0 → ⊥)
       → OneOf backWord (faultSum l w k s)
   back-only s f n =
-      let i : length (wrong w (identsAsked l k s)) ≡ 0 = omega (arith, wrong-parts l w k s) in
-      let o : length (wrong w (forwardsAsked l k s)) ≡ 0 = omega (arith, wrong-parts l w k s) in
-      let c : length (wrong w (countAsked l k s)) ≡ 0 = omega (arith, wrong-parts l w k s) in
-      let b : length (wrong w (backsAsked l k s)) ≤ 1 = omega (arith, wrong-parts l w k s) in
+      let i : length (wrong w (identsAsked l k s)) ≡ 0 = omega (arith, wrong-others l w k s) in
+      let o : length (wrong w (forwardsAsked l k s)) ≡ 0 = omega (arith, wrong-others l w k s) in
+      let b : length (wrong w (backsAsked l k s)) ≤ 1 = omega (arith, wrong-others l w k s) in
       let e : faultSum l w k s ≡ backSum l w k s =
       sum-sorted l w k s
       ∙ rw (
         summed-none l (identSum l w k s) _ (summed-idents l w k s) i,
         summed-none l (onwardSum l w k s) _ (summed-onward l w k s) o,
-        summed-none l (countSum l w k s) _ (summed-count l w k s h) c,
-      ) (plus-none (backSum l w k s)) in
+      ) in
       subst (OneOf backWord) (sym e)
       (one-summed l backWord (backSum l w k s) (wrong w (backsAsked l k s))
       (word-sum backWord (λ (p : Step). fault (viewOf l w .back (p .target)) (p .target) backWord (p .source))
@@ -334,19 +335,17 @@ module _ (l : Layout) (w : List ℕ) (k : ℕ) (h : k < l .lists) where
       (summed-back l w k s) n b)
 
   onward-only
-      : (s : List ℕ) → length (wrong w (asked l k s)) ≤ 1 → (length (wrong w (forwardsAsked l k s)) ≡ 0 → ⊥)
+      : (s : List ℕ) → length (wrong w (othersAsked l k s)) ≤ 1 → (length (wrong w (forwardsAsked l k s)) ≡ 0 → ⊥)
       → OneOf forwardWord (faultSum l w k s)
   onward-only s f n =
-      let i : length (wrong w (identsAsked l k s)) ≡ 0 = omega (arith, wrong-parts l w k s) in
-      let o : length (wrong w (backsAsked l k s)) ≡ 0 = omega (arith, wrong-parts l w k s) in
-      let c : length (wrong w (countAsked l k s)) ≡ 0 = omega (arith, wrong-parts l w k s) in
-      let b : length (wrong w (forwardsAsked l k s)) ≤ 1 = omega (arith, wrong-parts l w k s) in
+      let i : length (wrong w (identsAsked l k s)) ≡ 0 = omega (arith, wrong-others l w k s) in
+      let o : length (wrong w (backsAsked l k s)) ≡ 0 = omega (arith, wrong-others l w k s) in
+      let b : length (wrong w (forwardsAsked l k s)) ≤ 1 = omega (arith, wrong-others l w k s) in
       let e : faultSum l w k s ≡ onwardSum l w k s =
       sum-sorted l w k s
       ∙ rw (
         summed-none l (identSum l w k s) _ (summed-idents l w k s) i,
         summed-none l (backSum l w k s) _ (summed-back l w k s) o,
-        summed-none l (countSum l w k s) _ (summed-count l w k s h) c,
       ) (plus-none (onwardSum l w k s)) in
       subst (OneOf forwardWord) (sym e)
       (one-summed l forwardWord (onwardSum l w k s) (wrong w (forwardsAsked l k s))
@@ -355,80 +354,93 @@ module _ (l : Layout) (w : List ℕ) (k : ℕ) (h : k < l .lists) where
       (summed-onward l w k s) n b)
 
   -- a candidate that fits has at most one fault, which its mend mends; one that does not has many
-  few-yes : (s : List ℕ) → fewWrong l w k s ≡ true → length (wrong w (asked l k s)) ≤ 1
+  few-yes : (s : List ℕ) → fewWrong l w k s ≡ true → length (wrong w (othersAsked l k s)) ≤ 1
   unfolding fewWrong
   few-yes s e = leb-true _ _ e
 
   many-no : (s : List ℕ) → fewWrong l w k s ≡ false → faultSum l w k s ≡ F.Many
   unfolding fewWrong
   many-no s e =
-      summed-many l (faultSum l w k s) (wrong w (asked l k s)) (summed-forward l w k s h)
-      (λ f. omega (arith, leb-false (length (wrong w (asked l k s))) 1 e))
+      summed-many l (faultSum l w k s) (wrong w (othersAsked l k s)) (summed-others l w k s)
+      (λ f. omega (arith, leb-false (length (wrong w (othersAsked l k s))) 1 e))
 
   few-yes-sum : (s : List ℕ) → fewWrong l w k s ≡ true → Few (faultSum l w k s)
-  few-yes-sum s e = few-summed l (faultSum l w k s) (wrong w (asked l k s)) (summed-forward l w k s h) (few-yes s e)
+  few-yes-sum s e = few-summed l (faultSum l w k s) (wrong w (othersAsked l k s)) (summed-others l w k s) (few-yes s e)
 
-  mend-yes : (s : List ℕ) → fewWrong l w k s ≡ true → mendOf l (faultSum l w k s) ≡ wrong w (asked l k s)
-  mend-yes s e = summed-few l (faultSum l w k s) (wrong w (asked l k s)) (summed-forward l w k s h) (few-yes s e)
+  -- so, if it is chosen, its walk is
+  taken : (s : List ℕ) → fewWrong l w k s ≡ true → fitOf l w k ≡ only s → Taken l w k s (walkSum l w k s)
+  taken s e q = (
+    q,
+    summed-few l (faultSum l w k s) (wrong w (othersAsked l k s)) (summed-others l w k s) (few-yes s e),
+    refl,
+    rw (few-not (faultSum l w k s) (few-yes-sum s e)),
+  )
 
-  -- the decision on the words, by its three questions
-  fit-by : (a b c : Bool) → fewWrong l w k (sequenceOf l w k) ≡ a → fewWrong l w k (backwardOf l w k) ≡ b
-      → same (sequenceOf l w k) (backwardOf l w k) ≡ c → fitOf l w k ≡ fitting a b c (sequenceOf l w k) (backwardOf l w k)
+  -- the decision on the words, by its questions
+  fit-by : (a b c m n : Bool) → fewWrong l w k Ahead ≡ a → fewWrong l w k Behind ≡ b → same Ahead Behind ≡ c → hasCount l w k Ahead ≡ m → hasCount l w k Behind ≡ n
+      → fitOf l w k ≡ fitting a b c m n Ahead Behind
   unfolding fitOf
-  fit-by a b c p q e = rw (p, q, e)
+  fit-by a b c m n p q e x y = rw (p, q, e, x, y)
+
+  -- both decisions where two fit: the count decides
+  two-told : (p : fewWrong l w k Ahead ≡ true) (q : fewWrong l w k Behind ≡ true) → same Ahead Behind ≡ false → (m n : Bool) → hasCount l w k Ahead ≡ m → hasCount l w k Behind ≡ n
+      → Told l w k (choose (walkSum l w k Ahead) (walkSum l w k Behind) (countIn l w k))
+  unfolding hasCount
+  two-told p q e m n x y =
+      subst (Told l w k) (sym both) (by m n (fit-by true true false m n p q e x y))
+    where
+      apart : Ahead ≡ Behind → ⊥
+      apart d = true≢false (sym (same-refl Ahead) ∙ ap (same Ahead) d ∙ e)
+
+      first : OneOf backWord (faultSum l w k Ahead)
+      first =
+          back-only Ahead (few-yes Ahead p)
+          (λ z. apart (sym (back-candidate l w k h Ahead (few-fits l w k Ahead h (forward-nodes l w k h) (few-yes Ahead p)) z)))
+
+      second : OneOf forwardWord (faultSum l w k Behind)
+      second =
+          onward-only Behind (few-yes Behind q)
+          (λ z. apart (forward-candidate l w k h Behind (few-fits l w k Behind h (back-nodes l w k h) (few-yes Behind q)) z))
+
+      both : choose (walkSum l w k Ahead) (walkSum l w k Behind) (countIn l w k) ≡ byCount m n (walkSum l w k Ahead) (walkSum l w k Behind)
+      both = rw (first .2, second .2, x, y)
+
+      by : (m n : Bool) → fitOf l w k ≡ W.byCount m n Ahead Behind → Told l w k (byCount m n (walkSum l w k Ahead) (walkSum l w k Behind))
+      by true true z = z
+      by true false z = taken Ahead p z
+      by false true z = taken Behind q z
+      by false false z = z
 
   -- both decisions side by side, case by case
-  told-by : Told l w k (choose (faultSum l w k (sequenceOf l w k)) (faultSum l w k (backwardOf l w k)))
+  told-by : Told l w k (choose (walkSum l w k Ahead) (walkSum l w k Behind) (countIn l w k))
   told-by =
-      by (fewWrong l w k (sequenceOf l w k)) refl (fewWrong l w k (backwardOf l w k)) refl (same (sequenceOf l w k) (backwardOf l w k)) refl
+      by (fewWrong l w k Ahead) refl (fewWrong l w k Behind) refl (same Ahead Behind) refl (hasCount l w k Ahead) refl (hasCount l w k Behind) refl
     where
-      by : (a : Bool) → fewWrong l w k (sequenceOf l w k) ≡ a → (b : Bool) → fewWrong l w k (backwardOf l w k) ≡ b
-          → (c : Bool) → same (sequenceOf l w k) (backwardOf l w k) ≡ c
-          → Told l w k (choose (faultSum l w k (sequenceOf l w k)) (faultSum l w k (backwardOf l w k)))
-      by true p true q true e =
+      by : (a : Bool) → fewWrong l w k Ahead ≡ a → (b : Bool) → fewWrong l w k Behind ≡ b → (c : Bool) → same Ahead Behind ≡ c
+          → (m : Bool) → hasCount l w k Ahead ≡ m → (n : Bool) → hasCount l w k Behind ≡ n
+          → Told l w k (choose (walkSum l w k Ahead) (walkSum l w k Behind) (countIn l w k))
+      by true p true q true e m x n y =
           subst (Told l w k)
-          (sym (ap (λ (s : List ℕ). choose (faultSum l w k (sequenceOf l w k)) (faultSum l w k s))
-          (sym (same-yes (sequenceOf l w k) (backwardOf l w k) e))
-          ∙ choose-same (faultSum l w k (sequenceOf l w k)) (few-yes-sum (sequenceOf l w k) p)))
-          (fit-by true true true p q e, mend-yes (sequenceOf l w k) p, refl)
-      by true p true q false e =
-          let n : sequenceOf l w k ≡ backwardOf l w k → ⊥ =
-          λ d. true≢false (sym (same-refl (sequenceOf l w k)) ∙ ap (same (sequenceOf l w k)) d ∙ e) in
-          let x = back-only (sequenceOf l w k) (few-yes (sequenceOf l w k) p)
-          (λ z. n (sym (back-candidate l w k h (sequenceOf l w k)
-          (few-fits l w k (sequenceOf l w k) h (forward-nodes l w k h) (few-yes (sequenceOf l w k) p)) z))) in
-          let y = onward-only (backwardOf l w k) (few-yes (backwardOf l w k) q)
-          (λ z. n (forward-candidate l w k h (backwardOf l w k)
-          (few-fits l w k (backwardOf l w k) h (back-nodes l w k h) (few-yes (backwardOf l w k) q)) z)) in
-          subst (Told l w k)
-          (sym (ap (λ (f : Faults). choose f (faultSum l w k (backwardOf l w k))) (x .2)
-          ∙ ap (choose (F.One (x .0) 2 (x .1))) (y .2)))
-          (fit-by true true false p q e)
-      by true p false q c e =
-          subst (Told l w k)
-          (sym (ap (choose (faultSum l w k (sequenceOf l w k))) (many-no (backwardOf l w k) q)
-          ∙ choose-first (faultSum l w k (sequenceOf l w k)) (few-yes-sum (sequenceOf l w k) p)))
-          (fit-by true false c p q e, mend-yes (sequenceOf l w k) p, refl)
-      by false p true q c e =
-          subst (Told l w k)
-          (sym (ap (λ (f : Faults). choose f (faultSum l w k (backwardOf l w k))) (many-no (sequenceOf l w k) p)
-          ∙ choose-second (faultSum l w k (backwardOf l w k)) (few-yes-sum (backwardOf l w k) q)))
-          (fit-by false true c p q e, mend-yes (backwardOf l w k) q, refl)
-      by false p false q c e =
-          subst (Told l w k)
-          (sym (ap (λ (f : Faults). choose f (faultSum l w k (backwardOf l w k))) (many-no (sequenceOf l w k) p)
-          ∙ ap (choose F.Many) (many-no (backwardOf l w k) q)))
-          (fit-by false false c p q e)
+          (sym (ap (λ (s : List ℕ). choose (walkSum l w k Ahead) (walkSum l w k s) (countIn l w k)) (sym (same-yes Ahead Behind e))
+          ∙ choose-same (walkSum l w k Ahead) (countIn l w k) (few-yes-sum Ahead p)))
+          (taken Ahead p (fit-by true true true m n p q e x y))
+      by true p true q false e m x n y = two-told p q e m n x y
+      by true p false q c e m x n y =
+          subst (Told l w k) (sym (choose-first (walkSum l w k Ahead) (walkSum l w k Behind) (countIn l w k) (few-yes-sum Ahead p) (many-no Behind q)))
+          (taken Ahead p (fit-by true false c m n p q e x y))
+      by false p true q c e m x n y =
+          subst (Told l w k) (sym (choose-second (walkSum l w k Ahead) (walkSum l w k Behind) (countIn l w k) (many-no Ahead p) (few-yes-sum Behind q)))
+          (taken Behind q (fit-by false true c m n p q e x y))
+      by false p false q c e m x n y =
+          subst (Told l w k) (sym (choose-none (walkSum l w k Ahead) (walkSum l w k Behind) (countIn l w k) (many-no Ahead p) (many-no Behind q))) (fit-by false false c m n p q e x y)
 
-  -- the decision from the columns is the decision on the words
+  -- the decision by the walks is the decision on the words
   pub fit-told : Told l w k (fitIn l (viewOf l w) k (countIn l w k))
   unfolding fitIn
   fit-told =
-      let v = viewOf l w in
-      let n = countIn l w k in
-      subst (Told l w k)
-      (sym (ap₂ choose (counted-walk k n (othersFaults v forwardWord backWord k (walked l v k)) (length (walked l v k)))
-      (counted-walk k n (othersFaults (turned v) backWord forwardWord k (walked l (turned v) k)) (length (walked l (turned v) k)) ∙ turned-faults v forwardWord backWord k n (walked l (turned v) k)))) told-by
+      let t = walked l (turned (viewOf l w)) k in
+      subst (λ (y : Walk). Told l w k (choose (walkSum l w k Ahead) y (countIn l w k)))
+      (sym (ap₂ walkWith (turned-faults (viewOf l w) forwardWord backWord k t) (sym (length-reverse t)))) told-by
 
 -- the members by the walk that was chosen are those of the sequence that fits
 pub members-told
@@ -442,20 +454,19 @@ members-told l w k h z c = by (fitIn l (viewOf l w) k (countIn l w k)) z (fit-to
         × (c ∈ fittingOf l w k → c ∈ membersBy l (viewOf l w) (isBackward r) k)
     by G.Nothing z t = absurd (omega (arith, z))
     by G.Several z t = absurd (omega (arith, z))
-    by (G.Forward f) z t = rw (t .0) ((λ m. m), (λ m. m))
-    by (G.Backward f) z t =
+    by (G.Forward x) z t = rw (t .0) ((λ m. m), (λ m. m))
+    by (G.Backward x) z t =
         rw (t .0)
         ((λ m. reverse-in (walked l (turned (viewOf l w)) k) m), (λ m. in-reverse (walked l (turned (viewOf l w)) k) m))
 
--- the sequence that fits, and its faults
+-- the sequence that is chosen, its faults and its length
 pub chosen-told
     : (l : Layout) (w : List ℕ) (k : ℕ) → k < l .lists → numberOf (fitIn l (viewOf l w) k (countIn l w k)) ≡ 0
-    → (fitOf l w k ≡ only (fittingOf l w k)) × (faultIn (fitIn l (viewOf l w) k (countIn l w k)) ≡ faultSum l w k (fittingOf l w k))
+    → Taken l w k (fittingOf l w k) (walkIn (fitIn l (viewOf l w) k (countIn l w k)))
 chosen-told l w k h z = by (fitIn l (viewOf l w) k (countIn l w k)) z (fit-told l w k h)
   where
-    by : (r : Fitted) → numberOf r ≡ 0 → Told l w k r
-        → (fitOf l w k ≡ only (fittingOf l w k)) × (faultIn r ≡ faultSum l w k (fittingOf l w k))
+    by : (r : Fitted) → numberOf r ≡ 0 → Told l w k r → Taken l w k (fittingOf l w k) (walkIn r)
     by G.Nothing z t = absurd (omega (arith, z))
     by G.Several z t = absurd (omega (arith, z))
-    by (G.Forward f) z t = rw (t .0) (refl, t .2)
-    by (G.Backward f) z t = rw (t .0) (refl, t .2)
+    by (G.Forward x) z t = rw (t .0) (refl, t .1, t .2, t .3)
+    by (G.Backward x) z t = rw (t .0) (refl, t .1, t .2, t .3)

@@ -92,7 +92,7 @@ no-faults v k x (y ∷ s) t =
     )
 
 -- so a list that holds fits as it is
-pub held-fits : (l : Layout) (v : View) (count : ℕ → ℕ) (k : ℕ) → Held l v count k → fitIn l v k (count k) ≡ G.Forward F.None
+pub held-fits : (l : Layout) (v : View) (count : ℕ → ℕ) (k : ℕ) → Held l v count k → fitIn l v k (count k) ≡ G.Forward (walkWith F.None (count k))
 unfolding fitIn othersFaults
 held-fits l v count k e = let h = holds-true v k (count k) _ e in
-    rw (no-fault _ _ _ _ (h .ident), no-faults v k k _ (h .turn), no-fault _ _ _ _ (h .count))
+    rw (no-fault _ _ _ _ (h .ident), no-faults v k k _ (h .turn), h .count)

@@ -14,9 +14,9 @@ use Rattle.lists.specs.Decide.{View}
 use Rattle.fitting.specs.declared.Faults.{Faults}
 use Rattle.fitting.specs.declared.Faults.the-variants as F
 use Rattle.fitting.specs.declared.Fitted.the-variants as G
-use Rattle.fitting.specs.Fitting.{areMany, decides, choose}
+use Rattle.fitting.specs.Fitting.{areMany, wayOf, decides, choose, fitIn}
 use Rattle.fitting.specs.declared.Walk.{Walk}
-use Rattle.fitting.specs.Fitting.{Each, plus, fault, turnFaults, othersFaults, walked, walkWith, counted, rest, Walking}
+use Rattle.fitting.specs.Fitting.{Each, plus, fault, turnFaults, othersFaults, walked, walkWith, rest, Walking}
 
 -- no faults more
 pub plus-none : (f : Faults) → plus f F.None ≡ f
@@ -68,10 +68,12 @@ pub one-fault : (x c f v : ℕ) → (x ≡ v → ⊥) → fault x c f v ≡ F.On
 one-fault x c f v h = rw (ne-eqb _ _ h)
 
 -- where the first candidate decides, it is chosen, whatever the second is
-pub decided-alone : (f g : Faults) → decides f ≡ true → choose f g ≡ G.Forward f
-decided-alone F.None g e = refl
-decided-alone (F.One c w v) g e = rw (not-true (eqb w backWord) e)
-decided-alone F.Many g e = absurd (false≢true e)
+pub decided-alone : (x y : Walk) (n : ℕ) → decides (x .faults) ≡ true → choose x y n ≡ G.Forward x
+decided-alone x y n e = rw e
+
+pub fit-alone : (l : Layout) (v : View) (k n : ℕ) {x : Walk} → x ≡ wayOf l v false k → decides (x .faults) ≡ true → G.Forward x ≡ fitIn l v k n
+unfolding fitIn
+fit-alone l v k n {x} e d = sym (decided-alone x (wayOf l v true k) n d) ∙ ap (λ (y : Walk). choose y (wayOf l v true k) n) e
 
 -- at the header its identifier is compared
 pub walking-first : (l : Layout) (v : View) (a b k : ℕ) {i : ℕ} {f : Faults} → i ≡ identOf k
@@ -125,11 +127,6 @@ module _ {l : Layout} {v : View} {a b k : ℕ} {f : Faults} {x y left : ℕ} (w 
     omega (arith, w .count, ap length e),
   )
 
--- the length of a walk with many faults is not told; of any other it is
+-- the length of a walk with many faults is not told
 pub walk-many : (m n : ℕ) {f g : Faults} → f ≡ g → areMany f ≡ true → walkWith f m ≡ walkWith g n
 walk-many m n {f} {g} e h = ap (λ (x : Faults). walkWith x m) e ∙ rw (ap areMany (sym e) ∙ h)
-
-pub counted-walk : (k n : ℕ) (f : Faults) (m : ℕ) → counted k n (walkWith f m) ≡ plus f (fault n k countWord m)
-counted-walk k n F.None m = refl
-counted-walk k n (F.One c w v) m = refl
-counted-walk k n F.Many m = refl

@@ -1,4 +1,5 @@
--- The wrong words of the two candidates, summed up as none, one or many, and which of the two fits a list by them.
+-- The wrong words of the two candidates, the count not among them, summed up as none, one or many, and which of the two is chosen for a list by
+-- them and by the count.
 use Prim.Native.Nat.{ℕ, _+_, _-_, _≤_, _<_}
 use mathlib.Core.Path.{_≡_}
 use mathlib.Core.List.{List, [], _∷_}
@@ -8,7 +9,7 @@ use lib.ListN.{length}
 use Rattle.sequences.specs.Sequence.{trail}
 use Rattle.stores.specs.Stores.{Write, write}
 use Rattle.layout.specs.declared.Layout.{Layout}
-use Rattle.layout.specs.Words.{identWord, forwardWord, backWord, countWord, isNode, cellAt, identOf, inUse, cellCount, sizeOf}
+use Rattle.layout.specs.Words.{identWord, forwardWord, backWord, isNode, cellAt, countAt, identOf, inUse, cellCount, sizeOf}
 use Rattle.lists.specs.Decide.{View}
 use Rattle.spans.specs.declared.Cell.{Cell}
 use Rattle.fitting.specs.declared.Faults.{Faults}
@@ -45,12 +46,9 @@ turnFaults v a b k x (y ∷ s) =
     (plus (fault (v .back y) y b x)
     (turnFaults v a b k y s)))
 
--- all that s asks of list k but for the count, and with the count, which is n
+-- all that s asks of list k but for the count
 unfoldable pub othersFaults : View → ℕ → ℕ → ℕ → List ℕ → Faults
 othersFaults v a b k s = plus (fault (v .ident k) k identWord (identOf k)) (turnFaults v a b k k s)
-
-abbrev pub faultsOf : View → ℕ → ℕ → ℕ → ℕ → List ℕ → Faults
-faultsOf v a b k n s = plus (othersFaults v a b k s) (fault n k countWord (length s))
 
 -- what the links onward lead through
 abbrev pub walked : Layout → View → ℕ → List ℕ
@@ -62,10 +60,6 @@ walkWith f n = record { faults = f; members = cond (areMany f) 0 n }
 
 abbrev pub walkOf : Layout → View → ℕ → ℕ → ℕ → Walk
 walkOf l v a b k = walkWith (othersFaults v a b k (walked l v k)) (length (walked l v k))
-
--- its faults with the count, which is n
-abbrev pub counted : ℕ → ℕ → Walk → Faults
-counted k n x = plus (x .faults) (fault n k countWord (x .members))
 
 -- the view the other way round
 abbrev pub turned : View → View
@@ -139,59 +133,65 @@ abbrev pub Trailing : Layout → View → ℕ → Trail → Type 0
 Trailing l v k t =
     Walking l (viewBy (t .back) v) (onwardWord (t .back)) (backwardWord (t .back)) k (t .faults) (t .last) (t .at) (t .left)
 
--- which of the two candidates fit. With a wrong back link in the forward walk and a wrong forward link in the back walk they are
--- two; otherwise, if both fit, they are one.
-abbrev pub twoFit : Faults → Faults → Fitted
-twoFit f F.None = G.Forward f
-twoFit f (F.One c g v) = cond (eqb g forwardWord) G.Several (G.Forward f)
-twoFit f F.Many = G.Forward f
-
-abbrev pub choose : Faults → Faults → Fitted
-choose F.None g = G.Forward F.None
-choose (F.One c f v) g = cond (eqb f backWord) (twoFit (F.One c f v) g) (G.Forward (F.One c f v))
-choose F.Many F.None = G.Backward F.None
-choose F.Many (F.One c f v) = G.Backward (F.One c f v)
-choose F.Many F.Many = G.Nothing
-
 -- the first candidate alone decides: no fault, or one that is no back link
 abbrev pub decides : Faults → Bool
 decides F.None = true
 decides (F.One c f v) = not (eqb f backWord)
 decides F.Many = false
 
-unfoldable pub fitIn : Layout → View → ℕ → ℕ → Fitted
-fitIn l v k n = choose (counted k n (wayOf l v false k)) (counted k n (wayOf l v true k))
+-- the second candidate is another sequence than the first, which has a wrong back link: it has a wrong forward link
+abbrev pub isRival : Faults → Bool
+isRival F.None = false
+isRival (F.One c f v) = eqb f forwardWord
+isRival F.Many = false
 
--- the store that mends a fault
+-- of two that fit, the one whose length is the count
+abbrev pub byCount : Bool → Bool → Walk → Walk → Fitted
+byCount true true x y = G.Several
+byCount true false x y = G.Forward x
+byCount false true x y = G.Backward y
+byCount false false x y = G.Several
+
+-- of the walks by the forward and by the back links, the one that is chosen where the count is n
+abbrev pub choose : Walk → Walk → ℕ → Fitted
+choose x y n =
+    cond (decides (x .faults)) (G.Forward x)
+    (cond (areMany (x .faults)) (cond (areMany (y .faults)) G.Nothing (G.Backward y))
+    (cond (isRival (y .faults)) (byCount (eqb n (x .members)) (eqb n (y .members)) x y) (G.Forward x)))
+
+unfoldable pub fitIn : Layout → View → ℕ → ℕ → Fitted
+fitIn l v k n = choose (wayOf l v false k) (wayOf l v true k) n
+
+-- the store that mends a fault, and that of the count of list k, which is n and is to be m
 abbrev pub mendOf : Layout → Faults → List Write
 mendOf l F.None = []
 mendOf l (F.One c f v) = write (cellAt l c + f) v ∷ []
 mendOf l F.Many = []
 
--- of a list: its number if refused, its mend, and whether its sequence is the back walk's
+abbrev pub countMend : Layout → ℕ → ℕ → ℕ → List Write
+countMend l k n m = cond (eqb n m) [] (write (countAt l k) m ∷ [])
+
+-- of a list: its number if refused, the walk that is chosen, and whether it is the back walk
 abbrev pub numberOf : Fitted → ℕ
 numberOf G.Nothing = 11
 numberOf G.Several = 12
-numberOf (G.Forward f) = 0
-numberOf (G.Backward f) = 0
+numberOf (G.Forward x) = 0
+numberOf (G.Backward x) = 0
 
-abbrev pub faultIn : Fitted → Faults
-faultIn G.Nothing = F.None
-faultIn G.Several = F.None
-faultIn (G.Forward f) = f
-faultIn (G.Backward f) = f
+abbrev pub noWalk : Walk
+noWalk = record { faults = F.None; members = 0 }
+
+abbrev pub walkIn : Fitted → Walk
+walkIn G.Nothing = noWalk
+walkIn G.Several = noWalk
+walkIn (G.Forward x) = x
+walkIn (G.Backward x) = x
 
 abbrev pub isBackward : Fitted → Bool
 isBackward G.Nothing = false
 isBackward G.Several = false
-isBackward (G.Forward f) = false
-isBackward (G.Backward f) = true
-
--- the number of members, by the faults and the count n: what the count holds, or is to hold
-abbrev pub lengthBy : Faults → ℕ → ℕ
-lengthBy F.None n = n
-lengthBy (F.One c f v) n = cond (eqb f countWord) v n
-lengthBy F.Many n = n
+isBackward (G.Forward x) = false
+isBackward (G.Backward x) = true
 
 -- whether every member carries an identifier that says in use: the wrong word is none that does not
 abbrev pub carries : (ℕ → ℕ) → Faults → Bool

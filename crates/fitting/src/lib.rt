@@ -1,14 +1,16 @@
-// Which sequence fits a list. Only two can: what the forward links lead through, and what the back links do. Each is walked at most once
-// and its wrong words are summed up as none, one or many; no sequence is kept. What stands here is what the walks in lent words and in lent
-// bytes share: they differ only in how they read a cell.
+// Which sequence is chosen for a list. Only two can fit: what the forward links lead through, and what the back links do. Each is walked at
+// most once, its wrong words beside the count are summed up as none, one or many, and its members are counted; no sequence is kept. What
+// stands here is what the walks in lent words and in lent bytes share: they differ only in how they read a cell.
 use layout::Layout;
 use spans::Cell;
 use spans::Grid;
 ghost use mathlib.Core.Path.{_≡_};
 ghost use Prim.Native.Nat.{_<_, _≤_};
+ghost use lib.Dec.{eqb};
 ghost use Rattle.layout.specs.Words.{mostLists, mostCells};
 ghost use Rattle.spans.specs.Spans.{Gridded};
-ghost use Rattle.fitting.specs.Fitting.{plus, fault, areMany, decides, lengthBy, choose, numberOf, faultIn, isBackward, onwardWord, backwardWord, byWay, isOpen, firstTrail, nextTrail, endOf, counted};
+ghost use Rattle.fitting.specs.declared.Faults.the-variants as F;
+ghost use Rattle.fitting.specs.Fitting.{plus, fault, areMany, walkWith, decides, isRival, byCount, choose, numberOf, noWalk, walkIn, isBackward, onwardWord, backwardWord, byWay, isOpen, firstTrail, nextTrail, endOf};
 
 // The words of a cell, as a fault names them.
 const IDENTIFIER: u16 = Layout::IDENTIFIER as u16;
@@ -17,8 +19,6 @@ const FORWARD: u16 = Layout::FORWARD as u16;
 
 const BACK: u16 = Layout::BACK as u16;
 
-const COUNT: u16 = Layout::COUNT as u16;
-
 // The wrong words of a sequence: word f of cell c is to hold v.
 pub enum Faults {
     None,
@@ -26,12 +26,20 @@ pub enum Faults {
     Many,
 }
 
-// Which sequence fits a list: what the forward links or what the back links lead through, with its faults.
+// A walk through a list: the wrong words that it met, the count not among them, and the number of members, which is not told where the
+// wrong words are many.
+pub struct Walk {
+    pub faults: Faults,
+    pub members: u16,
+}
+
+// Which sequence is chosen for a list: what the forward links or what the back links lead through. Nothing fits, or several do and the
+// count tells none of them.
 pub enum Fitted {
     Nothing,
     Several,
-    Forward(Faults),
-    Backward(Faults),
+    Forward(Walk),
+    Backward(Walk),
 }
 
 impl Faults {
@@ -62,7 +70,7 @@ impl Faults {
 
     // Do these faults of the forward walk decide alone? With none, or with one that is no back link, the back links lead through the
     // same sequence.
-    pub fn decide(self) -> bool
+    fn decide(self) -> bool
         ensures { λ r. ⌜ r ≡ decides self ⌝ }
     {
         match self {
@@ -72,14 +80,14 @@ impl Faults {
         }
     }
 
-    // The number of members, in a list whose count is n: what the count holds, or is to hold.
-    pub fn members(self, n: u16) -> u16
-        ensures { λ r. ⌜ r ≡ lengthBy self n ⌝ }
+    // Do these faults of the back walk make it another sequence than a forward walk with a wrong back link? A wrong forward link does.
+    fn is_rival(self) -> bool
+        ensures { λ r. ⌜ r ≡ isRival self ⌝ }
     {
         match self {
-            Faults::None => n,
-            Faults::One(_, w, v) => { if w == COUNT { v } else { n } }
-            Faults::Many => n,
+            Faults::None => false,
+            Faults::One(_, w, _) => w == FORWARD,
+            Faults::Many => false,
         }
     }
 }
@@ -97,15 +105,15 @@ impl Fitted {
         }
     }
 
-    // The faults of the sequence that fits.
-    pub fn fault(self) -> Faults
-        ensures { λ r. ⌜ r ≡ faultIn self ⌝ }
+    // The walk that is chosen.
+    pub fn walk(self) -> Walk
+        ensures { λ r. ⌜ r ≡ walkIn self ⌝ }
     {
         match self {
-            Fitted::Nothing => Faults::None,
-            Fitted::Several => Faults::None,
-            Fitted::Forward(f) => f,
-            Fitted::Backward(f) => f,
+            Fitted::Nothing => Walk::none(),
+            Fitted::Several => Walk::none(),
+            Fitted::Forward(x) => x,
+            Fitted::Backward(x) => x,
         }
     }
 
@@ -120,13 +128,6 @@ impl Fitted {
             Fitted::Backward(_) => true,
         }
     }
-}
-
-// A walk through a list: the wrong words that it met, the count not among them, and the number of members, which is not told where the
-// wrong words are many.
-pub struct Walk {
-    pub faults: Faults,
-    pub members: u16,
 }
 
 // Where a walk through a list stands: by the back links or the forward links, with the wrong words that it met; the last cell that it met,
@@ -259,39 +260,69 @@ impl Trail {
 }
 
 impl Walk {
-    // The wrong words of list k, whose count is n, the count among them.
-    pub fn counted(self, k: u16, n: u16) -> Faults
-        ensures { λ r. ⌜ r ≡ counted k n self ⌝ }
+    // A walk that met nothing.
+    fn none() -> Self
+        ensures { λ r. ⌜ r ≡ noWalk ⌝ }
     {
-        let met = self.faults;
-        met.and(n as usize, k, COUNT, self.members)
+        Self {
+            faults: Faults::None,
+            members: 0,
+        }
+    }
+
+    // A walk through a list that holds, whose count is n.
+    pub fn right(n: u16) -> Self
+        ensures { λ r. ⌜ r ≡ walkWith F.None n ⌝ }
+    {
+        Self {
+            faults: Faults::None,
+            members: n,
+        }
+    }
+
+    // Does this walk, by the forward links, decide alone?
+    pub fn decides(self) -> bool
+        ensures { λ r. ⌜ r ≡ decides (self .faults) ⌝ }
+    {
+        let f = self.faults;
+        f.decide()
     }
 }
 
-// Of the two candidates, which fit.
-pub fn choice(f: Faults, g: Faults) -> Fitted
-    ensures { λ r. ⌜ r ≡ choose f g ⌝ }
+// Of two walks that fit a list, whose count is n, the one of that length; neither, if both have it or none.
+fn by_count(ahead: Walk, behind: Walk, n: u16) -> Fitted
+    ensures { λ r. ⌜ r ≡ byCount (eqb n (ahead .members)) (eqb n (behind .members)) ahead behind ⌝ }
 {
-    if f.decide() {
-        return Fitted::Forward(f);
+    if n == ahead.members {
+        if n == behind.members {
+            return Fitted::Several;
+        }
+        return Fitted::Forward(ahead);
     }
-    match f {
-        Faults::None => Fitted::Forward(f),
-        Faults::One(_, _, _) => match g {
-            Faults::None => Fitted::Forward(f),
-            Faults::One(_, w, _) => {
-                if w == FORWARD {
-                    Fitted::Several
-                } else {
-                    Fitted::Forward(f)
-                }
-            }
-            Faults::Many => Fitted::Forward(f),
-        },
-        Faults::Many => match g {
-            Faults::None => Fitted::Backward(g),
-            Faults::One(_, _, _) => Fitted::Backward(g),
-            Faults::Many => Fitted::Nothing,
-        },
+    if n == behind.members {
+        return Fitted::Backward(behind);
     }
+    Fitted::Several
+}
+
+// Of the forward walk x and the back walk y of a list, whose count is n, the one that is chosen. Where both fit and are two, the count
+// decides.
+pub fn choice(x: Walk, y: Walk, n: u16) -> Fitted
+    ensures { λ r. ⌜ r ≡ choose x y n ⌝ }
+{
+    if x.decides() {
+        return Fitted::Forward(x);
+    }
+    let f = x.faults;
+    let g = y.faults;
+    if f.are_many() {
+        if g.are_many() {
+            return Fitted::Nothing;
+        }
+        return Fitted::Backward(y);
+    }
+    if g.is_rival() {
+        return by_count(x, y, n);
+    }
+    Fitted::Forward(x)
 }

@@ -101,6 +101,23 @@ c7cut = store (cell 42400 3 3 2) (cell 0 0 0 0) (cell 42400 3 0 700) (cell 42400
 abbrev pub c9 : List ℕ
 c9 = store (cell 42400 1 2 1) (cell 42400 0 0 0) (cell 42400 0 0 700) (cell 0 0 0 0)
 
+-- with the count n: the forward links lead through cell 1, the back links through 2 and 3
+abbrev pub apart : ℕ → List ℕ
+apart n = store (cell 42400 1 3 n) (cell 42400 0 0 900) (cell 42400 3 0 700) (cell 42400 0 2 512)
+
+abbrev pub apart1 : List ℕ
+apart1 = store (cell 42400 1 1 1) (cell 42400 0 0 900) (cell 0 3 0 0) (cell 0 0 2 0)
+
+abbrev pub apart2 : List ℕ
+apart2 = store (cell 42400 2 3 2) (cell 0 0 0 0) (cell 42400 3 0 700) (cell 42400 0 2 512)
+
+-- C3 with another count and another identifier of cell 2
+abbrev pub c3both : List ℕ
+c3both = store (cell 42400 2 3 9) (cell 0 0 0 0) (cell 7 3 0 700) (cell 42400 0 2 512)
+
+abbrev pub c3count : List ℕ
+c3count = store (cell 42400 2 3 9) (cell 0 0 0 0) (cell 42400 3 0 700) (cell 42400 0 2 512)
+
 abbrev pub c10 : List ℕ
 c10 = store (cell 42400 9 9 2) (cell 0 0 0 0) (cell 42400 3 0 700) (cell 42400 0 2 512)
 
@@ -257,10 +274,46 @@ rows8 =
 abbrev pub row9 : Row
 row9 = record { words = c9; call = recover 65535; outcome = record { ended = number 12; values = []; stores = []; words = c9 } }
 
+-- "If several fit, the one whose length equals the stored count is taken. Number 12 then means that several fit and the count is the length of none
+-- or of more than one."
+abbrev pub rowsCounted : List Row
+rowsCounted =
+    record { words = apart 0; call = recover 65535; outcome = record { ended = number 12; values = []; stores = []; words = apart 0 } }
+    ∷ record {
+      words = apart 1;
+      call = recover 65535;
+      outcome =
+          record {
+            ended = done 5;
+            values = [];
+            stores = write 10 1 ∷ write 16 0 ∷ write 20 0 ∷ write 19 0 ∷ write 23 0 ∷ [];
+            words = apart1;
+          };
+    }
+    ∷ record {
+      words = apart 2;
+      call = recover 65535;
+      outcome = record { ended = done 3; values = []; stores = write 9 2 ∷ write 12 0 ∷ write 15 0 ∷ []; words = apart2 };
+    }
+    ∷ record { words = apart 3; call = recover 65535; outcome = record { ended = number 12; values = []; stores = []; words = apart 3 } }
+    ∷ []
+
+-- "The other word is stored before the count", "and a list with its count and one identifier altered comes back whole."
+abbrev pub rowsWhole : List Row
+rowsWhole =
+    record {
+      words = c3both;
+      call = recover 65535;
+      outcome = record { ended = done 2; values = []; stores = write 16 42400 ∷ write 11 2 ∷ []; words = c3 };
+    }
+    ∷ record { words = c3both; call = recover 1; outcome = record { ended = stopped 1; values = []; stores = write 16 42400 ∷ []; words = c3count } }
+    ∷ record { words = c3count; call = recover 65535; outcome = record { ended = done 1; values = []; stores = write 11 2 ∷ []; words = c3 } }
+    ∷ []
+
 -- C10. "C3 with words 9 and 10 both 9: refused 11."
 abbrev pub row10 : Row
 row10 = record { words = c10; call = recover 65535; outcome = record { ended = number 11; values = []; stores = []; words = c10 } }
 
 abbrev pub rows : List Row
 rows =
-    rows1 ++ (row2 ∷ rows3 ++ (rows4 ++ (rows5 ++ (rows6 ++ (rows7 ++ (rows8 ++ (row9 ∷ row10 ∷ [])))))))
+    rows1 ++ (row2 ∷ rows3 ++ (rows4 ++ (rows5 ++ (rows6 ++ (rows7 ++ (rows8 ++ (row9 ∷ row10 ∷ (rowsCounted ++ rowsWhole))))))))

@@ -1,45 +1,50 @@
 -- Laws of the mends of all lists, and of the column after all of them are erased.
-use Prim.Native.Nat.{ℕ, suc, _+_, _-_, _≤_, _<_}
+use Prim.Native.Nat.{ℕ, suc, _+_, _*_, _-_, _≤_, _<_}
 use mathlib.Core.Path.{_≡_, refl, ap, ap₂, _∙_, sym}
-use mathlib.Core.List.{List, [], _++_, append-nil, append-assoc}
-use mathlib.Core.Bool.{Bool, true, false, _&&_, and-eq-true-iff}
+use mathlib.Core.List.{List, [], _∷_, _++_, append-nil, append-assoc}
+use mathlib.Core.Bool.{Bool, true, false, cond, _&&_, and-eq-true-iff}
 use native.Mathlib.Omega.{arith}
 use native.Mathlib.Numerals.{add-one}
+use lib.Dec.{eqb}
 use lib.ListN.{length, getD, set, length-set, length-append}
 use lib.Seq.{getD-set-same, getD-set-other}
 use borrow.Author.Count.{below-more}
 use borrow.Author.Tests.{eq-eqb, ne-eqb}
 use Rattle.stores.specs.declared.Rows.{Rows}
-use Rattle.stores.specs.Stores.{writesIn, Held}
+use Rattle.stores.specs.Stores.{write, writesIn, Held}
 use Rattle.layout.specs.declared.Layout.{Layout}
-use Rattle.layout.specs.Words.{mostLists, InRange, sizeOf}
+use Rattle.layout.specs.Words.{mostLists, InRange, countAt, sizeOf}
 use Rattle.lists.specs.Decide.{View}
 use Rattle.fitting.specs.declared.Faults.{Faults}
 use Rattle.fitting.specs.declared.Faults.the-variants as F
 use Rattle.fitting.specs.declared.Fitted.{Fitted}
-use Rattle.fitting.specs.Fitting.{fitIn, mendOf, numberOf, faultIn, isBackward, lengthBy, carries, membersBy}
-use Rattle.mending.specs.Mending.{refusalIn, mendsIn, total, MendsOf, erased, erasedFrom}
+use Rattle.fitting.specs.declared.Walk.{Walk}
+use Rattle.fitting.specs.Fitting.{fitIn, mendOf, countMend, numberOf, walkIn, isBackward, carries, membersBy}
+use Rattle.mending.specs.Mending.{refusalIn, walkAt, mendsIn, total, MendsOf, erased, erasedFrom}
 
--- a fault has one mend at most
+-- a fault has one mend at most, and so has a count
 mend-few : (l : Layout) (f : Faults) → length (mendOf l f) ≤ 1
 mend-few l F.None = omega arith
 mend-few l (F.One c f v) = omega arith
 mend-few l F.Many = omega arith
 
--- of list k: the faults of the sequence that fits
-abbrev pub faultAt : Layout → View → (ℕ → ℕ) → ℕ → Faults
-faultAt l v count k = faultIn (fitIn l v k (count k))
+count-few : (l : Layout) (k n m : ℕ) → length (countMend l k n m) ≤ 1
+count-few l k n m = by (eqb n m)
+  where
+    by : (b : Bool) → length (cond b [] (write (countAt l k) m ∷ [])) ≤ 1
+    by true = omega arith
+    by false = omega arith
 
 -- where the search stands at list k: no list before it is refused, their members are counted, their mends are in the rows and their
 -- directions in back
 pub record Found (l : Layout) (v : View) (count : ℕ → ℕ) (m : ℕ) (a : Bool) (back : List Bool) (rows : Rows) (k : ℕ) : Type 0 where
   pub inside : k ≤ l .lists
   pub refusal : refusalIn l v count k (l .lists - k) ≡ refusalIn l v count 0 (l .lists)
-  pub members : m ≡ total (λ j. lengthBy (faultAt l v count j) (count j)) k
-  pub carried : a ≡ true → (j : ℕ) → j < k → carries (v .ident) (faultAt l v count j) ≡ true
+  pub members : m ≡ total (λ j. walkAt l v count j .members) k
+  pub carried : a ≡ true → (j : ℕ) → j < k → carries (v .ident) (walkAt l v count j .faults) ≡ true
   pub mends : writesIn rows ++ mendsIn l v count k (l .lists - k) ≡ mendsIn l v count 0 (l .lists)
   pub held : Held (sizeOf l) rows (writesIn rows)
-  pub few : rows .len ≤ k
+  pub few : rows .len ≤ 2 * k
   pub size : length back ≡ mostLists
   pub ways : (j : ℕ) → j < k → getD back j false ≡ isBackward (fitIn l v j (count j))
 
@@ -63,26 +68,36 @@ module _ (l : Layout) (r : InRange l) (v : View) (count : ℕ → ℕ) where
 
   module _ {members : ℕ} {carried : Bool} {back : List Bool} {rows : Rows} {k : ℕ} (w : Found l v count members carried back rows k) where
     -- a list more, whose fit f is not refused
-    pub found-more : {f : Fitted} {n m : ℕ} {a b : Bool} {g : Faults} {rows′ : Rows} → k < l .lists → f ≡ fitIn l v k (count k)
-        → n ≡ numberOf f → n ≡ 0 → g ≡ faultIn f → m ≡ lengthBy g (count k) → a ≡ carries (v .ident) g → b ≡ isBackward f
-        → Held (sizeOf l) rows′ (writesIn rows ++ mendOf l g)
+    pub found-more : {f : Fitted} {n m : ℕ} {a b : Bool} {x : Walk} {rows′ : Rows} → k < l .lists → f ≡ fitIn l v k (count k)
+        → n ≡ numberOf f → n ≡ 0 → x ≡ walkIn f → m ≡ x .members → a ≡ carries (v .ident) (x .faults) → b ≡ isBackward f
+        → Held (sizeOf l) rows′ ((writesIn rows ++ mendOf l (x .faults)) ++ countMend l k (count k) (x .members))
         → Found l v count (members + m) (carried && a) (set back k b) rows′ (k + 1)
     unfolding refusalIn mendsIn total
-    found-more {m = m} {a = a} {b = b} {g = g} h e en z eg em ea eb held =
+    found-more {m = m} {a = a} {b = b} {x = x} h e en z ex em ea eb held =
         let s : l .lists - k ≡ suc (l .lists - (k + 1)) = omega arith in
         let q : numberOf (fitIn l v k (count k)) ≡ 0 = ap numberOf (sym e) ∙ sym en ∙ z in
-        let d : g ≡ faultAt l v count k = eg ∙ ap faultIn e in
+        let d : x ≡ walkAt l v count k = ex ∙ ap walkIn e in
         record {
           inside = omega arith;
           refusal = (rw (s, refusalIn, eq-eqb _ _ q, ← add-one k) at (w .refusal));
-          members = rw (add-one k) (ap₂ _+_ (w .members) (em ∙ ap (λ (x : Faults). lengthBy x (count k)) d));
+          members = rw (add-one k) (ap₂ _+_ (w .members) (em ∙ ap (λ (y : Walk). y .members) d));
           carried =
               λ i.
               let o = and-eq-true-iff carried a .0 i in
-              below-more _ k (w .carried (o .0)) (ap (carries (v .ident)) (sym d) ∙ sym ea ∙ o .1);
-          mends = rw (held .same, eg, e, append-assoc) (rw (s, mendsIn, ← add-one k) at (w .mends));
+              below-more _ k (w .carried (o .0)) (ap (λ (y : Walk). carries (v .ident) (y .faults)) (sym d) ∙ sym ea ∙ o .1);
+          mends = rw (held .same, ex, e, append-assoc, append-assoc) (rw (s, mendsIn, append-assoc, ← add-one k) at (w .mends));
           held = rw (held .same) held;
-          few = omega (arith, held .len, length-append (writesIn rows) (mendOf l g), mend-few l g, w .held .len);
+          few =
+              omega (
+                arith,
+                held .len,
+                length-append (writesIn rows ++ mendOf l (x .faults)) (countMend l k (count k) (x .members)),
+                length-append (writesIn rows) (mendOf l (x .faults)),
+                mend-few l (x .faults),
+                count-few l k (count k) (x .members),
+                w .held .len,
+                w .few,
+              );
           size = length-set back k b ∙ w .size;
           ways =
               below-more _ k (λ j p. getD-set-other back k j b false (λ i. omega arith) ∙ w .ways j p)
@@ -113,7 +128,7 @@ module _ (l : Layout) (r : InRange l) (v : View) (count : ℕ → ℕ) where
         let e : k ≡ l .lists = omega arith in
         record {
           refusal = rw s at (w .refusal);
-          members = λ i. w .members ∙ ap (total (λ j. lengthBy (faultAt l v count j) (count j))) e;
+          members = λ i. w .members ∙ ap (total (λ j. walkAt l v count j .members)) e;
           carried = λ i c j p. w .carried c j (omega arith);
           rows = λ i. sym (append-nil (writesIn rows)) ∙ (rw s at (w .mends));
           held = w .held;

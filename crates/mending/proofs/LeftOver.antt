@@ -11,7 +11,7 @@ use Rattle.sequences.proofs.Members.{all-in, different-append}
 use Rattle.sequences.proofs.Pigeonhole.{pigeonhole-less}
 use Rattle.layout.specs.declared.Layout.{Layout}
 use Rattle.layout.specs.Words.{Node, InRange, firstNode, identAt, wornIdent, Unlisted, free, worn, inUse}
-use Rattle.lists.specs.Lists.{asked, Blank}
+use Rattle.lists.specs.Lists.{othersAsked, Blank}
 use Rattle.lists.specs.Decide.{viewOf, countIn, used, unwiped}
 use Rattle.lists.proofs.Nodes.{in-use, unused, is-used}
 use Rattle.lists.proofs.Blank.{blank-words, none-unwiped}
@@ -20,13 +20,12 @@ use Rattle.recovery.specs.Plan.{joined, clearsAsked, wipesAsked, fittingOf}
 use Rattle.recovery.proofs.Required.{agrees-wrong}
 use Rattle.recovery.proofs.Joined.{joined-one}
 use Rattle.recovery.proofs.Disjoint.{fits-disjoint}
-use Rattle.recovery.proofs.Whole.{clear-none, wipe-none, fit-accepted}
-use Rattle.fitting.specs.declared.Faults.{Faults}
-use Rattle.fitting.specs.Fitting.{numberOf, fitIn, lengthBy, carries}
-use Rattle.mending.specs.Mending.{total}
-use Rattle.mending.proofs.AllLists.{faultAt}
-use Rattle.fitting.proofs.Members.{members-number, members-carry}
-use Rattle.fitting.proofs.Told.{Few, few-summed, faultSum, summed-forward, chosen-told}
+use Rattle.recovery.proofs.Whole.{clear-none, wipe-none}
+use Rattle.recovery.proofs.Candidates.{fit-accepted}
+use Rattle.fitting.specs.Fitting.{numberOf, fitIn, carries}
+use Rattle.mending.specs.Mending.{total, walkAt}
+use Rattle.fitting.proofs.Members.{members-carry}
+use Rattle.fitting.proofs.Told.{Few, few-summed, faultSum, summed-others, chosen-told}
 
 -- the members of all lists: as many as the lists have, ..
 length-joined : (s : ℕ → List ℕ) (n : ℕ) → length (joined s n) ≡ total (λ k. length (s k)) n
@@ -82,23 +81,20 @@ module _ (l : Layout) (w : List ℕ) (s : ℕ → List ℕ) (fits : (k : ℕ) �
                 (is-used (viewOf l w) (firstNode l) (l .nodes) c (n .low) (n .high) (in-use _ z)) o,
           ))
 
--- As it is told by the faults: no list is refused, all members carry an identifier that says in use, and they are as many as the nodes
+-- As it is told by the walks: no list is refused, all members carry an identifier that says in use, and they are as many as the nodes
 -- that do. Then every node in no list is free or worn.
 pub nothing-left : (l : Layout) → InRange l → (w : List ℕ)
     → ((k : ℕ) → k < l .lists → numberOf (fitIn l (viewOf l w) k (countIn l w k)) ≡ 0)
-    → ((k : ℕ) → k < l .lists → carries (viewOf l w .ident) (faultAt l (viewOf l w) (countIn l w) k) ≡ true)
-    → total (λ k. lengthBy (faultAt l (viewOf l w) (countIn l w) k) (countIn l w k)) (l .lists)
-    ≡ length (used (viewOf l w) (firstNode l) (l .nodes))
+    → ((k : ℕ) → k < l .lists → carries (viewOf l w .ident) (walkAt l (viewOf l w) (countIn l w) k .faults) ≡ true)
+    → total (λ k. walkAt l (viewOf l w) (countIn l w) k .members) (l .lists) ≡ length (used (viewOf l w) (firstNode l) (l .nodes))
     → (c : ℕ) → Node l c → (c ∈ joined (fittingOf l w) (l .lists) → ⊥) → Unlisted (getD w (identAt l c) 0)
 nothing-left l r w fitted carried number =
     none-else l w s fits
-    (λ k h. members-carry (viewOf l w) k (countIn l w k) (s k) (few k h)
-    (ap (carries (viewOf l w .ident)) (sym (chosen-told l w k h (fitted k h) .1)) ∙ carried k h) (omega (arith, h, r .lists)))
+    (λ k h. members-carry (viewOf l w) k (s k) (few k h)
+    (ap (carries (viewOf l w .ident)) (sym (chosen-told l w k h (fitted k h) .2)) ∙ carried k h) (omega (arith, h, r .lists)))
     (length-joined s (l .lists)
-    ∙ total-same (λ k. length (s k)) (λ k. lengthBy (faultAt l (viewOf l w) (countIn l w) k) (countIn l w k)) (l .lists)
-    (λ k h.
-    sym (ap (λ (f : Faults). lengthBy f (countIn l w k)) (chosen-told l w k h (fitted k h) .1)
-    ∙ members-number l (viewOf l w) k (countIn l w k) (s k) h (fits k h .nodes) (few k h)))
+    ∙ total-same (λ k. length (s k)) (λ k. walkAt l (viewOf l w) (countIn l w) k .members) (l .lists)
+    (λ k h. sym (chosen-told l w k h (fitted k h) .3))
     ∙ number)
   where
     s : ℕ → List ℕ
@@ -108,7 +104,7 @@ nothing-left l r w fitted carried number =
     fits = fit-accepted l w s (λ k h. chosen-told l w k h (fitted k h) .0) .fits
 
     few : (k : ℕ) → k < l .lists → Few (faultSum l w k (s k))
-    few k h = few-summed l (faultSum l w k (s k)) (wrong w (asked l k (s k))) (summed-forward l w k (s k) h) (fits k h .few)
+    few k h = few-summed l (faultSum l w k (s k)) (wrong w (othersAsked l k (s k))) (summed-others l w k (s k)) (fits k h .few)
 
 -- so nothing is to be cleared ..
 pub clears-nothing : (l : Layout) (w : List ℕ) (s : ℕ → List ℕ) → ((c : ℕ) → Node l c → (c ∈ joined s (l .lists) → ⊥) → Unlisted (getD w (identAt l c) 0))

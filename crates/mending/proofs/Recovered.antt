@@ -3,6 +3,7 @@ use Prim.Native.Nat.{ℕ, zero, suc, _+_, _<_, _≤_}
 use mathlib.Core.Path.{_≡_, refl, ap, ap₂, _∙_, sym, subst}
 use mathlib.Core.List.{List, [], _++_, append-nil, append-assoc}
 use mathlib.Core.Bool.{Bool, true, false, cond, _&&_, and-eq-true-iff}
+use native.Mathlib.Decide.{ℕ-discrete}
 use native.Mathlib.Omega.{arith}
 use native.Mathlib.Nat.{eq-or-lt-of-le}
 use mathlib.Core.Logic.{⊎-elim}
@@ -10,21 +11,21 @@ use lib.Dec.{eqb}
 use lib.ListN.{length, getD}
 use borrow.Author.Tests.{eq-eqb, ne-eqb, eqb-true}
 use Rattle.sequences.specs.Sequence.{_∈_}
-use Rattle.stores.specs.Stores.{Write, run, refuse, stores, writesIn}
+use Rattle.stores.specs.Stores.{Write, write, run, refuse, stores, writesIn}
 use Rattle.layout.specs.declared.Layout.{Layout}
-use Rattle.layout.specs.Words.{firstNode, Node, InRange, sizeOf, identAt, Unlisted}
-use Rattle.lists.specs.Lists.{asked}
+use Rattle.layout.specs.Words.{firstNode, Node, InRange, sizeOf, identAt, countAt, Unlisted}
+use Rattle.lists.specs.Lists.{asked, othersAsked, countAsked}
 use Rattle.lists.specs.Decide.{View, viewOf, countIn, used, unwiped}
 use Rattle.recovery.specs.Fits.{wrong}
 use Rattle.recovery.specs.Plan.{joined, listsAsked, clearsAsked, fittingOf, refusalFrom, recoverOf, Accepted}
-use Rattle.recovery.proofs.Required.{wrong-append}
+use Rattle.recovery.proofs.Required.{wrong-right, wrong-wrong, wrong-append}
 use Rattle.recovery.proofs.Whole.{number-accepted}
 use Rattle.fitting.specs.declared.Fitted.{Fitted}
 use Rattle.fitting.specs.declared.Fitted.the-variants as G
-use Rattle.fitting.specs.Fitting.{fitIn, mendOf, numberOf, faultIn, membersBy}
-use Rattle.fitting.proofs.Told.{Told, fit-told, members-told}
+use Rattle.fitting.specs.Fitting.{fitIn, countMend, numberOf, membersBy}
+use Rattle.fitting.proofs.Told.{Told, fit-told, chosen-told, members-told}
 use Rattle.mending.specs.declared.Mends.{Mends}
-use Rattle.mending.specs.Mending.{refusalIn, mendsIn, erasedFrom, clears, wipes, MendsOf}
+use Rattle.mending.specs.Mending.{refusalIn, listMends, mendsIn, erasedFrom, clears, wipes, MendsOf}
 use Rattle.mending.proofs.Cleared.{cleared-told}
 use Rattle.mending.proofs.LeftOver.{nothing-left, clears-nothing, wipes-nothing}
 use Rattle.mending.proofs.Wiping.{plan-parted, plan-told}
@@ -42,31 +43,37 @@ refusal-told l w k (suc n) h =
         → refusalIn l (viewOf l w) (countIn l w) k (suc n) ≡ refusalFrom l w k (suc n)
     by G.Nothing e t i = rw (e, t)
     by G.Several e t i = rw (e, t)
-    by (G.Forward f) e t i = rw (e, t .0) i
-    by (G.Backward f) e t i = rw (e, t .0) i
+    by (G.Forward x) e t i = rw (e, t .0) i
+    by (G.Backward x) e t i = rw (e, t .0) i
 
 -- list j more at the end
-mends-more : (l : Layout) (v : View) (c : ℕ → ℕ) (k n j : ℕ) → k + n ≡ j
-    → mendsIn l v c k (suc n) ≡ mendsIn l v c k n ++ mendOf l (faultIn (fitIn l v j (c j)))
+mends-more : (l : Layout) (v : View) (c : ℕ → ℕ) (k n j : ℕ) → k + n ≡ j → mendsIn l v c k (suc n) ≡ mendsIn l v c k n ++ listMends l v c j
 unfolding mendsIn
 mends-more l v c k zero j e =
     let q : k ≡ j = omega arith in
-    append-nil (mendOf l (faultIn (fitIn l v k (c k)))) ∙ ap (λ (i : ℕ). mendOf l (faultIn (fitIn l v i (c i)))) q
+    append-nil (listMends l v c k) ∙ ap (listMends l v c) q
 mends-more l v c k (suc n) j e =
-    ap (λ (ps : List Write). mendOf l (faultIn (fitIn l v k (c k))) ++ ps) (mends-more l v c (suc k) n j (omega arith))
-    ∙ sym (append-assoc (mendOf l (faultIn (fitIn l v k (c k)))) (mendsIn l v c (suc k) n) (mendOf l (faultIn (fitIn l v j (c j)))))
+    ap (λ (ps : List Write). listMends l v c k ++ ps) (mends-more l v c (suc k) n j (omega arith))
+    ∙ sym (append-assoc (listMends l v c k) (mendsIn l v c (suc k) n) (listMends l v c j))
 
--- the mends are the wrong words of the sequences that fit
+-- the mend of a count is the count's wrong word
+count-told : (l : Layout) (w : List ℕ) (k : ℕ) (s : List ℕ) (m : ℕ) → m ≡ length s → countMend l k (countIn l w k) m ≡ wrong w (countAsked l k s)
+unfolding wrong
+count-told l w k s m e = ap (countMend l k (countIn l w k)) e ∙ by (ℕ-discrete (countIn l w k) (length s))
+  where
+    by : Dec (countIn l w k ≡ length s) → countMend l k (countIn l w k) (length s) ≡ wrong w (countAsked l k s)
+    by (yes q) = rw (eq-eqb _ _ q) (sym (wrong-right w (write (countAt l k) (length s)) [] q))
+    by (no q) = rw (ne-eqb _ _ q) (sym (wrong-wrong w (write (countAt l k) (length s)) [] q))
+
+-- the mends are the wrong words of the sequences that are chosen
 mend-told
     : (l : Layout) (w : List ℕ) (k : ℕ) → k < l .lists → numberOf (fitIn l (viewOf l w) k (countIn l w k)) ≡ 0
-    → mendOf l (faultIn (fitIn l (viewOf l w) k (countIn l w k))) ≡ wrong w (asked l k (fittingOf l w k))
-mend-told l w k h z = by (fitIn l (viewOf l w) k (countIn l w k)) z (fit-told l w k h)
-  where
-    by : (r : Fitted) → numberOf r ≡ 0 → Told l w k r → mendOf l (faultIn r) ≡ wrong w (asked l k (fittingOf l w k))
-    by G.Nothing z t = absurd (omega arith)
-    by G.Several z t = absurd (omega arith)
-    by (G.Forward f) z t = rw (t .0, t .1)
-    by (G.Backward f) z t = rw (t .0, t .1)
+    → listMends l (viewOf l w) (countIn l w) k ≡ wrong w (asked l k (fittingOf l w k))
+unfolding asked
+mend-told l w k h z =
+    let t = chosen-told l w k h z in
+    let s = fittingOf l w k in
+    ap₂ _++_ (t .1) (count-told l w k s _ (t .3)) ∙ sym (wrong-append w (othersAsked l k s) (countAsked l k s))
 
 mends-told
     : (l : Layout) (w : List ℕ) → ((k : ℕ) → k < l .lists → numberOf (fitIn l (viewOf l w) k (countIn l w k)) ≡ 0)

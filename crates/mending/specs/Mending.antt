@@ -15,8 +15,8 @@ use Rattle.lists.specs.Lists.{blankAsked}
 use Rattle.lists.specs.Decide.{View, viewOf, cellsWith}
 use Rattle.recovery.specs.Fits.{wrong}
 use Rattle.recovery.specs.Plan.{blanksAsked}
-use Rattle.fitting.specs.declared.Faults.{Faults}
-use Rattle.fitting.specs.Fitting.{fitIn, mendOf, numberOf, faultIn, isBackward, lengthBy, carries, membersBy}
+use Rattle.fitting.specs.declared.Walk.{Walk}
+use Rattle.fitting.specs.Fitting.{fitIn, mendOf, countMend, numberOf, walkIn, isBackward, carries, membersBy}
 use Rattle.mending.specs.declared.Mend.{Mend}
 use Rattle.mending.specs.declared.Mends.{Mends}
 
@@ -25,15 +25,22 @@ unfoldable pub total : (ℕ → ℕ) → ℕ → ℕ
 total f zero = 0
 total f (suc n) = total f n + f n
 
--- of the n lists from k on: the first number that is not 0, and the mends in order
+-- of the n lists from k on: the first number that is not 0, and, below, the mends in order
 unfoldable pub refusalIn : Layout → View → (ℕ → ℕ) → ℕ → ℕ → ℕ
 refusalIn l v count k zero = 0
 refusalIn l v count k (suc n) =
     cond (eqb (numberOf (fitIn l v k (count k))) 0) (refusalIn l v count (suc k) n) (numberOf (fitIn l v k (count k)))
 
+-- the walk that is chosen for list k, and the stores that mend it: "the other word .. before the count"
+abbrev pub walkAt : Layout → View → (ℕ → ℕ) → ℕ → Walk
+walkAt l v count k = walkIn (fitIn l v k (count k))
+
+abbrev pub listMends : Layout → View → (ℕ → ℕ) → ℕ → List Write
+listMends l v count k = mendOf l (walkAt l v count k .faults) ++ countMend l k (count k) (walkAt l v count k .members)
+
 unfoldable pub mendsIn : Layout → View → (ℕ → ℕ) → ℕ → ℕ → List Write
 mendsIn l v count k zero = []
-mendsIn l v count k (suc n) = mendOf l (faultIn (fitIn l v k (count k))) ++ mendsIn l v count (suc k) n
+mendsIn l v count k (suc n) = listMends l v count k ++ mendsIn l v count (suc k) n
 
 -- a column with 0 at these cells
 unfoldable pub erased : List ℕ → List ℕ → List ℕ
@@ -85,17 +92,17 @@ wordsOn (A.Done n) qs m w = applied qs (m - n) w
 wordsOn (A.Stopped n) qs m w = w
 wordsOn (A.Refused n) qs m w = w
 
--- the mend of a fault: as many of this one store as there are
-pub record IsMend (l : Layout) (f : Faults) (m : Mend) : Type 0 where
+-- the stores ps, one at most: as many of this store as there are
+pub record IsMend (l : Layout) (ps : List Write) (m : Mend) : Type 0 where
   pub few : m .number ≤ 1
-  pub same : take (m .number) (write (m .at) (m .value) ∷ []) ≡ mendOf l f
-  pub inside : All (λ (p : Write). p .at < sizeOf l) (mendOf l f)
+  pub same : take (m .number) (write (m .at) (m .value) ∷ []) ≡ ps
+  pub inside : All (λ (p : Write). p .at < sizeOf l) ps
 
 -- what is found of all lists; all but the refusal and that the rows hold stores counts only where no list is refused
 pub record MendsOf (l : Layout) (v : View) (count : ℕ → ℕ) (m : Mends) : Type 0 where
   pub refusal : m .refusal ≡ refusalIn l v count 0 (l .lists)
-  pub members : m .refusal ≡ 0 → m .members ≡ total (λ k. lengthBy (faultIn (fitIn l v k (count k))) (count k)) (l .lists)
-  pub carried : m .refusal ≡ 0 → m .carried ≡ true → (k : ℕ) → k < l .lists → carries (v .ident) (faultIn (fitIn l v k (count k))) ≡ true
+  pub members : m .refusal ≡ 0 → m .members ≡ total (λ k. walkAt l v count k .members) (l .lists)
+  pub carried : m .refusal ≡ 0 → m .carried ≡ true → (k : ℕ) → k < l .lists → carries (v .ident) (walkAt l v count k .faults) ≡ true
   pub rows : m .refusal ≡ 0 → writesIn (m .rows) ≡ mendsIn l v count 0 (l .lists)
   pub held : Held (sizeOf l) (m .rows) (writesIn (m .rows))
   pub back : m .refusal ≡ 0 → (k : ℕ) → k < l .lists → getD (m .back) k false ≡ isBackward (fitIn l v k (count k))

@@ -1,7 +1,7 @@
-// Recovery by correction. If exactly one sequence fits each list, its wrong word is to be stored, list 0 first, then 0 to each
-// identifier of a node in no list that is neither 0 nor 65,535, and last 0 to each record word of a node in no list that is not worn. Which
-// nodes these are is decided before the first store. What stands here is what recovery in lent words and in lent bytes share: what is
-// found of the lists, the store that mends a fault, and the laws by which this is the plan of recovery.
+// Recovery by correction. If one sequence is chosen for each list, its wrong word is to be stored and then its count, if that is wrong, list 0
+// first, then 0 to each identifier of a node in no list that is neither 0 nor 65,535, and last 0 to each record word of a node in no list
+// that is not worn. Which nodes these are is decided before the first store. What stands here is what recovery in lent words and in lent
+// bytes share: what is found of the lists, the stores that mend a list, and the laws by which this is the plan of recovery.
 use fitting::Faults;
 use layout::Layout;
 use spans::Cell;
@@ -12,7 +12,7 @@ ghost use mathlib.Core.Bool.{cond, _&&_};
 ghost use lib.Dec.{eqb};
 ghost use lib.ListN.{length};
 ghost use Rattle.layout.specs.Words.{mostCells, InRange};
-ghost use Rattle.fitting.specs.Fitting.{FaultFits};
+ghost use Rattle.fitting.specs.Fitting.{mendOf, countMend, FaultFits};
 ghost use Rattle.mending.specs.Mending.{IsMend};
 
 // A store, where the number is 1; none, where it is 0.
@@ -35,7 +35,7 @@ pub struct Mends {
 // The store that mends a fault.
 pub fn mend_of(l: Layout, f: Faults) -> Mend
     requires { ⌜ InRange l × FaultFits l f ⌝ }
-    ensures { λ r. ⌜ IsMend l f r ⌝ }
+    ensures { λ r. ⌜ IsMend l (mendOf l f) r ⌝ }
 {
     match f {
         Faults::None => Mend {
@@ -53,6 +53,18 @@ pub fn mend_of(l: Layout, f: Faults) -> Mend
             value: 0,
             number: 0,
         },
+    }
+}
+
+// The store that mends the count of list k, which is n and is to be m.
+pub fn count_mend(l: Layout, k: u16, n: u16, m: u16) -> Mend
+    requires { ⌜ InRange l × (k < l .lists) ⌝ }
+    ensures { λ r. ⌜ IsMend l (countMend l k n m) r ⌝ }
+{
+    Mend {
+        at: (l.header(k) + Layout::COUNT) as u16,
+        value: m,
+        number: if n == m { 0 } else { 1 },
     }
 }
 

@@ -1,5 +1,5 @@
--- Sequences that fit two lists share no cell: a shared cell would cost three wrong words, and two sequences that fit have two at
--- most.
+-- Sequences that fit two lists share no cell: a shared cell would cost three wrong words beside the counts, and two sequences that
+-- fit have two at most.
 use Prim.Native.Nat.{ℕ, zero, suc, _+_, _<_, _≤_}
 use mathlib.Core.Path.{_≡_, refl, _∙_, sym}
 use mathlib.Core.List.{List, reverse}
@@ -15,7 +15,7 @@ use Rattle.lists.specs.Lists.{identsAsked, forwardsAsked, backsAsked}
 use Rattle.lists.specs.Decide.{viewOf}
 use Rattle.lists.proofs.Unique.{header-out, nodes-all}
 use Rattle.recovery.specs.Fits.{wrong, Fits}
-use Rattle.recovery.proofs.Candidates.{wrong-parts, right-forward, right-backward, right-idents}
+use Rattle.recovery.proofs.Candidates.{wrong-others, right-forward, right-backward, right-idents}
 
 -- not both 0
 some : (a b : ℕ) → (a ≡ 0 → b ≡ 0 → ⊥) → 1 ≤ a + b
@@ -37,8 +37,8 @@ module _ (l : Layout) (w : List ℕ) (i j : ℕ) (hi : i < l .lists) (hj : j < l
   fits-disjoint s t x f g ms mt =
       omega (
         arith,
-        wrong-parts l w i s,
-        wrong-parts l w j t,
+        wrong-others l w i s,
+        wrong-others l w j t,
         f .few,
         g .few,
         some (length (wrong w (identsAsked l i s))) (length (wrong w (identsAsked l j t))) idents,

@@ -1,7 +1,7 @@
 -- The members of all sequences, and the nodes in none.
 use Prim.Native.Nat.{ℕ, zero, suc, _+_, _<_, _≤_}
 use mathlib.Core.Path.{_≡_, refl, ap, ap₂, _∙_, sym, subst}
-use mathlib.Core.List.{List, [], _∷_, _++_, List·Memᴰ, List·Memᴰ·head, List·Memᴰ·tail, List·Memᴰ·append-cases, Memᴰ·append-left, Memᴰ·append-right}
+use mathlib.Core.List.{List, [], _∷_, _++_, append-nil, append-assoc, List·Memᴰ, List·Memᴰ·head, List·Memᴰ·tail, List·Memᴰ·append-cases, Memᴰ·append-left, Memᴰ·append-right}
 use mathlib.Core.Bool.{Bool, true, false, not, _&&_, _||_, and-false, and-eq-true-iff, or-true, true≢false}
 use mathlib.Core.Logic.{⊎-elim}
 use native.Mathlib.Omega.{arith}
@@ -37,6 +37,19 @@ pub joined-same {ℓ} : {A : Type ℓ} (s t : ℕ → List A) (n : ℕ) → ((k 
 unfolding joined
 joined-same s t zero h = refl
 joined-same s t (suc n) h = ap₂ _++_ (joined-same s t n (λ k q. h k (omega arith))) (h n (omega arith))
+
+-- those below k, that of k, and the rest
+pub joined-split {ℓ} : {A : Type ℓ} (s : ℕ → List A) (n k : ℕ) → k < n → (rest : List A) × (joined s n ≡ joined s k ++ (s k ++ rest))
+unfolding joined
+joined-split s zero k h = absurd (omega arith)
+joined-split s (suc n) k h =
+    ⊎-elim (λ q. ([], ap (λ (j : ℕ). joined s j ++ s j) (sym q) ∙ ap (λ (t : List _). joined s k ++ t) (sym (append-nil (s k)))))
+    (λ q.
+    let r = joined-split s n k q in (
+      r .0 ++ s n,
+      ap (λ (t : List _). t ++ s n) (r .1) ∙ append-assoc (joined s k) (s k ++ r .0) (s n) ∙ ap (λ (t : List _). joined s k ++ t) (append-assoc (s k) (r .0) (s n)),
+    ))
+    (eq-or-lt-of-le (le-of-suc-le-suc h))
 
 -- a node in none of the sequences is no cell of a list
 pub ring-out : (l : Layout) (s : ℕ → List ℕ) (k c : ℕ) → k < l .lists → firstNode l ≤ c → (c ∈ joined s (l .lists) → ⊥) → c ∈ (k ∷ s k) → ⊥

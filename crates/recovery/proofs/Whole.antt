@@ -15,33 +15,16 @@ use Rattle.stores.proofs.Laws.{run-word, length-row}
 use Rattle.layout.specs.declared.Layout.{Layout}
 use Rattle.layout.specs.declared.Opened.the-variants as O
 use Rattle.layout.specs.Words.{tailWords, firstNode, Node, sizeOf, identAt, recordAt, wornIdent, Unlisted, free, worn, isWorn, opened}
-use Rattle.lists.specs.Lists.{asked, Agrees, IsList, SoundLists, Blank, blankAsked, Wiped}
+use Rattle.lists.specs.Lists.{asked, othersAsked, countAsked, Agrees, IsList, SoundLists, Blank, blankAsked, Wiped}
 use Rattle.lists.specs.Decide.{viewOf}
 use Rattle.lists.proofs.Blank.{agrees-blank}
-use Rattle.recovery.specs.Fits.{wrong, Fits, Fit, none, only, several, fitOf}
-use Rattle.recovery.specs.Plan.{joined, outOf, nodesOut, listsAsked, clearsAsked, blanksAsked, wipesAsked, required, recoverStores, onlyOf, fittingOf, fitNumber, refusalFrom, recoverOf, recoverPlan, Accepted}
-use Rattle.recovery.proofs.Candidates.{Decided, decided}
+use Rattle.recovery.specs.Fits.{wrong, Fits, alone, Fit, none, only, several, fitOf}
+use Rattle.recovery.specs.Plan.{joined, outOf, nodesOut, listsAsked, clearsAsked, blanksAsked, wipesAsked, required, recoverStores, mostStores, onlyOf, fittingOf, fitNumber, refusalFrom, recoverOf, recoverPlan, Accepted}
+use Rattle.recovery.proofs.Candidates.{accepted-fit, fit-accepted}
 use Rattle.recovery.proofs.Required.{Right, wrong-append, wrong-length, agrees-wrong, wrong-in, wrong-most, wrong-agreed}
 use Rattle.recovery.proofs.Joined.{one-joined, joined-one, joined-same, is-out, out-few}
 use Rattle.recovery.proofs.Count.{in-lists, in-clears, in-wipes, required-once, required-inside}
 use Rattle.recovery.proofs.Suffix.{right-unique, worn-kept}
-
--- an accepted list's decision
-pub accepted-fit : (l : Layout) (w : List ℕ) (s : ℕ → List ℕ) → Accepted l w s → (k : ℕ) → k < l .lists → fitOf l w k ≡ only (s k)
-accepted-fit l w s a k h = by (fitOf l w k) (decided l w k h)
-  where
-    by : (f : Fit) → Decided l w k h f → f ≡ only (s k)
-    by none d = absurd (d (s k) (a .fits k h))
-    by (only t) d = ap only (a .unique k h t (d .0))
-    by several d = absurd (d .4 (a .unique k h (d .0) (d .2) ∙ sym (a .unique k h (d .1) (d .3))))
-
--- and the other way round
-pub fit-accepted : (l : Layout) (w : List ℕ) (s : ℕ → List ℕ) → ((k : ℕ) → k < l .lists → fitOf l w k ≡ only (s k)) → Accepted l w s
-fit-accepted l w s e =
-    record { fits = λ k h. told k h .0; unique = λ k h. told k h .1 }
-  where
-    told : (k : ℕ) (h : k < l .lists) → Fits l w k (s k) × ((r : List ℕ) → Fits l w k r → r ≡ s k)
-    told k h = subst (Decided l w k h) (e k h) (decided l w k h)
 
 -- no list is refused
 pub accepted-number : (l : Layout) (w : List ℕ) (s : ℕ → List ℕ) → Accepted l w s → (k n : ℕ) → k + n ≤ l .lists → refusalFrom l w k n ≡ 0
@@ -194,16 +177,15 @@ module _ (l : Layout) (w : List ℕ) (s : ℕ → List ℕ) (e : length w ≡ si
 
 -- where every list has all its words, each has only one sequence that fits
 pub lists-accepted : (l : Layout) (w : List ℕ) (s : ℕ → List ℕ) → ((k : ℕ) → k < l .lists → IsList l w k (s k)) → Accepted l w s
+unfolding asked
 lists-accepted l w s i =
-    record { fits = fits; unique = λ k h. right-unique l w k h (s k) (fits k h) (agrees-wrong w (asked l k (s k)) (i k h .agrees)) }
+    record { fits = fits; chosen = λ k h. alone (right-unique l w k h (s k) (fits k h) (none k h)) }
   where
+    none : (k : ℕ) → k < l .lists → wrong w (othersAsked l k (s k)) ≡ []
+    none k h = agrees-wrong w (othersAsked l k (s k)) (append-all (Right w) (othersAsked l k (s k)) (countAsked l k (s k)) (i k h .agrees) .0)
+
     fits : (k : ℕ) → k < l .lists → Fits l w k (s k)
-    fits k h =
-        record {
-          nodes = i k h .nodes;
-          different = i k h .different;
-          few = omega (arith, ap length (agrees-wrong w (asked l k (s k)) (i k h .agrees)));
-        }
+    fits k h = record { nodes = i k h .nodes; different = i k h .different; few = omega (arith, ap length (none k h)) }
 
 -- so a sound store needs no store
 pub sound-accepted : (l : Layout) (w : List ℕ) (x : SoundLists l w) → Accepted l w (x .sequence)
@@ -235,20 +217,22 @@ length-blanks l (c ∷ cs) =
       mul-suc (tailWords l) (length cs),
     )
 
--- "so recovery makes at most L + N stores", and its "bound grows by P × N"
+-- a plan has two stores at most for each list, one for each node's identifier and one for each record word
 module _ (l : Layout) (w : List ℕ) (s : ℕ → List ℕ) (a : Accepted l w s) where
-  lists-few : (n : ℕ) → n ≤ l .lists → length (wrong w (joined (λ k. asked l k (s k)) n)) ≤ n
-  unfolding joined wrong
+  lists-few : (n : ℕ) → n ≤ l .lists → length (wrong w (joined (λ k. asked l k (s k)) n)) ≤ 2 * n
+  unfolding joined wrong asked
   lists-few zero h = omega arith
   lists-few (suc n) h =
       omega (
         arith,
         wrong-length w (joined (λ k. asked l k (s k)) n) (asked l n (s n)),
+        wrong-length w (othersAsked l n (s n)) (countAsked l n (s n)),
         a .fits n (omega arith) .few,
+        wrong-most w (countAsked l n (s n)),
         lists-few n (omega arith),
       )
 
-  pub few-stores : length (recoverStores l w s) ≤ l .lists + l .nodes + tailWords l * l .nodes
+  pub few-stores : length (recoverStores l w s) ≤ mostStores l
   few-stores =
       let few = out-few (viewOf l w .ident) (joined s (l .lists)) (firstNode l) (l .nodes) in
       omega (

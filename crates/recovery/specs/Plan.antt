@@ -1,5 +1,5 @@
 -- What recovery stores.
-use Prim.Native.Nat.{ℕ, zero, suc, _+_, _<_, _≤_}
+use Prim.Native.Nat.{ℕ, zero, suc, _+_, _*_, _<_, _≤_}
 use mathlib.Core.Path.{_≡_}
 use mathlib.Core.List.{List, [], _∷_, _++_, map, List·Memᴰ}
 use mathlib.Core.Bool.{Bool, false, not, _&&_, _||_, cond}
@@ -11,7 +11,7 @@ use Rattle.layout.specs.declared.Layout.{Layout}
 use Rattle.layout.specs.Words.{tailWords, firstNode, Node, identAt, recordAt, wornIdent, Unlisted, isWorn, opened, afterOpen, ask}
 use Rattle.lists.specs.Lists.{asked, blankAsked}
 use Rattle.lists.specs.Decide.{viewOf}
-use Rattle.recovery.specs.Fits.{wrong, Fit, none, only, several, fitOf, Fits}
+use Rattle.recovery.specs.Fits.{wrong, Fit, none, only, several, fitOf, Fits, Chosen}
 
 -- the sequences below n, one behind the other
 unfoldable pub joined {ℓ} : {A : Type ℓ} → (ℕ → List A) → ℕ → List A
@@ -32,7 +32,7 @@ abbrev pub nodesOut : Layout → List ℕ → (ℕ → List ℕ) → List ℕ
 nodesOut l w s = outOf (viewOf l w .ident) (joined s (l .lists)) (firstNode l) (l .nodes)
 
 -- What recovery requires of the words w with these sequences, as the stores that would make it so: no word is required twice.
--- "recovery stores the differing words, list 0 first,
+-- "recovery stores the differing words, list 0 first," of each list "the other word .. before the count",
 abbrev pub listsAsked : Layout → (ℕ → List ℕ) → List Write
 listsAsked l s = joined (λ k. asked l k (s k)) (l .lists)
 
@@ -55,7 +55,11 @@ required l w s = listsAsked l s ++ (clearsAsked l w s ++ wipesAsked l w s)
 abbrev pub recoverStores : Layout → List ℕ → (ℕ → List ℕ) → List Write
 recoverStores l w s = wrong w (required l w s)
 
--- "If for every list exactly one sequence fits": that sequence
+-- "so recovery makes at most L + N stores", its "bound grows by P × N" for the wipes, and "by L" for the counts
+abbrev pub mostStores : Layout → ℕ
+mostStores l = 2 * l .lists + l .nodes + tailWords l * l .nodes
+
+-- the sequence that is chosen for each list
 abbrev pub onlyOf : Fit → List ℕ
 onlyOf none = []
 onlyOf (only s) = s
@@ -83,10 +87,10 @@ recoverOf l w =
 unfoldable pub recoverPlan : List ℕ → Plan
 recoverPlan w = afterOpen (opened w) refuse (λ l. recoverOf l w)
 
--- every list has exactly one sequence that fits
+-- for every list one of the sequences that fit is chosen
 pub record Accepted (l : Layout) (w : List ℕ) (s : ℕ → List ℕ) : Type 0 where
   pub fits : (k : ℕ) → k < l .lists → Fits l w k (s k)
-  pub unique : (k : ℕ) → k < l .lists → (r : List ℕ) → Fits l w k r → r ≡ s k
+  pub chosen : (k : ℕ) → k < l .lists → Chosen l w k (s k)
 
 -- "the count of places where the found and the final store hold different words"
 unfoldable pub differing : List ℕ → List ℕ → ℕ

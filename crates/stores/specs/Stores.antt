@@ -1,5 +1,5 @@
 -- A call is a refusal or a list of word stores; an allowance cuts it short.
-use Prim.Native.Nat.{ℕ, _+_, _≤_, _<_}
+use Prim.Native.Nat.{ℕ, _+_, _*_, _≤_, _<_}
 use mathlib.Core.Path.{_≡_}
 use mathlib.Core.List.{List, [], _∷_}
 use mathlib.Core.Bool.{cond}
@@ -99,9 +99,9 @@ pub record Listed (n : ℕ) (at values : List ℕ) (ps : List Write) : Type 0 wh
   pub same : writesOf at values ≡ ps
   pub inside : All (λ (p : Write). p .at < n) ps
 
--- a short list of stores, kept in two arrays: one for each list have room
+-- a short list of stores, kept in two arrays: two for each list have room
 abbrev pub mostRows : ℕ
-mostRows = mostLists
+mostRows = 2 * mostLists
 
 abbrev pub writesIn : Rows → List Write
 writesIn r = writesOf (take (r .len) (r .at)) (take (r .len) (r .values))

@@ -83,7 +83,7 @@ pub fn put_row(words: &mut [u16], a: usize, values: &[u16], allowance: u16) -> A
     Answer::Done(n)
 }
 
-// A short list of stores: at most one for each list.
+// A short list of stores: at most two for each list.
 pub struct Rows {
     pub at: [u16; Rows::MOST],
     pub values: [u16; Rows::MOST],
@@ -91,7 +91,7 @@ pub struct Rows {
 }
 
 impl Rows {
-    pub const MOST: usize = Layout::MAX_LISTS;
+    pub const MOST: usize = 2 * Layout::MAX_LISTS;
 }
 
 // Makes the stores of the rows, up to the allowance.

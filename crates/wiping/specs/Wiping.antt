@@ -6,7 +6,7 @@
 -- `Sound` and `Ordered`, which is soundness without the zero records, stand in lists/specs/Lists.antt. Demand 3 starts from ordered stores
 -- (courses/specs/Demand3.antt), and those that the delete of older versions left, cut anywhere, are recovered as well (`bare`,
 -- courses/specs/Left.antt).
-use Prim.Native.Nat.{ℕ, _+_, _*_, _%_, _<_, _≤_}
+use Prim.Native.Nat.{ℕ, _+_, _%_, _<_, _≤_}
 use mathlib.Core.Path.{_≡_}
 use mathlib.Core.List.{List, [], _∷_, _++_}
 use mathlib.Core.Logic.{_↔_}
@@ -18,7 +18,7 @@ use Rattle.byte_form.specs.Bytes.{wordsIn, bytesAfter}
 use Rattle.layout.specs.declared.Layout.{Layout}
 use Rattle.layout.specs.Words.{tailWords, Node, identAt, recordAt, wornIdent, layoutOf}
 use Rattle.lists.specs.Lists.{Ordered, Sound, Blank, blankAsked, Wiped, SameCells, KeepsWorn}
-use Rattle.recovery.specs.Plan.{joined, recoverPlan}
+use Rattle.recovery.specs.Plan.{joined, mostStores, recoverPlan}
 use Rattle.axle_store.specs.declared.Checked.the-variants as C
 use Rattle.axle_store.specs.Calls.{checkAnswer, deletePlan}
 use Rattle.demands.specs.Demand2.{FreeNode}
@@ -81,7 +81,7 @@ pub record Wiping : Type 0 where
       → Sound (wordsAfter (recoverPlan w) m w) × NoRemains (wordsAfter (recoverPlan w) m w)
   -- .. "recovery's bound grows by P × N"
   pub bound : (w : List ℕ) (ps : List Write) → recoverPlan w ≡ stores ps
-      → length ps ≤ layoutOf w .lists + layoutOf w .nodes + tailWords (layoutOf w) * layoutOf w .nodes
+      → length ps ≤ mostStores (layoutOf w)
   -- "a deleted record may not stay readable": no call that is not cut leaves a record in a free node of a sound store.
   pub kept : (w : List ℕ) → Sound w → (c : Call) → Whole w c
       → Sound (wordsBy c w) × NoRemains (wordsBy c w)

@@ -1,6 +1,5 @@
-// Which sequences fit the lists of a store, decided in the lent words. Lists that hold are told at once, from both ends; others are walked
+// Which sequences are chosen for the lists of a store, decided in the lent words. Lists that hold are told at once, from both ends; others are walked
 // by their forward links, and by their back links if that does not decide. Two lists are walked in one loop: neither waits for the other.
-use fitting::Faults;
 use fitting::Fits;
 use fitting::Fitted;
 use fitting::Trail;
@@ -56,20 +55,19 @@ fn walk_two(words: &[u16], l: Layout, g: Grid, k: u16, back: bool, j: u16, other
     }
 }
 
-// Which sequence fits list k: both walks at once.
+// Which sequence is chosen for list k: both walks at once.
 fn fit_one(words: &[u16], l: Layout, g: Grid, k: u16) -> Fitted
     requires { ⌜ Gridded l g × Laid l (now words) × (k < l .lists) ⌝ }
     ensures { λ r. ⌜ r ≡ fitIn l (viewOf l (now (words .entry))) k (countIn l (now (words .entry)) k) ⌝ }
 {
     if word_walks::one_holds(words, l, g, k) {
-        return Fitted::Forward(Faults::None);
+        return Fitted::Forward(Walk::right(word_walks::count(words, l, k)));
     }
     let w = walk_two(words, l, g, k, false, k, true);
-    let n = word_walks::count(words, l, k);
-    fitting::choice(w.first.counted(k, n), w.second.counted(k, n))
+    fitting::choice(w.first, w.second, word_walks::count(words, l, k))
 }
 
-// Which sequences fit lists k and j, which may be the same.
+// Which sequences are chosen for lists k and j, which may be the same.
 pub fn fit_two(words: &[u16], l: Layout, g: Grid, k: u16, j: u16) -> Fits
     requires { ⌜ Gridded l g × Laid l (now words) × (k < l .lists) × (j < l .lists) ⌝ }
     ensures { λ r. ⌜ (r .first ≡ fitIn l (viewOf l (now (words .entry))) k (countIn l (now (words .entry)) k)) × (r .second ≡ fitIn l (viewOf l (now (words .entry))) j (countIn l (now (words .entry)) j)) ⌝ }
@@ -81,19 +79,19 @@ pub fn fit_two(words: &[u16], l: Layout, g: Grid, k: u16, j: u16) -> Fits
             second: f,
         };
     }
+    let m = word_walks::count(words, l, k);
+    let n = word_walks::count(words, l, j);
     if word_walks::two_hold(words, l, g, k, j) {
         return Fits {
-            first: Fitted::Forward(Faults::None),
-            second: Fitted::Forward(Faults::None),
+            first: Fitted::Forward(Walk::right(m)),
+            second: Fitted::Forward(Walk::right(n)),
         };
     }
     let f = walk_two(words, l, g, k, false, j, false);
-    let m = word_walks::count(words, l, k);
-    let n = word_walks::count(words, l, j);
-    let x = f.first.counted(k, m);
-    let y = f.second.counted(j, n);
-    if x.decide() {
-        if y.decide() {
+    let x = f.first;
+    let y = f.second;
+    if x.decides() {
+        if y.decides() {
             return Fits {
                 first: Fitted::Forward(x),
                 second: Fitted::Forward(y),
@@ -102,7 +100,7 @@ pub fn fit_two(words: &[u16], l: Layout, g: Grid, k: u16, j: u16) -> Fits
     }
     let b = walk_two(words, l, g, k, true, j, true);
     Fits {
-        first: fitting::choice(x, b.first.counted(k, m)),
-        second: fitting::choice(y, b.second.counted(j, n)),
+        first: fitting::choice(x, b.first, m),
+        second: fitting::choice(y, b.second, n),
     }
 }

@@ -1,5 +1,6 @@
 //! What passed and failed, and where kills fell.
 
+use crate::plain::Plain;
 use crate::states::State;
 use interface::Call;
 
@@ -12,13 +13,14 @@ pub struct Counts {
     pub failed: usize,
     /// Calls that were answered.
     pub calls: usize,
-    /// Kills that fell between calls; inside a call before its first store, between two, behind the last; that tore a word;
-    /// that tore the central word.
+    /// Kills that fell between calls; inside a call before its first store, between two, behind the last; that tore a word; that tore the
+    /// central word, and so that recovery refuses.
     pub between_calls: usize,
     pub before: usize,
     pub between_stores: usize,
     pub behind: usize,
     pub torn: usize,
+    pub central: usize,
     pub lost: usize,
 }
 
@@ -34,10 +36,11 @@ impl Counts {
         }
     }
 
-    /// A kill in a call of so many stores.
-    pub fn note(&mut self, state: &State, call: &Call, width: usize, whole: u16) {
+    /// A kill in a call of so many stores. `plain` is what the store held before.
+    pub fn note(&mut self, state: &State, call: &Call, plain: &Plain, whole: u16) {
         let place = match state {
-            _ if state.lost(call, width) => &mut self.lost,
+            _ if state.lost(call, plain) => &mut self.lost,
+            _ if state.central(call, plain.shape.width) => &mut self.central,
             State { torn: Some(_), .. } => &mut self.torn,
             State { made: 0, .. } => &mut self.before,
             State { made, .. } if *made == whole => &mut self.behind,
@@ -55,8 +58,8 @@ impl Counts {
 
 impl std::fmt::Display for Counts {
     fn fmt(&self, f: &mut std::fmt::Formatter) -> std::fmt::Result {
-        let Counts { between_calls, before, between_stores, behind, torn, lost, .. } = self;
+        let Counts { between_calls, before, between_stores, behind, torn, central, lost, .. } = self;
         write!(f, "between calls {between_calls}; in a call before its stores {before}, between them {between_stores}, ")?;
-        write!(f, "behind them {behind}; torn {torn}, and the central word {lost}")
+        write!(f, "behind them {behind}; torn {torn}, and the central word {central}, refused {lost}")
     }
 }

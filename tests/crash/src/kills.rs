@@ -76,7 +76,7 @@ fn killed(counts: &mut Counts, store: &mut Mapped, log: &mut Log, plain: &mut Pl
             let found = possible.iter().find(|state| state.bytes == store);
             counts.holds(found.is_some(), || format!("no state that a kill may leave: {call:?}"));
             found.map_or(false, |state| {
-                counts.note(state, &call, plain.shape.width, possible[possible.len() - 1].made);
+                counts.note(state, &call, plain, possible[possible.len() - 1].made);
                 recovered(counts, store, plain, &call, state)
             })
         }

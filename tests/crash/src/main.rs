@@ -14,7 +14,7 @@ mod steps;
 use counts::Counts;
 use interface::memory::Mapped;
 use interface::stores::record;
-use interface::{bytes_of, words_of, Call, ENOUGH};
+use interface::{bytes_of, words_of, Call, DONE, ENOUGH};
 use model::random::Random;
 use model::store::{self, Shape};
 use plain::Plain;
@@ -65,15 +65,16 @@ pub fn same_lists(bytes: &[u8], plain: &Plain) -> bool {
 pub fn recovered(counts: &mut Counts, store: &mut [u8], plain: &mut Plain, call: &Call, state: &State) -> bool {
     let (expected, left) = Call::Recover.expected(store, ENOUGH);
     let answer = Call::Recover.make(store, &[], ENOUGH);
+    let (lost, width) = (state.lost(call, plain), plain.shape.width);
     counts.holds(answer == expected && store == left, || format!("recover: answer {answer}, not {expected}; {state:?}"));
-    counts.holds((answer == 11) == state.lost(call, plain.shape.width), || {
+    counts.holds(if lost { answer == 12 } else { answer >= DONE }, || {
         format!("recover: answer {answer}; {call:?}, {state:?}")
     });
-    if let (11, Some((low, byte))) = (answer, state.torn) {
+    if let (true, Some((low, byte))) = (lost, state.torn) {
         store[low] = byte;
         Call::Recover.make(store, &[], ENOUGH);
     }
-    plain.make_first(call, call.due(plain.shape.width, state.made));
+    plain.make_first(call, if lost { call.due(width, state.made) } else { state.due(call, width) });
     let kept = plain.same_worn(&words_of(store));
     plain.words = words_of(store);
     let sound = Call::Check.make(store, &[], 0);

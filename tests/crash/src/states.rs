@@ -14,15 +14,17 @@
 //!   * link of the cell that is not in the list yet: a free word. The list is as before.
 //!   * record of that cell, or of the cell just deleted: in no list, so recovery wipes it, whatever it is.
 //!   * identifier of either: in no list, so recovery clears it, whatever it is.
-//!   * the count: the one word that is wrong already. Before the central store (insert) the old list lacks only the count, after
-//!     it (delete) the new list does.
+//!   * the count: it does not matter where one sequence alone fits. Before the central store (insert) that is the old list, after it
+//!     (delete) the new one.
 //!   * b's back: in an insert it is the last store, and the only word that the new list lacks. In a delete it is the first, and the
-//!     only word that the old list lacks.
-//!   * a's forward, the central store: the old list lacks it and the count (insert) or b's back (delete); the new list lacks it
-//!     and b's back (insert) or the count (delete). Two words each: neither fits, and recovery refuses with 11.
+//!     only word that the old list lacks. If it leads to another member, the shorter sequence fits too; the count is not its length.
+//!   * a's forward, the central store: in an insert the old list lacks it and the count, in a delete the new list does, and the other
+//!     list lacks b's back too. So an insert leaves the list without the record, and so does a delete. But if the torn word leads to the
+//!     header or to a member behind b, the sequence that leaves out what is between fits too. The count is the length of neither, and
+//!     recovery refuses with 12.
 //!
-//! So a torn word changes nothing but for the central one, where recovery refuses and stores nothing. A link is torn only where cell
-//! numbers go beyond 255, a count only where the length goes past a multiple of 256.
+//! So a torn word changes nothing but for the central one. There an insert counts as not made and a delete as made, or recovery refuses and
+//! stores nothing. A link is torn only where cell numbers go beyond 255, a count only where the length goes past a multiple of 256.
 //!
 //! A mark makes one store, the identifier of a cell in no list. Torn, it is cleared, and the node is free.
 //!
@@ -30,6 +32,7 @@
 //!
 //! After such a refusal the test puts the low byte back, as if the store had not been made at all; then the old list is due.
 
+use crate::plain::Plain;
 use interface::{bytes_of, Call, DONE, ENOUGH};
 
 /// A state that a kill may leave.
@@ -64,9 +67,29 @@ pub fn states(before: &[u16], call: &Call) -> Vec<State> {
 }
 
 impl State {
-    /// Does recovery refuse it? The torn store is a central one: with it more of an insert or delete counts as made.
-    pub fn lost(&self, call: &Call, width: usize) -> bool {
-        let central = call.due(width, self.made + 1) > call.due(width, self.made);
-        self.torn.is_some() && central && !matches!(call, Call::MarkWorn { .. })
+    /// Is the central word of an insert or delete torn? With it more of the call counts as made.
+    pub fn central(&self, call: &Call, width: usize) -> bool {
+        let more = call.due(width, self.made + 1) > call.due(width, self.made);
+        self.torn.is_some() && more && !matches!(call, Call::MarkWorn { .. })
+    }
+
+    /// Does recovery refuse it? The torn word is a central one, and leads to the header or to a member behind the place of the call. `plain`
+    /// is what the store held before.
+    pub fn lost(&self, call: &Call, plain: &Plain) -> bool {
+        let (list, position) = match *call {
+            Call::Insert { list, position, .. } | Call::InsertSeveral { list, position, .. } => (list, position),
+            Call::Delete { list, position } => (list, position),
+            _ => return false,
+        };
+        let link = self.torn.map_or(0, |(low, _)| u16::from_le_bytes([self.bytes[low], self.bytes[low + 1]]));
+        let behind = plain.lists[usize::from(list)].iter().skip(position.into());
+        let leads = link == list || behind.into_iter().any(|&(cell, _)| cell == usize::from(link));
+        self.central(call, plain.shape.width) && leads
+    }
+
+    /// The stores that count as made if recovery does not refuse it.
+    pub fn due(&self, call: &Call, width: usize) -> u16 {
+        let torn = self.central(call, width) && matches!(call, Call::Delete { .. });
+        call.due(width, self.made + u16::from(torn))
     }
 }

@@ -62,10 +62,10 @@ fn step_call(
     let (mut steps, met) = stepped(counts, store, log, &plain.words, call)?;
     let whole = met.last().expect("a state").made;
     for (i, state) in met.iter().enumerate() {
-        counts.note(state, call, plain.shape.width, whole);
+        counts.note(state, call, plain, whole);
         let (mut bytes, mut after) = (state.bytes.clone(), plain.clone());
         recovered(counts, &mut bytes, &mut after, call, state);
-        if i % STRIDE == turn % STRIDE && !state.lost(call, plain.shape.width) {
+        if i % STRIDE == turn % STRIDE && !state.lost(call, plain) {
             let (more, cuts) = stepped(counts, store, log, &words_of(&state.bytes), &Call::Recover)?;
             steps += more;
             for cut in &cuts {
@@ -129,7 +129,8 @@ pub fn steps(counts: &mut Counts, random: &mut Random) {
     }
 }
 
-/// With no process: every state that a kill may leave, of calls on stores where links and counts are torn too.
+/// With no process: every state that a kill may leave, of calls on stores where links and counts are torn too. Some torn central words are
+/// recovered there, and some refused.
 pub fn enumerated(counts: &mut Counts, random: &mut Random) {
     for (lists, nodes, width, records, calls) in [(1, 300, 1, 256, 60), (2, 600, 2, 512, 60), (3, 20, 13, 10, 60)] {
         let mut plain = Plain::empty(Shape::new(lists, nodes, width));
@@ -140,11 +141,13 @@ pub fn enumerated(counts: &mut Counts, random: &mut Random) {
             let possible = states(&plain.words, &call);
             let whole = possible.last().expect("a state").made;
             for state in &possible {
-                here.note(state, &call, width, whole);
+                here.note(state, &call, &plain, whole);
                 recovered(&mut here, &mut state.bytes.clone(), &mut plain.clone(), &call, state);
             }
             plain.make(&call);
         }
+        let both = here.central > 0 && here.lost > 0;
+        counts.holds(both == (nodes > 255), || format!("torn central words, and refused ones: {here}"));
         println!("L = {lists}, N = {nodes}, P = {width}: all states of {calls} calls; {here}");
         counts.add(&here);
     }

@@ -3,7 +3,7 @@
 use crate::checks::{Tests, MOST_BYTES};
 use interface::stores::{alteration, record, sound, unworn};
 use interface::{bytes_of, Call::*, ENOUGH, STOPPED};
-use model::samples::{carriers, deal, remain, wear};
+use model::samples::{carriers, deal, remain, wear, TwoSequences};
 use model::store::{store_of, Shape, IDENTIFIER, WORN};
 
 /// Every length up to 60 bytes and some around the largest, of a store, of one byte and of random bytes; no bytes as NULL.
@@ -170,25 +170,22 @@ pub fn damaged_stores(t: &mut Tests) {
     }
 }
 
-/// A free node put in the place of a member by one link: two sequences fit. Then one word more altered.
+/// Free nodes in the place of a block of members, or beside them, by one link: two sequences fit. The count is the length of the one, of the
+/// other, or any. Then one word more altered.
 pub fn two_sequences(t: &mut Tests) {
     for turn in 0..1500 {
         let shape = Shape::new(t.random.between(1, 4), t.random.between(2, if turn % 2 == 0 { 4 } else { 12 }), 1);
         let used = if turn % 3 == 0 { shape.nodes - 1 } else { t.random.between(1, shape.nodes - 1) };
         let lists = deal(&mut t.random, shape, used);
         let mut words = sound(&mut t.random, shape, &lists);
-        let free = carriers(&words, 0)[0];
-        let filled: Vec<usize> = (0..shape.lists).filter(|&k| !lists[k].is_empty()).collect();
-        let list = t.random.pick(&filled);
-        let member = t.random.pick(&lists[list]);
-        let (next, before) = (words[shape.cell(member) + 1], words[shape.cell(member) + 2]);
-        words[shape.cell(free)] = IDENTIFIER + list as u16;
-        words[shape.cell(free) + 1] = next;
-        words[shape.cell(free) + 2] = before;
-        match turn % 2 {
-            0 => words[shape.cell(before.into()) + 1] = free as u16,
-            _ => words[shape.cell(next.into()) + 2] = free as u16,
-        }
+        let list = t.random.below(shape.lists);
+        let others = &carriers(&words, 0)[..turn % 4 / 2];
+        let two = TwoSequences::random(&mut t.random, list, &lists[list], others);
+        two.put(&mut words);
+        words[shape.cell(list) + 3] = match turn % 5 {
+            0 => t.random.below(shape.nodes + 2) as u16,
+            way => two.sequence(way % 2).len() as u16,
+        };
         t.at_each_allowance(&bytes_of(&words), &Recover);
         let cell = t.random.below(shape.lists + shape.nodes);
         let (at, value) = alteration(&mut t.random, shape, &words, cell);
@@ -213,8 +210,8 @@ pub fn garbage(t: &mut Tests) {
     }
 }
 
-/// A fault in every list, and every free node carrying an identifier beside the worn ones, by two turns of three with remains of a record:
-/// recovery cut everywhere.
+/// A fault in every list, in some beside a wrong count, and every free node carrying an identifier beside the worn ones, by two turns of
+/// three with remains of a record: recovery cut everywhere.
 pub fn many_stores(t: &mut Tests) {
     let shapes = [Shape::new(1, 1, 1), Shape::new(3, 6, 8), Shape::new(8, 40, 2), Shape::new(8, 8, 13)];
     for (turn, shape) in shapes.into_iter().cycle().take(6 * shapes.len()).enumerate() {
@@ -224,6 +221,7 @@ pub fn many_stores(t: &mut Tests) {
             let cell = [&[list][..], sequence].concat()[t.random.below(sequence.len() + 1)];
             let i = t.random.below(if cell == list { 4 } else { 3 });
             words[shape.cell(cell) + i] ^= 0x4000;
+            words[shape.cell(list) + 3] ^= t.random.pick(&[0, 0x8000]);
         }
         for cell in carriers(&words, 0) {
             words[shape.cell(cell)] = t.random.pick(&[1, WORN - 1, IDENTIFIER, IDENTIFIER + 7]);
@@ -281,12 +279,13 @@ pub fn largest(t: &mut Tests) {
     let empty = unworn(&mut t.random, shape, &vec![vec![]; 8]);
     for mut words in [empty.clone(), wear(&mut t.random, empty, 1)] {
         for list in 0..8 {
+            words[shape.cell(list)] = 1;
             words[shape.cell(list) + 3] = 1;
         }
         for cell in carriers(&words, 0) {
             words[shape.cell(cell)] = IDENTIFIER;
         }
-        for allowance in [0, 7, 8, 1000, 2007, 2008, ENOUGH] {
+        for allowance in [0, 7, 15, 16, 1000, 2015, 2016, ENOUGH] {
             t.call(&bytes_of(&words), &Recover, allowance);
         }
     }

@@ -2,12 +2,12 @@
 
 use crate::checks::Tests;
 use crate::worn::with_words;
-use interface::stores::{alteration, edit, sound};
+use interface::stores::{alteration, altered_to, edit, sound};
 use interface::{answer_of, bytes_of, words_of, Call, Call::*, ENOUGH};
-use model::alterations::{adversarial, alterable};
+use model::alterations::{adversarial, alterable, pairs};
 use model::recovery::Course;
 use model::samples::{all_lists_and_worn, deal, with_worn};
-use model::store::{open, store_of, Answer, Shape, WordStore};
+use model::store::{open, store_of, Answer, Shape, WordStore, IDENTIFIER, WORN};
 use std::panic::{catch_unwind, AssertUnwindSafe};
 
 /// The list of the call that a course begins with.
@@ -19,8 +19,8 @@ pub fn named(call: &Call) -> u16 {
 }
 
 impl Tests {
-    /// One insert or delete on a sound store, cut; then these alterations, at most one in each list that it does not name; then
-    /// recoveries with these allowances, and a whole one. It must end as `Course` says.
+    /// One insert or delete on a sound store, cut; then these alterations, in each list that it does not name at most one, or the count and
+    /// an identifier; then recoveries with these allowances, and a whole one. It must end as `Course` says.
     fn course(&mut self, sound: &[u16], call: &Call, allowance: u16, altered: &[(usize, u16)], recoveries: &[u16]) {
         let bytes = bytes_of(sound);
         let width = open(sound).expect("a store").width;
@@ -50,14 +50,17 @@ impl Tests {
         self.call(&bytes, &Check, 0);
     }
 
-    /// Words to alter in some of the lists that a course does not name.
+    /// Words to alter in some of the lists that a course does not name: one of a list, or the count and an identifier.
     pub fn altered(&mut self, words: &[u16], lists: &[Vec<usize>], named: u16) -> Vec<WordStore> {
         let shape = open(words).expect("a store");
         let mut altered = vec![];
         for (list, sequence) in lists.iter().enumerate().filter(|&(list, _)| list != usize::from(named)) {
-            if self.random.below(5) > 0 {
-                let cell = [&[list][..], sequence].concat()[self.random.below(sequence.len() + 1)];
-                altered.push(alteration(&mut self.random, shape, words, cell));
+            let cell = [&[list][..], sequence].concat()[self.random.below(sequence.len() + 1)];
+            match self.random.below(6) {
+                0 => (),
+                1 | 2 => altered
+                    .extend([(cell, 0), (list, 3)].map(|(cell, i)| altered_to(&mut self.random, shape, words, cell, i))),
+                _ => altered.push(alteration(&mut self.random, shape, words, cell)),
             }
         }
         altered
@@ -89,17 +92,34 @@ impl Tests {
     }
 }
 
+/// The alterations of a list: each word that may be altered, to every cell number and identifier; the count with each identifier, to wrong
+/// counts, and to the identifiers, 0 and 65,535.
+pub fn every_alteration(words: &[u16], list: usize) -> Vec<Vec<WordStore>> {
+    let shape = open(words).expect("a store");
+    let (places, pairs) = (alterable(words).expect("an ordered store"), pairs(words).expect("an ordered store"));
+    let values = adversarial(shape);
+    let mut all: Vec<Vec<WordStore>> =
+        places[list].iter().flat_map(|&at| values.iter().map(move |&v| vec![(at, v)])).collect();
+    for &[count, identifier] in &pairs[list] {
+        let right = (words[count], words[identifier]);
+        for told in [0, 1, 2, WORN].into_iter().filter(|&told| told != right.0) {
+            let carried = [0, IDENTIFIER, IDENTIFIER + 1, WORN].into_iter().filter(|&value| value != right.1);
+            all.extend(carried.map(|value| vec![(identifier, value), (count, told)]));
+        }
+    }
+    all
+}
+
 /// All courses of two lists over two nodes: every sound store, every call, every cut of it, every word of the other list altered
-/// to every cell number and identifier, every cut of one recovery.
+/// to every cell number and identifier, and its count with each identifier, every cut of one recovery.
 pub fn every_course(t: &mut Tests) {
     let shape = Shape::new(2, 2, 1);
-    let (nodes, values) = (shape.node_cells().collect::<Vec<_>>(), adversarial(shape));
+    let nodes = shape.node_cells().collect::<Vec<_>>();
     for (lists, worn) in all_lists_and_worn(shape) {
         let sound = with_worn(store_of(shape, &lists, || 7), &worn);
-        let places = alterable(&sound).expect("a sound store");
-        for list in 0..2 {
-            let places = &places[1 - list];
-            for position in 0..=lists[list].len() as u16 {
+        for (list, members) in lists.iter().enumerate() {
+            let alterations = every_alteration(&sound, 1 - list);
+            for position in 0..=members.len() as u16 {
                 let (list, start) = (list as u16, nodes[1] as u16);
                 for call in [
                     Insert { list, position, start, record: vec![1, 2] },
@@ -107,9 +127,9 @@ pub fn every_course(t: &mut Tests) {
                     Delete { list, position },
                 ] {
                     for allowance in 0..=call.whole(1) {
-                        for (at, value) in places.iter().flat_map(|&at| values.iter().map(move |&value| (at, value))) {
+                        for altered in &alterations {
                             for cut in 0..3 {
-                                t.course(&sound, &call, allowance, &[(at, value)], &[cut]);
+                                t.course(&sound, &call, allowance, altered, &[cut]);
                             }
                         }
                     }

@@ -1,12 +1,13 @@
 //! The archive held against the model: each call through C on many stores, at every allowance. A check is one call: its answer,
 //! every byte of the store, the bytes round it, the record and the bytes round that. In `alterations` it is mostly check's answer
-//! alone. In `positions` it may be an answer alone, or read's on words. In `worn` and `wiped` it may be that what is said there holds of the
-//! nodes.
+//! alone. In `positions` it may be an answer alone, or read's on words. In `counts`, `worn` and `wiped` it may be that what is said there
+//! holds of the stores or of the nodes.
 //! The last line is 'N passed, M failed'.
 
 mod alterations;
 mod calls;
 mod checks;
+mod counts;
 mod courses;
 mod positions;
 mod wiped;
@@ -57,7 +58,7 @@ type Part = (&'static str, fn(&mut Tests));
 
 fn main() {
     let mut t = Tests::new(1201);
-    let parts: [Part; 41] = [
+    let parts: [Part; 48] = [
         ("lengths", calls::lengths),
         ("heads", calls::heads),
         ("formats", calls::formats),
@@ -73,6 +74,13 @@ fn main() {
         ("small courses", courses::small_courses),
         ("large courses", courses::large_courses),
         ("largest", calls::largest),
+        ("two sequences and each count", counts::every_count),
+        ("two sequences of long lists", counts::long_lists),
+        ("lengths that differ in the high byte", counts::high_bytes),
+        ("first list with a reason", counts::first_list),
+        ("count and identifier put back", counts::back_whole),
+        ("count and link", counts::count_and_link),
+        ("recovered as before", counts::as_before),
         ("one, two and three altered words", alterations::up_to_three),
         ("one altered word put back", alterations::put_back),
         ("altered words of larger stores", alterations::larger_stores),

@@ -38,11 +38,16 @@ fn value(random: &mut Random, shape: Shape, i: usize, right: u16) -> u16 {
     }
 }
 
+/// Word `i` of the cell, and what it is altered to.
+pub fn altered_to(random: &mut Random, shape: Shape, words: &[u16], cell: usize, i: usize) -> (usize, u16) {
+    let at = shape.cell(cell) + i;
+    (at, value(random, shape, i, words[at]))
+}
+
 /// A word of the header, or of the node's identifier and links, and what it is altered to.
 pub fn alteration(random: &mut Random, shape: Shape, words: &[u16], cell: usize) -> (usize, u16) {
     let i = random.below(if cell < shape.lists { 4 } else { 3 });
-    let at = shape.cell(cell) + i;
-    (at, value(random, shape, i, words[at]))
+    altered_to(random, shape, words, cell, i)
 }
 
 pub fn record(random: &mut Random, width: usize) -> Vec<u8> {

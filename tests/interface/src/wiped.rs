@@ -2,11 +2,10 @@
 //! deleted record, and of one whose insert was cut, is searched for its words. Records of members and of worn nodes stay.
 
 use crate::checks::Tests;
-use crate::courses::named;
+use crate::courses::{every_alteration, named};
 use crate::worn::{lists_of, wipes, with_words};
 use interface::stores::{edit, record, unworn};
 use interface::{bytes_of, expected_read, words_of, Call, Call::*, DONE, ENOUGH, STOPPED};
-use model::alterations::{adversarial, alterable};
 use model::former::{self, wiped};
 use model::recovery::Course;
 use model::samples::{carriers, deal, older_stores, remain, wear};
@@ -239,19 +238,17 @@ pub fn kept(t: &mut Tests) {
     }
 }
 
-/// All older stores of two lists over two nodes: every former call, every cut of it, every word of the other list altered, every cut of a
-/// recovery.
+/// All older stores of two lists over two nodes: every former call, every cut of it, every word of the other list altered, and its count with
+/// each identifier, every cut of a recovery.
 pub fn every_course(t: &mut Tests) {
     let shape = Shape::new(2, 2, 1);
     for (lists, older) in older_stores(shape) {
-        let places = alterable(&older).expect("an ordered store");
-        for (list, other) in [(0, &places[1]), (1, &places[0])] {
-            let altered: Vec<WordStore> =
-                other.iter().flat_map(|&at| adversarial(shape).into_iter().map(move |value| (at, value))).collect();
-            for call in former_calls(list, lists[usize::from(list)].len()) {
+        for (list, members) in lists.iter().enumerate() {
+            let alterations = every_alteration(&older, 1 - list);
+            for call in former_calls(list as u16, members.len()) {
                 for allowance in 0..=former_stores(&call, 1) {
-                    for &altered in &altered {
-                        (0..6).for_each(|first| t.former_course(&older, &call, allowance, &[altered], &[first]));
+                    for altered in &alterations {
+                        (0..6).for_each(|first| t.former_course(&older, &call, allowance, altered, &[first]));
                     }
                 }
             }
@@ -282,9 +279,10 @@ pub fn most_stores(t: &mut Tests) {
     let shape = Shape::new(8, 2000, 13);
     let mut words = vec![9; shape.size()];
     words[..shape.cell(8)].copy_from_slice(&store_of(shape, &vec![vec![]; 8], || 0)[..shape.cell(8)]);
-    (0..8).for_each(|list| words[shape.cell(list) + list % 4] = 77);
-    let most = (8 + 2000 + 13 * 2000) as u16;
-    for (allowance, answer) in [(ENOUGH, DONE), (most, DONE), (most - 1, STOPPED), (2008, STOPPED), (2009, STOPPED)] {
+    (0..8).for_each(|list| words[shape.cell(list) + list % 3] = 77);
+    (0..8).for_each(|list| words[shape.cell(list) + 3] = 77);
+    let most = (2 * 8 + 2000 + 13 * 2000) as u16;
+    for (allowance, answer) in [(ENOUGH, DONE), (most, DONE), (most - 1, STOPPED), (2016, STOPPED), (2017, STOPPED)] {
         let (found, left) = t.call(&bytes_of(&words), &Recover, allowance);
         let stores = u32::from(allowance.min(most));
         t.holds(found == answer + stores, || format!("recover with {allowance}: answer {found}"));

@@ -3,7 +3,7 @@
 use crate::checks::Tests;
 use interface::stores::{edit, record, unworn};
 use interface::{bytes_of, words_of, Call, Call::*, DONE, ENOUGH, STOPPED};
-use model::alterations::alterable;
+use model::alterations::{alterable, pairs};
 use model::samples::{all_lists_and_worn, carriers, deal, spoil, wear, with_worn};
 use model::store::{lists, open, store_of, Shape, WordStore, IDENTIFIER, WORN};
 
@@ -306,8 +306,8 @@ pub fn runs(t: &mut Tests) {
 }
 
 impl Tests {
-    /// A run of calls, some of them cut; a word altered in the lists that they do not name; recoveries, some of them cut. A worn node keeps
-    /// all its words, and lengths, free and worn nodes add up to N.
+    /// A run of calls, some of them cut; a word altered in the lists that they do not name, or the count and an identifier; recoveries, some of
+    /// them cut. A worn node keeps all its words, and lengths, free and worn nodes add up to N.
     pub fn run(&mut self, mut words: Vec<u16>) {
         let (t, shape) = (self, open(&words).expect("a store"));
         for step in 0..25 {
@@ -341,15 +341,19 @@ impl Tests {
     }
 }
 
-/// Alters a word in some of the lists that a call on a sound store did not name.
+/// Alters a word in some of the lists that a call on a sound store did not name, or the count and an identifier.
 fn alter(t: &mut Tests, left: &mut [u16], sound: &[u16], call: &Call) {
     let named = match *call {
         Insert { list, .. } | InsertSeveral { list, .. } | Delete { list, .. } => Some(usize::from(list)),
         _ => None,
     };
-    for (list, places) in alterable(sound).expect("a sound store").iter().enumerate() {
-        if Some(list) != named && t.random.below(3) == 0 {
-            left[t.random.pick(places)] = t.random.pick(&[0, 9, WORN, IDENTIFIER]);
-        }
+    let (places, pairs) = (alterable(sound).expect("a sound store"), pairs(sound).expect("a sound store"));
+    for list in (0..places.len()).filter(|&list| Some(list) != named) {
+        let altered = match t.random.below(5) {
+            0 => vec![t.random.pick(&places[list])],
+            1 => t.random.pick(&pairs[list]).to_vec(),
+            _ => vec![],
+        };
+        altered.into_iter().for_each(|at| left[at] = t.random.pick(&[0, 9, WORN, IDENTIFIER]));
     }
 }

@@ -16,6 +16,17 @@ pub fn alterable(words: &[u16]) -> Option<Vec<Vec<usize>>> {
     Some(lists.iter().enumerate().map(of).collect())
 }
 
+/// The words that may be altered together in each list of an ordered store, a pair of each: the count, and the identifier of the header or of
+/// a member.
+pub fn pairs(words: &[u16]) -> Option<Vec<Vec<[usize; 2]>>> {
+    let shape = open(words).ok()?;
+    let lists = ordered(words, shape)?;
+    let of = |(k, sequence): (usize, &Vec<usize>)| {
+        [&[k][..], sequence].concat().into_iter().map(|cell| [shape.cell(k) + 3, shape.cell(cell)]).collect()
+    };
+    Some(lists.iter().enumerate().map(of).collect())
+}
+
 /// The words of a sound store of which one, two or three altered are noticed: each header's four, the identifiers of all nodes, the
 /// links of the members. Lowest first.
 pub fn noticeable(words: &[u16]) -> Option<Vec<usize>> {
@@ -71,7 +82,7 @@ pub fn adversarial(shape: Shape) -> Vec<u16> {
 #[cfg(test)]
 mod tests {
     use super::*;
-    use crate::recovery::recover;
+    use crate::recovery::{recover, recover_plan};
     use crate::samples::{all_lists_and_worn, with_worn};
     use crate::store::{check, store_of, Answer};
 
@@ -86,8 +97,9 @@ mod tests {
             let places = [8, 9, 10, 11, 12, 13, 14, 15, 16, 17, 18, 21, 22, 23, 26];
             assert_eq!(noticeable(&words), Some(places.to_vec()));
         }
+        assert_eq!(pairs(&words), Some(vec![vec![[11, 8], [11, 21]], vec![[15, 12], [15, 16]]]));
         words[26] = 1;
-        assert_eq!((alterable(&words), noticeable(&words)), (None, None));
+        assert_eq!((alterable(&words), pairs(&words), noticeable(&words)), (None, None, None));
     }
 
     /// Changes to and from 65,535 on a node in no list are not put back, and all others are.
@@ -141,5 +153,30 @@ mod tests {
                 }
             }
         }
+    }
+
+    /// All sound stores of one and two lists over two nodes, and of three over one: the count and an identifier of one list altered to any of
+    /// some values come back, the identifier first.
+    #[test]
+    fn count_and_identifier() {
+        for shape in [Shape::new(1, 2, 1), Shape::new(2, 2, 1), Shape::new(3, 1, 1)] {
+            for (lists, worn) in all_lists_and_worn(shape) {
+                let words = with_worn(store_of(shape, &lists, || 7), &worn);
+                for [count, identifier] in pairs(&words).expect("a sound store").concat() {
+                    for (told, carried) in all_of(&adversarial(shape)) {
+                        let mut found = words.clone();
+                        (found[count], found[identifier]) = (told, carried);
+                        let wrong = [identifier, count].into_iter().filter(|&at| found[at] != words[at]);
+                        let wrong: Vec<WordStore> = wrong.map(|at| (at, words[at])).collect();
+                        assert_eq!(recover_plan(&found), Ok(wrong), "{found:?}");
+                    }
+                }
+            }
+        }
+    }
+
+    /// All pairs of the values.
+    fn all_of(values: &[u16]) -> Vec<(u16, u16)> {
+        values.iter().flat_map(|&a| values.iter().map(move |&b| (a, b))).collect()
     }
 }

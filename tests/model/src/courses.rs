@@ -1,7 +1,7 @@
 //! All courses of one call on a small store: every cut of the call, every word of the cells altered to each of some values, every
 //! cut of a first and of a second recovery, then a whole one.
 
-use crate::alterations::alterable;
+use crate::alterations::{alterable, pairs};
 use crate::recovery::{due_of_delete, due_of_insert, recover_plan, Course};
 use crate::store::{delete, insert, make, Answer, WordStore};
 use std::collections::HashMap;
@@ -94,16 +94,39 @@ fn recover(plans: &mut Plans, words: &mut Vec<u16>, allowance: u16) -> Answer {
     }
 }
 
+/// The words of each list that may be altered: one, or a pair.
+struct Lists {
+    words: Vec<Vec<usize>>,
+    pairs: Vec<Vec<[usize; 2]>>,
+}
+
+impl Lists {
+    /// Those of an ordered store.
+    fn of(words: &[u16]) -> Option<Lists> {
+        Some(Lists { words: alterable(words)?, pairs: pairs(words)? })
+    }
+
+    /// May these different words be altered in a course whose call names the list?
+    fn may_be_altered(&self, named: usize, altered: &[usize]) -> bool {
+        let inside = |list: usize| altered.iter().filter(|at| self.words[list].contains(at)).collect::<Vec<_>>();
+        let paired =
+            |list: usize, here: &[&usize]| self.pairs[list].iter().any(|pair| here.iter().all(|at| pair.contains(at)));
+        let may = |list: usize| match inside(list)[..] {
+            [] => true,
+            [_] => list != named,
+            ref here => list != named && paired(list, here),
+        };
+        (0..self.words.len()).all(may) && altered.iter().all(|at| self.words.concat().contains(at))
+    }
+}
+
 impl Courses {
-    /// The course from the words found, if the alterations are those that a course may have.
-    fn course(&self, sound: &[u16], lists: &[Vec<usize>], cut: &[u16], found: &[u16], allowance: u16) -> Option<Course> {
+    /// The course from the words found, if the alterations are those that a course may have: in each list but the one that it names one
+    /// word, or the count and one identifier.
+    fn course(&self, sound: &[u16], lists: &Lists, cut: &[u16], found: &[u16], allowance: u16) -> Option<Course> {
         let altered: Vec<usize> = (0..cut.len()).filter(|&i| cut[i] != found[i]).collect();
-        let list_of = |at: usize| lists.iter().position(|places| places.contains(&at));
-        let hit: Option<Vec<usize>> = altered.into_iter().map(list_of).collect();
-        let hit = hit?;
         let named = usize::from(self.call.list);
-        let twice = (1..hit.len()).any(|i| hit[..i].contains(&hit[i]));
-        if twice || hit.contains(&named) {
+        if !lists.may_be_altered(named, &altered) {
             return None;
         }
         let mut new = sound.to_vec();
@@ -115,7 +138,7 @@ impl Courses {
     pub fn run(&self, words: &[u16]) -> Told {
         let mut told = Told::default();
         let mut plans = Plans::new();
-        let lists = alterable(words);
+        let lists = Lists::of(words);
         for allowance in 0..=MOST_STORES {
             let mut cut = words.to_vec();
             let answer = self.call.run(&mut cut, allowance);
@@ -184,6 +207,45 @@ mod tests {
         assert_eq!((same.digest, same.courses), (told.digest, told.courses));
         let other = Courses { call, other: (14, 77), values: vec![9] }.run(&words);
         assert_ne!(other.digest, told.digest);
+    }
+
+    /// Two lists of one member each, in nodes 2 and 4. One word of a list that is not named may be altered, or its count and an identifier.
+    #[test]
+    fn alterations() {
+        let shape = Shape::new(2, 3, 1);
+        let lists = Lists::of(&store_of(shape, &[vec![2], vec![4]], || 7)).expect("a sound store");
+        for (named, altered) in [
+            (0, &[][..]),
+            (0, &[12]),
+            (0, &[14]),
+            (0, &[25]),
+            (0, &[12, 15]),
+            (0, &[15, 24]),
+            (1, &[8, 11]),
+            (2, &[8, 11, 15, 24]),
+        ] {
+            assert!(lists.may_be_altered(named, altered), "{altered:?} beside list {named}");
+        }
+        for at in [7, 8, 11, 16, 19, 20, 27] {
+            assert!(!lists.may_be_altered(0, &[at]), "{at}");
+        }
+        for (named, altered) in
+            [(0, &[13, 15][..]), (0, &[15, 26]), (0, &[12, 24]), (0, &[12, 15, 24]), (1, &[11, 15]), (2, &[8, 11, 15, 25])]
+        {
+            assert!(!lists.may_be_altered(named, altered), "{altered:?} beside list {named}");
+        }
+    }
+
+    /// Node 2 is list 1's, and a call on list 0 is refused. Beside a wrong count of list 1 its two identifiers may be altered; beside a wrong
+    /// identifier the count; beside a wrong link no other word. Recoveries of two stores are cut in six ways, of one in three.
+    #[test]
+    fn beside_a_wrong_word() {
+        let words = store_of(Shape::new(2, 1, 1), &[vec![], vec![2]], || 0);
+        let call = Call { list: 0, position: 0, start: 0, record: 0 };
+        for (at, demanded) in [(15, 3 + 6 + 6), (12, 3 + 6), (16, 3 + 6), (13, 3), (18, 3)] {
+            let told = Courses { call, other: (at, 9), values: vec![9] }.run(&words);
+            assert_eq!(told.demanded, 8 * demanded, "word {at}");
+        }
     }
 
     /// Beside worn nodes, one of them with links that fit: no course that must end so is refused, and the nodes stay as they are.

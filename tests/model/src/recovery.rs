@@ -1,9 +1,10 @@
 //! What recover answers and leaves, and how a course of calls that ends with it must end.
 //!
-//! A sequence of different nodes fits a list if at most one word differs from what it asks of the header and of its members.
-//! If one alone fits each list, the differing words are stored, list 0 first, then 0 to each identifier of a node in none
-//! of them that is neither 0 nor 65,535, lowest cell first, then 0 to each record word of a node in none that is not worn, lowest word
-//! first. Words that are 0 already are not stored.
+//! A sequence of different nodes fits a list if at most one word other than the count differs from what it asks of the header and of its
+//! members. If one alone fits it is chosen, whatever the count; of several the one whose length is the count. If one is chosen for each
+//! list, the differing words are stored, list 0 first, of each list the count last, then 0 to each identifier of a node in none of them
+//! that is neither 0 nor 65,535, lowest cell first, then 0 to each record word of a node in none that is not worn, lowest word first. Words
+//! that are 0 already are not stored.
 
 use crate::store::{
     act, check, identifier_of, lists, make, open, ordered, sequences, to_be_blank, walk, Answer, Shape, WordStore, WORN,
@@ -13,67 +14,65 @@ use std::collections::BTreeSet;
 /// In stores of at most so many nodes the fitting sequences are found by enumeration too.
 const FEW_NODES: usize = 4;
 
-/// What a sequence asks of the list's header and of its members.
-fn asked(shape: Shape, list: usize, sequence: &[usize]) -> Vec<WordStore> {
+/// What a sequence asks of the list's header and of its members. The count comes last.
+pub(crate) fn asked(shape: Shape, list: usize, sequence: &[usize]) -> Vec<WordStore> {
     let mut way = vec![list];
     way.extend(sequence);
     way.push(list);
-    let mut asked = vec![(shape.cell(list) + 3, sequence.len() as u16)];
+    let mut asked = vec![];
     for w in way.windows(2) {
         asked.push((shape.cell(w[0]), identifier_of(list)));
         asked.push((shape.cell(w[0]) + 1, w[1] as u16));
         asked.push((shape.cell(w[1]) + 2, w[0] as u16));
     }
+    asked.push((shape.cell(list) + 3, sequence.len() as u16));
     asked
 }
 
 /// What the sequence asks and the words do not hold.
-fn differing(words: &[u16], shape: Shape, list: usize, sequence: &[usize]) -> Vec<WordStore> {
+pub(crate) fn differing(words: &[u16], shape: Shape, list: usize, sequence: &[usize]) -> Vec<WordStore> {
     asked(shape, list, sequence).into_iter().filter(|&(at, value)| words[at] != value).collect()
 }
 
 fn fits(words: &[u16], shape: Shape, list: usize, sequence: &[usize]) -> bool {
-    differing(words, shape, list, sequence).len() <= 1
+    let count = shape.cell(list) + 3;
+    differing(words, shape, list, sequence).iter().filter(|&&(at, _)| at != count).count() <= 1
 }
 
 type Sequences = BTreeSet<Vec<usize>>;
 
-/// The sequences that fit the list, found among all that there are.
-fn fitting_by_enumeration(words: &[u16], shape: Shape, list: usize) -> Sequences {
-    let all = sequences(&shape.node_cells().collect::<Vec<_>>());
-    all.into_iter().filter(|s| fits(words, shape, list, s)).collect()
+/// The sequences that fit, found among all that there are.
+fn by_enumeration(shape: Shape, fits: impl Fn(&[usize]) -> bool) -> Sequences {
+    sequences(&shape.node_cells().collect::<Vec<_>>()).into_iter().filter(|s| fits(s)).collect()
 }
 
-/// The sequences that fit the list, found by links: with one word wrong at most, all forward links are right or all back
-/// links.
-fn fitting_by_links(words: &[u16], shape: Shape, list: usize) -> Sequences {
+/// The sequences that fit the list, found by links: with one link wrong at most, all forward links are right or all back links.
+fn by_links(words: &[u16], shape: Shape, list: usize, fits: impl Fn(&[usize]) -> bool) -> Sequences {
     let forward = walk(words, shape, list, 1);
     let back = walk(words, shape, list, 2).map(|s| s.into_iter().rev().collect());
-    forward.into_iter().chain(back).filter(|s| fits(words, shape, list, s)).collect()
+    forward.into_iter().chain(back).filter(|s: &Vec<usize>| fits(s)).collect()
 }
 
 /// The sequences that fit the list.
-fn fitting(words: &[u16], shape: Shape, list: usize) -> Sequences {
-    let found = fitting_by_links(words, shape, list);
+pub(crate) fn fitting(words: &[u16], shape: Shape, list: usize, fits: impl Fn(&[usize]) -> bool) -> Vec<Vec<usize>> {
+    let found = by_links(words, shape, list, &fits);
     if shape.nodes <= FEW_NODES {
-        assert_eq!(found, fitting_by_enumeration(words, shape, list), "the model disagrees with itself on {words:?}");
+        assert_eq!(found, by_enumeration(shape, &fits), "the model disagrees with itself on {words:?}");
     }
-    found
+    found.into_iter().collect()
 }
 
-/// The sequence that alone fits each list, or the number of the refusal.
-fn fitting_lists(words: &[u16]) -> Result<(Shape, Vec<Vec<usize>>), u16> {
-    let shape = open(words)?;
-    let mut lists = vec![];
-    for list in 0..shape.lists {
-        let found: Vec<Vec<usize>> = fitting(words, shape, list).into_iter().collect();
-        match found.len() {
-            0 => return Err(11),
-            1 => lists.extend(found),
-            _ => return Err(12),
-        }
+/// The sequence that is chosen for the list, or the number of the refusal: 11 if none fits, 12 if several do and the count is the length
+/// of none or of more than one of them.
+fn chosen(words: &[u16], shape: Shape, list: usize) -> Result<Vec<usize>, u16> {
+    let found = fitting(words, shape, list, |sequence| fits(words, shape, list, sequence));
+    let count = usize::from(words[shape.cell(list) + 3]);
+    let told: Vec<Vec<usize>> = found.iter().filter(|sequence| sequence.len() == count).cloned().collect();
+    match (&found[..], &told[..]) {
+        ([], _) => Err(11),
+        ([only], _) | (_, [only]) => Ok(only.clone()),
+        _ => Err(12),
     }
-    Ok((shape, lists))
 }
 
 /// The words that must be 0 beside these lists, in recover's order: of the nodes in none that are not worn first the identifiers, then the
@@ -84,19 +83,28 @@ fn cleared(words: &[u16], shape: Shape, lists: &[Vec<usize>]) -> Vec<usize> {
     identifiers.chain(cells.iter().flat_map(|&cell| shape.record(cell))).collect()
 }
 
-/// The stores of recover in their order, or the number of the refusal. All made, they leave a sound store of the sequences
-/// that fit.
-pub(crate) fn recover_plan(words: &[u16]) -> Result<Vec<WordStore>, u16> {
-    let (shape, sequences) = fitting_lists(words)?;
+/// The stores that bring each list to the sequence chosen for it, list 0 first, and clear and wipe what is beside them; or the number of
+/// the first refusal. All made, they leave a sound store of these sequences.
+pub(crate) fn plan_by(
+    words: &[u16],
+    chosen: impl Fn(Shape, usize) -> Result<Vec<usize>, u16>,
+) -> Result<Vec<WordStore>, u16> {
+    let shape = open(words)?;
+    let sequences: Vec<Vec<usize>> = (0..shape.lists).map(|list| chosen(shape, list)).collect::<Result<_, _>>()?;
     let mut stores: Vec<WordStore> = vec![];
     for (list, sequence) in sequences.iter().enumerate() {
         stores.extend(differing(words, shape, list, sequence));
     }
     stores.extend(cleared(words, shape, &sequences).into_iter().filter(|&at| words[at] != 0).map(|at| (at, 0)));
-    assert!(stores.len() <= shape.lists + shape.nodes + shape.width * shape.nodes, "recover goes beyond its bound");
+    assert!(stores.len() <= 2 * shape.lists + shape.nodes + shape.width * shape.nodes, "recover goes beyond its bound");
     let (_, left) = make(words, &stores, stores.len() as u16);
     assert_eq!(lists(&left, shape), Some(sequences), "recover does not leave a sound store");
     Ok(stores)
+}
+
+/// The stores of recover in their order, or the number of the refusal.
+pub(crate) fn recover_plan(words: &[u16]) -> Result<Vec<WordStore>, u16> {
+    plan_by(words, |shape, list| chosen(words, shape, list))
 }
 
 /// Recover.
@@ -186,11 +194,13 @@ impl Course {
 #[cfg(test)]
 mod tests {
     use super::*;
+    use crate::alterations::pairs;
     use crate::former;
     use crate::random::Random;
-    use crate::samples::{carriers, deal, remain, wear, with_worn};
+    use crate::samples::{
+        all_two_sequences, carriers, damaged, deal, every_store, likely, remain, wear, with_worn, TwoSequences,
+    };
     use crate::store::{delete, format, insert, insert_several, store_of};
-    use std::collections::HashSet;
 
     const ENOUGH: u16 = 65_535;
 
@@ -209,6 +219,14 @@ mod tests {
             let number = n as u16;
             assert_eq!(answer, if n < expected.len() { Answer::Stopped(number) } else { Answer::Done(number) });
             assert_eq!(left, with(words, &expected[..n]));
+        }
+    }
+
+    /// Recovery of the words is refused with this number.
+    fn refused(words: &[u16], number: u16) {
+        for allowance in [0, 1, ENOUGH] {
+            let mut left = words.to_vec();
+            assert_eq!((recover(&mut left, allowance), &left[..]), (Answer::Refused(number), words));
         }
     }
 
@@ -240,12 +258,85 @@ mod tests {
         stores(&deleted(3), &[(16, 0), (19, 0)]);
         stores(&deleted(4), &[(19, 0)]);
         stores(&deleted(5), &[]);
-        for allowance in [0, 1, ENOUGH] {
-            let mut c9 = with(&c2, &[(12, 42_400), (13, 0), (14, 0), (9, 1)]);
-            assert_eq!(recover(&mut c9, allowance), Answer::Refused(12));
-            let mut c10 = with(&c3, &[(9, 9), (10, 9)]);
-            assert_eq!(recover(&mut c10, allowance), Answer::Refused(11));
+        refused(&with(&c2, &[(12, 42_400), (13, 0), (14, 0), (9, 1)]), 12);
+        refused(&with(&c3, &[(9, 9), (10, 9)]), 11);
+    }
+
+    /// C9 of the marked store, where both sequences have one member, with each count. Then cell 1 stands before cell 2, not in its place: the
+    /// count tells which of the two sequences is taken.
+    #[test]
+    fn marked_counts() {
+        let mut c2 = store_of(Shape::new(1, 3, 1), &[vec![2]], || 0);
+        (c2[15], c2[19]) = (5, 700);
+        for count in [0, 1, 2, 3, 4, 65_535] {
+            refused(&with(&c2, &[(12, 42_400), (13, 0), (14, 0), (9, 1), (11, count)]), 12);
+            let before = with(&c2, &[(12, 42_400), (13, 2), (14, 0), (9, 1), (11, count)]);
+            match count {
+                1 => stores(&before, &[(9, 2), (12, 0), (15, 0)]),
+                2 => stores(&before, &[(18, 1)]),
+                _ => refused(&before, 12),
+            }
         }
+    }
+
+    /// All pairs of sequences over up to four nodes, and each count. Of equal lengths neither is taken; of two lengths the one that is the
+    /// count. Then one word of the list is stored, and the nodes of the other block are cleared and wiped.
+    #[test]
+    fn each_count() {
+        for nodes in 1..=4 {
+            let shape = Shape::new(1, nodes, 1);
+            let cells: Vec<usize> = shape.node_cells().collect();
+            for two in all_two_sequences(0, &cells) {
+                let mut words = store_of(shape, &[vec![]], || 0);
+                two.put(&mut words);
+                cells.iter().for_each(|&cell| words[shape.cell(cell) + 3] = 7);
+                let lengths = [0, 1].map(|way| two.sequence(way).len());
+                for count in (0..=nodes + 1).chain([65_535]) {
+                    words[11] = count as u16;
+                    let told: Vec<usize> = (0..2).filter(|&way| lengths[way] == count).collect();
+                    if let [way] = told[..] {
+                        let others =
+                            || cells.iter().filter(|cell| !two.sequence(way).contains(cell)).map(|&c| shape.cell(c));
+                        let carrying = others().filter(|&at| words[at] != 0).map(|at| (at, 0));
+                        let expected = [two.lacks(shape, way)].into_iter().chain(carrying);
+                        stores(&words, &expected.chain(others().map(|at| (at + 3, 0))).collect::<Vec<_>>());
+                    } else {
+                        refused(&words, 12);
+                    }
+                }
+            }
+        }
+    }
+
+    /// One sequence alone fits: it is taken whatever the count. The count is stored last, and alone if the other word is right.
+    #[test]
+    fn whatever_the_count() {
+        let c3 = store_of(Shape::new(1, 3, 1), &[vec![2, 3]], || 0);
+        for count in [0, 1, 3, 4, 9, 65_535] {
+            stores(&with(&c3, &[(11, count)]), &[(11, 2)]);
+            for at in [8, 9, 10, 16, 17, 18, 20, 21, 22] {
+                let found = with(&c3, &[(at, 9), (11, count)]);
+                stores(&found, &[(at, c3[at]), (11, 2)]);
+                let mut cut = found.clone();
+                assert_eq!((recover(&mut cut, 1), &cut), (Answer::Stopped(1), &with(&c3, &[(11, count)])));
+            }
+        }
+        let shape = Shape::new(2, 2, 1);
+        let sound = store_of(shape, &[vec![3], vec![2]], || 0);
+        let found = with(&sound, &[(8, 1), (11, 0), (15, 7), (16, 42_400)]);
+        stores(&found, &[(8, 42_400), (11, 1), (16, 42_401), (15, 1)]);
+    }
+
+    /// Nothing is promised of the count and a link: the smallest store, its header's forward and count both 0, ends empty.
+    #[test]
+    fn count_and_link() {
+        let shape = Shape::new(1, 1, 1);
+        let sound = store_of(shape, &[vec![1]], || 7);
+        let mut words = with(&sound, &[(9, 0), (11, 0)]);
+        stores(&words, &[(10, 0), (12, 0), (15, 0)]);
+        recover(&mut words, ENOUGH);
+        assert_eq!(lists(&words, shape), Some(vec![vec![]]));
+        stores(&with(&sound, &[(9, 0)]), &[(9, 1)]);
     }
 
     /// The first list with a reason decides.
@@ -270,11 +361,11 @@ mod tests {
             (twice(1, 5).to_vec(), 12),
             (none(1).to_vec(), 11),
             ([&none(1)[..], &[(7, 1)]].concat(), 2),
+            ([&none(1)[..], &[(9, 0), (11, 2)]].concat(), 12),
+            ([&none(1)[..], &[(9, 0), (11, 0)]].concat(), 11),
+            ([&twice(1, 5)[..], &[(8, 0), (11, 9)]].concat(), 12),
         ] {
-            let words = with(&sound, &changes);
-            let mut left = words.clone();
-            assert_eq!(recover(&mut left, ENOUGH), Answer::Refused(number), "{changes:?}");
-            assert_eq!(left, words);
+            refused(&with(&sound, &changes), number);
         }
     }
 
@@ -334,48 +425,65 @@ mod tests {
         deal(random, shape, used)
     }
 
-    /// A value that may well stand at word `i` of a cell.
-    fn value(random: &mut Random, shape: Shape, i: usize) -> u16 {
-        match (i, random.below(8)) {
-            (_, 0) => random.pick(&[0, 1, 65_535]),
-            (0, 1..=4) => identifier_of(random.below(shape.lists)),
-            (0, _) => random.pick(&[0, WORN]),
-            _ => random.below(shape.lists + shape.nodes + 1) as u16,
-        }
-    }
-
-    /// Both ways find the same sequences: in sound stores with a few words altered, in stores of random words and in those
-    /// where one sequence goes forward and another back. All numbers of fitting sequences occur: none, one and two.
+    /// Both ways find the same sequences in damaged stores. All numbers of fitting sequences occur: none, one and two.
     #[test]
     fn both_ways_agree() {
         let mut random = Random::new(7);
         let mut seen = [0; 3];
         for turn in 0..40_000 {
-            let shape = Shape::new(random.between(1, 3), random.between(1, 4), 1);
-            let dealt = random_lists(&mut random, shape);
-            let mut words = wear(&mut random, store_of(shape, &dealt, || 0), 0);
-            let changes = if turn % 10 == 0 { 40 } else { random.between(0, 6) };
-            for _ in 0..changes {
-                let cell = random.below(shape.lists + shape.nodes);
-                let i = random.below(if cell < shape.lists { 4 } else { 3 });
-                words[shape.cell(cell) + i] = value(&mut random, shape, i);
-            }
-            if turn % 3 == 0 {
-                let (list, other) = (random.below(shape.lists), random_lists(&mut random, shape));
-                let forward: HashSet<usize> = (0..shape.lists + shape.nodes).map(|i| shape.cell(i) + 1).collect();
-                for (at, value) in asked(shape, list, &other[list]) {
-                    if !forward.contains(&at) || random.below(4) == 0 {
-                        words[at] = value;
-                    }
-                }
-            }
+            let words = damaged(&mut random, turn);
+            let shape = open(&words).expect("a store");
             for list in 0..shape.lists {
-                let found = fitting_by_links(&words, shape, list);
-                assert_eq!(found, fitting_by_enumeration(&words, shape, list), "{words:?}");
+                let found = by_links(&words, shape, list, |s| fits(&words, shape, list, s));
+                assert_eq!(found, by_enumeration(shape, |s| fits(&words, shape, list, s)), "{words:?}");
                 seen[found.len()] += 1;
             }
         }
         assert!(seen.iter().all(|&n| n > 100), "{seen:?}");
+    }
+
+    /// Is recovery not refused? Then after the first stores of its plan the plan is the rest.
+    fn later_runs(words: &[u16]) -> bool {
+        let stores = match recover_plan(words) {
+            Ok(stores) => stores,
+            Err(_) => return false,
+        };
+        for made in 0..=stores.len() {
+            let (_, left) = make(words, &stores, made as u16);
+            assert_eq!(recover_plan(&left).as_deref(), Ok(&stores[made..]), "after {made} stores on {words:?}");
+        }
+        true
+    }
+
+    /// Later runs choose the same sequences: in all small stores, in damaged ones, and where two sequences fit and other lists lack the
+    /// count and an identifier.
+    #[test]
+    fn later_runs_of_any_store() {
+        let mut accepted = [0; 3];
+        for (lists, nodes) in [(1, 1), (1, 2), (2, 1)] {
+            every_store(Shape::new(lists, nodes, 1), |words| accepted[0] += usize::from(later_runs(words)));
+        }
+        let mut random = Random::new(8);
+        for turn in 0..15_000 {
+            accepted[1] += usize::from(later_runs(&damaged(&mut random, turn)));
+        }
+        for _ in 0..4_000 {
+            let shape = Shape::new(random.between(1, 3), random.between(2, 7), random.between(1, 2));
+            let used = random.between(1, shape.nodes - 1);
+            let dealt = deal(&mut random, shape, used);
+            let mut words = store_of(shape, &dealt, || 7);
+            let (list, others) = (random.below(shape.lists), carriers(&words, 0));
+            for pairs in pairs(&words).expect("a sound store") {
+                let [count, identifier] = random.pick(&pairs);
+                (words[count], words[identifier]) = (likely(&mut random, shape, 3), likely(&mut random, shape, 0));
+            }
+            let others = &others[..random.between(0, others.len())];
+            let two = TwoSequences::random(&mut random, list, &dealt[list], others);
+            two.put(&mut words);
+            words[shape.cell(list) + 3] = two.sequence(random.below(2)).len() as u16;
+            accepted[2] += usize::from(later_runs(&words));
+        }
+        assert!(accepted.iter().all(|&n| n > 1_000), "{accepted:?}");
     }
 
     /// The central stores of records of one word are the sixth, the thirteenth, the twentieth and so on.
@@ -388,8 +496,8 @@ mod tests {
         assert_eq!((of_delete(1, [0, 1, 2, 4, 5]), of_delete(13, [0, 1, 2, 16, 17])), ([0, 0, 5, 5, 5], [0, 0, 17, 17, 17]));
     }
 
-    /// Courses from ordered stores of many shapes end as they must. By one turn in three the store is an older one, and the insert or delete
-    /// a former one, or one of now, which is refused.
+    /// Courses from ordered stores of many shapes end as they must. A list that is not named has a word altered, or the count and an
+    /// identifier. By one turn in three the store is an older one, and the insert or delete a former one, or one of now, which is refused.
     #[test]
     fn courses() {
         let mut random = Random::new(9);
@@ -427,8 +535,13 @@ mod tests {
             for (list, sequence) in lists.iter().enumerate().filter(|&(list, _)| list != named) {
                 let cell = [&[list][..], sequence].concat()[random.below(sequence.len() + 1)];
                 let i = random.below(if cell == list { 4 } else { 3 });
-                if random.below(4) > 0 {
-                    found[shape.cell(cell) + i] = value(&mut random, shape, i);
+                match random.below(6) {
+                    0 => (),
+                    1 | 2 => {
+                        found[shape.cell(cell)] = likely(&mut random, shape, 0);
+                        found[shape.cell(list) + 3] = likely(&mut random, shape, 3);
+                    }
+                    _ => found[shape.cell(cell) + i] = likely(&mut random, shape, i),
                 }
             }
             let mut course = Course::new(&old, named as u16, &new, &found);

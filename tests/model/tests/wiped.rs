@@ -1,12 +1,12 @@
 //! Wiped records through every call of the model, and older stores, with remains of records in their free nodes.
 
-use model::alterations::{adversarial, alterable};
+use model::alterations::{adversarial, alterable, pairs};
 use model::former::{self, wiped};
 use model::random::Random;
 use model::recovery::{due_of_delete, due_of_insert, recover, Course};
 use model::samples::{carriers, deal, older_stores, remain, wear};
 use model::store::{self, check, delete, insert, insert_several, length, mark_worn, ordered, read, store_of};
-use model::store::{Answer, Shape, WORN};
+use model::store::{Answer, Shape, WordStore, WORN};
 
 const ENOUGH: u16 = 65_535;
 
@@ -93,33 +93,40 @@ fn former_calls(shape: Shape, lists: &[Vec<usize>]) -> Vec<Former> {
     calls
 }
 
+/// The alterations of a list of an ordered store: each word that may be altered, and the count with each identifier, to each of some values.
+fn altered(shape: Shape, older: &[u16], list: usize) -> Vec<Vec<WordStore>> {
+    let (places, pairs) = (alterable(older).expect("an ordered store"), pairs(older).expect("an ordered store"));
+    let mut all = vec![];
+    for value in adversarial(shape) {
+        all.extend(places[list].iter().map(|&at| vec![(at, value)]));
+        let counts = [0, 1, 65_535].into_iter().flat_map(|count| pairs[list].iter().map(move |&pair| (count, pair)));
+        all.extend(counts.map(|(count, [at, identifier])| vec![(at, count), (identifier, value)]));
+    }
+    all
+}
+
 /// All older stores of one and two lists over two nodes, every former call, each cut of it, each word of the other list altered to each of
-/// some values, each cut of two recoveries: they end as they must.
+/// some values, and its count with each identifier, each cut of two recoveries: they end as they must.
 #[test]
 fn former_courses() {
     let mut courses = 0;
     for shape in [Shape::new(1, 2, 1), Shape::new(2, 2, 1)] {
         for (lists, older) in older_stores(shape) {
-            let places = alterable(&older).expect("an ordered store");
             for call in former_calls(shape, &lists) {
                 for allowance in 0..=call.told(0).1 {
                     let (named, _, due) = call.told(allowance);
                     let (cut, new) = (call.run(&older, allowance), call.run(&older, due));
-                    let others = places.iter().enumerate().filter(|&(list, _)| list != usize::from(named));
-                    let mut altered: Vec<(usize, u16)> = vec![(8, cut[8])];
-                    for &at in others.flat_map(|(_, places)| places) {
-                        altered.extend(adversarial(shape).into_iter().map(|value| (at, value)));
-                    }
-                    for (at, value) in altered {
+                    let others = (0..shape.lists).filter(|&list| list != usize::from(named));
+                    for altered in others.flat_map(|list| altered(shape, &older, list)).chain([vec![]]) {
                         let mut found = cut.clone();
-                        found[at] = value;
+                        altered.into_iter().for_each(|(at, value)| found[at] = value);
                         courses += every_cut(&Course::new(&older, named, &new, &found), &found);
                     }
                 }
             }
         }
     }
-    assert!(courses > 50_000, "{courses} courses");
+    assert!(courses > 100_000, "{courses} courses");
 }
 
 /// Recoveries of the store that is found, the first two cut everywhere: how many.
@@ -199,15 +206,16 @@ fn what_is_kept() {
     }
 }
 
-/// The largest store: each node carries an identifier and remains in every word of its record, each list has a fault.
+/// The largest store: each node carries an identifier and remains in every word of its record, each list has a fault and a wrong count.
 #[test]
 fn most_stores() {
     let shape = Shape::new(8, 2000, 13);
     let sound = store_of(shape, &vec![vec![]; 8], || 0);
     let mut found = vec![9; shape.size()];
     found[..shape.cell(8)].copy_from_slice(&sound[..shape.cell(8)]);
-    (0..8).for_each(|list| found[shape.cell(list) + list % 4] = 77);
-    let most = 8 + 2000 + 13 * 2000;
+    (0..8).for_each(|list| found[shape.cell(list) + list % 3] = 77);
+    (0..8).for_each(|list| found[shape.cell(list) + 3] = 77);
+    let most = 2 * 8 + 2000 + 13 * 2000;
     for (allowance, answer) in
         [(ENOUGH, Answer::Done(most)), (most, Answer::Done(most)), (most - 1, Answer::Stopped(most - 1))]
     {

@@ -1,6 +1,6 @@
 //! Worn nodes through every call of the model.
 
-use model::alterations::alterable;
+use model::alterations::{alterable, pairs};
 use model::random::Random;
 use model::recovery::recover;
 use model::samples::{carriers, deal, wear, with_worn};
@@ -171,12 +171,17 @@ impl Run {
         list
     }
 
-    /// What a power cut leaves, with a word altered in some of the lists that the call did not name; then recoveries, cut and whole.
-    fn recovered(&mut self, random: &mut Random, shape: Shape, named: usize, places: &[Vec<usize>]) {
-        for places in places.iter().enumerate().filter(|&(list, _)| list != named).map(|(_, places)| places) {
-            if random.below(2) == 0 {
-                self.words[random.pick(places)] = random.pick(&[0, 7, WORN, 42_400]);
-            }
+    /// What a power cut leaves, with a word altered in some of the lists that the call did not name, or the count and an identifier; then
+    /// recoveries, cut and whole.
+    fn recovered(&mut self, random: &mut Random, shape: Shape, named: usize, sound: &[u16]) {
+        let (places, pairs) = (alterable(sound).expect("a sound store"), pairs(sound).expect("a sound store"));
+        for list in (0..shape.lists).filter(|&list| list != named) {
+            let altered = match random.below(3) {
+                0 => vec![],
+                1 => vec![random.pick(&places[list])],
+                _ => random.pick(&pairs[list]).to_vec(),
+            };
+            altered.into_iter().for_each(|at| self.words[at] = random.pick(&[0, 7, WORN, 42_400]));
         }
         self.kept(shape);
         for allowance in [random.below(3) as u16, random.below(3) as u16, ENOUGH] {
@@ -201,12 +206,12 @@ fn runs() {
         let mut run = Run::new(wear(&mut random, words, 0));
         let before = run.worn.len();
         for _ in 0..12 {
-            let places = alterable(&run.words).expect("a sound store");
+            let sound = run.words.clone();
             let named = run.call(&mut random, shape);
             run.kept(shape);
             if check(&run.words) != 0 || random.below(6) == 0 {
                 cut += 1;
-                run.recovered(&mut random, shape, named, &places);
+                run.recovered(&mut random, shape, named, &sound);
             }
             run.counted(shape);
         }

@@ -1,105 +1,73 @@
 -- `fitting::choice` meets its contract. Each return is one case of `choose`.
-use mathlib.Core.Bool.{true}
+use mathlib.Core.Bool.{true, false}
 use mathlib.Core.Path.{_≡_, sym, _∙_}
-use lib.Dec.{eqb}
 use borrow.Author.Needs.{needs}
-use borrow.Author.Tests.{eq-eqb, ne-eqb, not-false}
-use Rattle.layout.specs.Words.{backWord}
-use Rattle.fitting.proofs.Walks.{decided-alone}
+use Rattle.fitting.specs.Fitting.{areMany, decides}
 use Rattle.fitting.proofs.choice.Statement.{statement}
 use Rattle.fitting.proofs.choice.Tie as tie
 
-decide-requires : tie.Need-decide-requires
-decide-requires c κs = search needs
+decides-requires : tie.Need-decides-requires
+decides-requires c κs = search needs
 
 returns : tie.Need-returns
-returns c = sym (decided-alone _ _ (sym (c .before .decide .ensures) ∙ c .if1 .taken))
+returns c = rw (sym (c .before .decides .ensures) ∙ c .if1 .taken)
 
-enum-told : tie.Need-enum-told
-enum-told c = search needs
+are-many-requires : tie.Need-are-many-requires
+are-many-requires c κs = search needs
 
-enum-told-2 : tie.Need-enum-told-2
-enum-told-2 c = search needs
+are-many-requires-2 : tie.Need-are-many-requires-2
+are-many-requires-2 c κs = search needs
 
-enum-told-3 : tie.Need-enum-told-3
-enum-told-3 c = search needs
+-- the forward walk does not decide: it does not fit, or it does
+undecided : (c : tie.Else1) → decides (c .before .before .args .x .faults) ≡ false
+undecided c = sym (c .before .decides .ensures) ∙ c .if1 .left
 
-enum-known-g : tie.Need-enum-known-g
-enum-known-g c = search needs
+many : (c : tie.Then2) → areMany (c .before .before .before .before .args .x .faults) ≡ true
+many c = sym (c .before .are-many .ensures) ∙ c .if2 .taken
 
-enum-told-4 : tie.Need-enum-told-4
-enum-told-4 c = search needs
-
-enum-told-5 : tie.Need-enum-told-5
-enum-told-5 c = search needs
-
-enum-told-6 : tie.Need-enum-told-6
-enum-told-6 c = search needs
-
-enum-told-7 : tie.Need-enum-told-7
-enum-told-7 c = search needs
-
-enum-told-8 : tie.Need-enum-told-8
-enum-told-8 c = search needs
+few : (c : tie.Else2) → areMany (c .before .before .before .before .args .x .faults) ≡ false
+few c = sym (c .before .are-many .ensures) ∙ c .if2 .left
 
 returns-2 : tie.Need-returns-2
-returns-2 c = rw (c .enum-told .given .1)
-
--- the one fault does not decide: it is a back link
-back-link : (c : tie.After-enum-told2) → eqb (c .enum-told2 .given .0 .1 .0) backWord ≡ true
-back-link c = not-false _ (rw (c .enum-told2 .given .1) at (sym (c .before .before .before .decide .ensures) ∙ c .before .before .if1 .left))
+returns-2 c =
+    let m = c .before in
+    let f = m .before in
+    rw (undecided (f .before .before), many f, sym (m .are-many2 .ensures) ∙ c .if3 .taken)
 
 returns-3 : tie.Need-returns-3
 returns-3 c =
-    let f = c .before .before in
-    rw (f .enum-told2 .given .1, c .enum-told3 .given .1, back-link f)
+    let m = c .before in
+    let f = m .before in
+    rw (undecided (f .before .before), many f, sym (m .are-many2 .ensures) ∙ c .if3 .left)
+
+is-rival-requires : tie.Need-is-rival-requires
+is-rival-requires c κs = search needs
+
+by-count-requires : tie.Need-by-count-requires
+by-count-requires c κs = search needs
 
 returns-4 : tie.Need-returns-4
 returns-4 c =
-    let g = c .before .before in
-    let f = g .before .before in
-    rw (f .enum-told2 .given .1, g .g .given .1, back-link f, eq-eqb _ _ (c .if2 .taken))
+    let t = c .before in
+    let e = t .before .before in
+    rw (undecided (e .before .before), few e, sym (t .before .is-rival .ensures) ∙ t .if4 .taken) (c .by-count .ensures)
 
 returns-5 : tie.Need-returns-5
 returns-5 c =
-    let g = c .before .before in
-    let f = g .before .before in
-    rw (f .enum-told2 .given .1, g .g .given .1, back-link f, ne-eqb _ _ (c .if2 .left))
-
-returns-6 : tie.Need-returns-6
-returns-6 c =
-    let f = c .before .before in
-    rw (f .enum-told2 .given .1, c .enum-told4 .given .1, back-link f)
-
-returns-7 : tie.Need-returns-7
-returns-7 c = rw (c .before .before .enum-told5 .given .1, c .enum-told6 .given .1)
-
-returns-8 : tie.Need-returns-8
-returns-8 c = rw (c .before .before .enum-told5 .given .1, c .enum-told7 .given .1)
-
-returns-9 : tie.Need-returns-9
-returns-9 c = rw (c .before .before .enum-told5 .given .1, c .enum-told8 .given .1)
+    let e = c .before .before in
+    rw (undecided (e .before .before), few e, sym (c .before .is-rival .ensures) ∙ c .if4 .left)
 
 pub choice-spec : {M : Type 1} → statement M
 choice-spec =
     tie.close
     (tie.spec
-    decide-requires
+    decides-requires
     returns
-    enum-told
-    enum-told-2
-    enum-told-3
-    enum-known-g
-    enum-told-4
-    enum-told-5
-    enum-told-6
-    enum-told-7
-    enum-told-8
+    are-many-requires
+    are-many-requires-2
     returns-2
     returns-3
+    is-rival-requires
+    by-count-requires
     returns-4
-    returns-5
-    returns-6
-    returns-7
-    returns-8
-    returns-9)
+    returns-5)

@@ -1,17 +1,20 @@
 -- `word_mends::all_mends` meets its contract. The loop's invariant: where the search stands at list k, and what fits it, if known.
-use Prim.Native.Nat.{ℕ, _-_, _*_, _≤_, _<_}
+use Prim.Native.Nat.{ℕ, _+_, _-_, _*_, _≤_, _<_}
 use mathlib.Core.Path.{_≡_, refl, ap, sym, subst, _∙_}
+use mathlib.Core.List.{_++_}
 use mathlib.Core.Bool.{Bool, true, false, not, false≢true}
 use native.Mathlib.Omega.{arith}
-use lib.ListN.{length}
+use lib.ListN.{length, set}
 use Rattle.stores.specs.declared.Rows.{Rows}
-use Rattle.stores.specs.Stores.{mostRows, writesIn}
+use Rattle.stores.specs.Stores.{mostRows, writesIn, Held}
 use Rattle.stores.proofs.Laws.{held-none, held-maybe}
 use Rattle.layout.specs.Words.{Laid, sizeOf}
 use Rattle.lists.specs.Decide.{View, viewOf, countIn}
 use Rattle.spans.specs.Spans.{Gridded}
-use Rattle.fitting.specs.Fitting.{fitIn, faultIn, lengthBy, FaultFits}
+use Rattle.fitting.specs.Fitting.{fitIn, mendOf, countMend, walkIn, FaultFits}
+use Rattle.fitting.specs.declared.Walk.{Walk}
 use Rattle.fitting.proofs.Inside.{fit-fits}
+use Rattle.mending.specs.Mending.{IsMend}
 use Rattle.mending.proofs.AllLists.{Found, found-none, found-more, found-refused, found-all}
 use Rattle.word_mends.proofs.all_mends.Statement.{statement}
 use Rattle.word_mends.proofs.all_mends.Tie as tie
@@ -43,32 +46,55 @@ rows c = record { at = c .loop .at; values = c .loop .values; len = c .loop .len
 abbrev at : tie.After-fit-next Inv-loop μ-loop → tie.At-loop Inv-loop μ-loop
 at c = c .before .before .before
 
-abbrev fitted : tie.After-fault Inv-loop μ-loop → tie.After-fit-next Inv-loop μ-loop
+abbrev fitted : tie.After-walk Inv-loop μ-loop → tie.After-fit-next Inv-loop μ-loop
 fitted c = c .before .before .before
 
-abbrev faulty : tie.After-is-backward Inv-loop μ-loop → tie.After-fault Inv-loop μ-loop
-faulty c = c .before .before .before .before
+abbrev walked : tie.After-is-backward Inv-loop μ-loop → tie.After-walk Inv-loop μ-loop
+walked c = c .before .before .before
+
+abbrev mended : tie.After-count Inv-loop μ-loop → tie.After-mend-of Inv-loop μ-loop
+mended c = c .before .before
 
 -- the list is below L
-below : (c : tie.After-fault Inv-loop μ-loop) → let t = at (fitted c) in t .loop .k < start t .args .l .lists
+below : (c : tie.After-walk Inv-loop μ-loop) → let t = at (fitted c) in t .loop .k < start t .args .l .lists
 below c = fitted c .before .if1 .taken
 
 -- its fault is of the store
-fault-inside : (c : tie.After-fault Inv-loop μ-loop) → FaultFits (start (at (fitted c)) .args .l) (c .fault .result)
+fault-inside : (c : tie.After-walk Inv-loop μ-loop) → FaultFits (start (at (fitted c)) .args .l) (c .walk .result .faults)
 fault-inside c =
     let f = fitted c in
     let t = at f in
     let s = start t in
-    subst (FaultFits (s .args .l)) (sym (c .fault .ensures ∙ ap faultIn (f .fit-next .ensures .0)))
+    subst (λ (y : Walk). FaultFits (s .args .l) (y .faults)) (sym (c .walk .ensures ∙ ap walkIn (f .fit-next .ensures .0)))
     (fit-fits (s .args .l) (s .pre .1 .inRange) (view s) (t .loop .k) (count s (t .loop .k)) (below c))
 
--- the rows have all their entries, and hold no more stores than lists were looked at
-room : (c : tie.After-fault Inv-loop μ-loop) → let t = at (fitted c) in
-    (t .loop .len < mostRows) × (length (t .loop .at) ≡ mostRows) × (length (t .loop .values) ≡ mostRows)
+-- the rows have all their entries, and hold no more than two stores for each list looked at
+room : (c : tie.After-walk Inv-loop μ-loop) → let t = at (fitted c) in
+    (t .loop .len + 1 < mostRows) × (length (t .loop .at) ≡ mostRows) × (length (t .loop .values) ≡ mostRows)
 room c =
     let t = at (fitted c) in
     let h = t .loop .inv .1 in
     (omega (arith, h .few, below c, start t .pre .1 .inRange .lists), h .held .at, h .held .values)
+
+-- with the mend of the fault
+abbrev withMend : tie.After-mend-of Inv-loop μ-loop → Rows
+withMend c =
+    let t = at (fitted (walked (c .before))) in
+    let m = c .mend-of .result in
+    record { at = set (t .loop .at) (t .loop .len) (m .at); values = set (t .loop .values) (t .loop .len) (m .value); len = t .loop .len + m .number }
+
+held-one : (c : tie.After-mend-of Inv-loop μ-loop) → let w = walked (c .before) in let t = at (fitted w) in
+    Held (sizeOf (start t .args .l)) (withMend c) (writesIn (rows t) ++ mendOf (start t .args .l) (w .walk .result .faults))
+held-one c =
+    let w = walked (c .before) in
+    let t = at (fitted w) in
+    let m = c .mend-of .ensures in
+    held-maybe (sizeOf (start t .args .l)) _ _ (t .loop .len) _ _ (c .mend-of .result .number) (writesIn (rows t)) _ (omega (arith, room w)) (t .loop .inv .1 .held)
+    (m .few) (m .same) (m .inside)
+
+-- there is room for the count's
+room-one : (c : tie.After-mend-of Inv-loop μ-loop) → (withMend c .len < mostRows) × (length (withMend c .at) ≡ mostRows) × (length (withMend c .values) ≡ mostRows)
+room-one c = let h = held-one c in (omega (arith, room (walked (c .before)), c .mend-of .ensures .few), h .at, h .values)
 
 loop-holds : tie.Need-loop-holds Inv-loop μ-loop
 loop-holds c =
@@ -96,27 +122,21 @@ returns c =
     found-refused (s .args .l) (s .pre .1 .inRange) (view s) (count s) (t .loop .inv .1) (f .before .if1 .taken)
     (f .fit-next .ensures .0) (n .number .ensures) (c .if2 .taken)
 
-fault-requires : tie.Need-fault-requires Inv-loop μ-loop
-fault-requires c κs = omega arith
-
-count-requires : tie.Need-count-requires Inv-loop μ-loop
-count-requires c κs = (at (fitted c) .loop .inv .0 .1, below c)
-
-members-requires : tie.Need-members-requires Inv-loop μ-loop
-members-requires c κs = omega arith
+walk-requires : tie.Need-walk-requires Inv-loop μ-loop
+walk-requires c κs = omega arith
 
 cast-members : tie.Need-cast-members Inv-loop μ-loop
 cast-members c = omega arith
 
 add-members : tie.Need-add-members Inv-loop μ-loop
 add-members c =
-    let x = c .before .before in
+    let x = c .before in
     let t = at (fitted x) in
     omega (arith, t .loop .inv .2, below x, start t .pre .1 .inRange .lists)
 
 carried-requires : tie.Need-carried-requires Inv-loop μ-loop
 carried-requires c κs =
-    let x = c .before .before in
+    let x = c .before in
     let i = at (fitted x) .loop .inv .0 in
     (i .0, i .1, fault-inside x)
 
@@ -124,34 +144,55 @@ is-backward-requires : tie.Need-is-backward-requires Inv-loop μ-loop
 is-backward-requires c κs = omega arith
 
 cast-back : tie.Need-cast-back Inv-loop μ-loop
-cast-back c = omega (arith, below (faulty c), start (at (fitted (faulty c))) .pre .1 .inRange .lists)
+cast-back c = omega (arith, below (walked c), start (at (fitted (walked c))) .pre .1 .inRange .lists)
 
 array-write-back : tie.Need-array-write-back Inv-loop μ-loop
-array-write-back c = omega (arith, below (faulty c), start (at (fitted (faulty c))) .pre .1 .inRange .lists)
+array-write-back c = omega (arith, below (walked c), start (at (fitted (walked c))) .pre .1 .inRange .lists)
 
 mend-of-requires : tie.Need-mend-of-requires Inv-loop μ-loop
-mend-of-requires c κs = let x = faulty c in (start (at (fitted x)) .pre .1 .inRange, fault-inside x)
+mend-of-requires c κs = let x = walked c in (start (at (fitted x)) .pre .1 .inRange, fault-inside x)
 
 mul-at : tie.Need-mul-at Inv-loop μ-loop
-mul-at c = omega (arith, room (faulty (c .before)))
+mul-at c = omega (arith, room (walked (c .before)))
 
 array-write-at : tie.Need-array-write-at Inv-loop μ-loop
-array-write-at c = omega (arith, room (faulty (c .before)))
+array-write-at c = omega (arith, room (walked (c .before)))
 
 mul-values : tie.Need-mul-values Inv-loop μ-loop
-mul-values c = omega (arith, room (faulty (c .before)))
+mul-values c = omega (arith, room (walked (c .before)))
 
 array-write-values : tie.Need-array-write-values Inv-loop μ-loop
-array-write-values c = omega (arith, room (faulty (c .before)))
+array-write-values c = omega (arith, room (walked (c .before)))
 
 add-len : tie.Need-add-len Inv-loop μ-loop
-add-len c = omega (arith, room (faulty (c .before .before)), c .before .mend-of .ensures .few)
+add-len c = omega (arith, room (walked (c .before .before)), c .before .mend-of .ensures .few)
+
+count-requires : tie.Need-count-requires Inv-loop μ-loop
+count-requires c κs = let w = walked (c .before .before) in (at (fitted w) .loop .inv .0 .1, below w)
+
+count-mend-requires : tie.Need-count-mend-requires Inv-loop μ-loop
+count-mend-requires c κs = let w = walked (mended c .before) in (start (at (fitted w)) .pre .1 .inRange, below w)
+
+mul-at-2 : tie.Need-mul-at-2 Inv-loop μ-loop
+mul-at-2 c = omega (arith, room-one (mended (c .before)))
+
+array-write-at-2 : tie.Need-array-write-at-2 Inv-loop μ-loop
+array-write-at-2 c = omega (arith, room-one (mended (c .before)))
+
+mul-values-2 : tie.Need-mul-values-2 Inv-loop μ-loop
+mul-values-2 c = omega (arith, room-one (mended (c .before)))
+
+array-write-values-2 : tie.Need-array-write-values-2 Inv-loop μ-loop
+array-write-values-2 c = omega (arith, room-one (mended (c .before)))
+
+add-len-2 : tie.Need-add-len-2 Inv-loop μ-loop
+add-len-2 c = omega (arith, room-one (mended (c .before .before)), c .before .count-mend .ensures .few)
 
 add-k : tie.Need-add-k Inv-loop μ-loop
-add-k c = omega (arith, below (faulty (c .before .before)))
+add-k c = let w = walked (mended (c .before .before) .before) in omega (arith, below w, start (at (fitted w)) .pre .1 .inRange .lists)
 
 loop-less : tie.Need-loop-less Inv-loop μ-loop
-loop-less c = omega (arith, below (faulty (c .before .before)))
+loop-less c = omega (arith, below (walked (mended (c .before .before) .before)))
 
 -- what is known every other time
 turned : (b : Bool) → not b ≡ true → b ≡ false
@@ -160,24 +201,24 @@ turned false e = refl
 
 loop-again : tie.Need-loop-again Inv-loop μ-loop
 loop-again c =
-    let e = c .before in
+    let d = c .before in
+    let q = d .before in
+    let e = mended q in
     let b = e .before in
     let a = b .before in
-    let m = a .before in
-    let q = m .before in
-    let g = q .before in
-    let n = g .before .before in
+    let x = walked b in
+    let n = x .before .before in
     let f = n .before in
     let t = at f in
     let s = start t in
-    let h = t .loop .inv .1 in
-    let x = e .mend-of .ensures in (
+    let l = s .args .l in
+    let m : IsMend l (countMend l (t .loop .k) (count s (t .loop .k)) (x .walk .result .members)) (d .count-mend .result) =
+    subst (λ (i : ℕ). IsMend l (countMend l (t .loop .k) i (x .walk .result .members)) (d .count-mend .result)) (q .count .ensures) (d .count-mend .ensures) in (
       t .loop .inv .0,
-      found-more (s .args .l) (s .pre .1 .inRange) (view s) (count s) h (below g) (f .fit-next .ensures .0) (n .number .ensures) (g .before .if2 .left)
-          (g .fault .ensures) (m .members .ensures ∙ ap (lengthBy (g .fault .result)) (q .count .ensures)) (a .carried .ensures) (b .is-backward .ensures)
-          (held-maybe (sizeOf (s .args .l)) _ _ (t .loop .len) _ _ (e .mend-of .result .number) (writesIn (rows t)) _ (room g .0) (h .held)
-          (x .few) (x .same) (x .inside)),
-      omega (arith, t .loop .inv .2),
+      found-more l (s .pre .1 .inRange) (view s) (count s) (t .loop .inv .1) (below x) (f .fit-next .ensures .0) (n .number .ensures) (x .before .if2 .left)
+          (x .walk .ensures) refl (a .carried .ensures) (b .is-backward .ensures)
+          (held-maybe (sizeOf l) _ _ (withMend e .len) _ _ (d .count-mend .result .number) _ _ (room-one e .0) (held-one e) (m .few) (m .same) (m .inside)),
+      omega (arith, t .loop .inv .2, a .before .struct-known2 .given),
       λ z below. f .fit-next .ensures .1 (turned (t .loop .known) z) below,
     )
 
@@ -197,9 +238,7 @@ all-mends-spec =
     fit-next-requires
     number-requires
     returns
-    fault-requires
-    count-requires
-    members-requires
+    walk-requires
     cast-members
     add-members
     carried-requires
@@ -212,6 +251,13 @@ all-mends-spec =
     mul-values
     array-write-values
     add-len
+    count-requires
+    count-mend-requires
+    mul-at-2
+    array-write-at-2
+    mul-values-2
+    array-write-values-2
+    add-len-2
     add-k
     loop-less
     loop-again

@@ -5,7 +5,7 @@ use crate::{altered, values_for, Script};
 use model::alterations::adversarial;
 use model::courses::{Call, Courses};
 use model::recovery::{recover, Course};
-use model::samples::{all_lists_and_worn, carriers, wear, with_worn};
+use model::samples::{all_lists_and_worn, carriers, wear, with_worn, TwoSequences};
 use model::script::Operation::*;
 use model::store::{self, store_of, Answer, Shape, IDENTIFIER, WORN};
 
@@ -72,6 +72,12 @@ pub fn marked_store(s: &mut Script) {
     }
     let c9 = altered(&c2, &[(12, 42_400), (13, 0), (14, 0), (9, 1)]);
     s.recover_at_each(&c9);
+    for count in 0..4 {
+        // in the place of cell 2, and before it
+        s.recover_from(&altered(&c9, &[(11, count)]), ENOUGH);
+        s.recover_at_each(&altered(&c9, &[(13, 2), (11, count)]));
+        s.recover_at_each(&altered(&c3, &[(20, 9), (11, count)]));
+    }
     for at in [8, 9, 10, 11, 12, 13, 14, 15, 16, 17, 18] {
         s.recover_from(&altered(&c9, &[(at, c9[at] + 1)]), ENOUGH);
     }
@@ -152,72 +158,70 @@ pub fn altered_words(s: &mut Script) {
     }
 }
 
-/// The changes that let a second sequence fit: a free node in the place of a member, by the forward link before it or by the
-/// back link behind it.
-fn second_sequence(
-    shape: Shape,
-    list: usize,
-    sequence: &[usize],
-    position: usize,
-    free: usize,
-    forward: bool,
-) -> Vec<(usize, u16)> {
-    let before = if position == 0 { list } else { sequence[position - 1] };
-    let after = *sequence.get(position + 1).unwrap_or(&list);
-    let link = if forward { shape.cell(before) + 1 } else { shape.cell(after) + 2 };
-    vec![
-        (shape.cell(free), IDENTIFIER + list as u16),
-        (shape.cell(free) + 1, after as u16),
-        (shape.cell(free) + 2, before as u16),
-        (link, free as u16),
-    ]
-}
-
-/// Two sequences fit; with one more word altered, one of them or none.
+/// Two sequences fit, with the count of the one, of the other and of none; with one more word altered, one of them or none.
 pub fn several_fit(s: &mut Script) {
     for (lists, nodes, width) in [(1, 2, 1), (1, 4, 1), (2, 4, 8), (3, 7, 5), (8, 12, 2), (5, 30, 1)] {
         let shape = Shape::new(lists, nodes, width);
-        for _ in 0..6 {
+        for turn in 0..8 {
             let dealt = s.deal(shape, (nodes - 2).max(1));
             let words = s.sound(shape, &dealt);
-            let free = carriers(&words, 0)[0];
             let list = dealt.iter().position(|sequence| !sequence.is_empty()).expect("a member");
-            let position = s.random.below(dealt[list].len());
-            for forward in [true, false] {
-                let changes = second_sequence(shape, list, &dealt[list], position, free, forward);
-                let twice = altered(&words, &changes);
+            let others = &carriers(&words, 0)[..turn % 2];
+            let two = TwoSequences::random(&mut s.random, list, &dealt[list], others);
+            let mut twice = words.clone();
+            two.put(&mut twice);
+            let lengths = [0, 1].map(|way| two.sequence(way).len() as u16);
+            for count in [lengths[0], lengths[1], lengths[turn % 2] + 1] {
+                twice[shape.cell(list) + 3] = count;
                 s.recover_from(&twice, ENOUGH);
-                s.recover(0);
-                for cell in [list, free, dealt[list][position]] {
-                    let change = s.alteration(shape, cell);
-                    s.recover_from(&altered(&twice, &[change]), ENOUGH);
-                    s.load(&twice);
-                }
+                s.recover_from(&twice, 1);
+            }
+            for cell in [list, two.sequence(turn % 2).pop().unwrap_or(list)] {
+                let change = s.alteration(shape, cell);
+                s.recover_from(&altered(&twice, &[change]), ENOUGH);
+                s.load(&twice);
             }
         }
     }
 }
 
-/// Every list sound, with a fault, with two sequences or with none: the first that has a reason decides.
+/// Every list sound, with wrong words or two sequences of which one is taken, with two of which none is, or with no sequence: the first that
+/// has a reason decides.
 pub fn several_reasons(s: &mut Script) {
     let shape = Shape::new(3, 12, 2);
     let lists = [vec![5, 3], vec![9], vec![7, 14, 4]];
     let words = s.sound_with(shape, &lists, &[6, 11, 13]);
+    // node 10 + k beside the first member of list k, or in its place
+    let two = |list: usize, beside: bool| {
+        let other = vec![10 + list];
+        let (block, after) = if beside { (vec![], &lists[list][..]) } else { (vec![lists[list][0]], &lists[list][1..]) };
+        let blocks = if list == 1 { [block, other] } else { [other, block] };
+        TwoSequences { list, before: vec![], blocks, after: after.to_vec() }
+    };
     for choice in 0..64 {
-        let mut changes = vec![];
-        for (list, sequence) in lists.iter().enumerate() {
-            match choice >> (2 * list) & 3 {
-                0 => {}
-                1 => changes.push((shape.cell(list) + 3, 7)),
-                2 => changes.extend(second_sequence(shape, list, sequence, 0, 10 + list, list != 1)),
-                _ => changes.extend([(shape.cell(list) + 1, 13), (shape.cell(list) + 2, 13)]),
+        let mut found = words.clone();
+        for (list, members) in lists.iter().enumerate() {
+            let (header, length) = (shape.cell(list), members.len() as u16);
+            match (choice >> (2 * list) & 3, list) {
+                (0, _) => {}
+                (1, 0) => (found[header], found[header + 3]) = (77, 7),
+                (1, _) => {
+                    two(list, true).put(&mut found);
+                    found[header + 3] = length + list as u16 % 2;
+                }
+                (2, 2) => {
+                    two(list, true).put(&mut found);
+                    found[header + 3] = length + 2;
+                }
+                (2, _) => two(list, false).put(&mut found),
+                _ => (found[header + 1], found[header + 2]) = (13, 13),
             }
         }
         for allowance in [0, ENOUGH] {
-            s.recover_from(&altered(&words, &changes), allowance);
+            s.recover_from(&found, allowance);
         }
-        changes.push((s.random.pick(&[2, 4, 5, 7]), 0));
-        s.recover_from(&altered(&words, &changes), ENOUGH);
+        found[s.random.pick(&[2, 4, 5, 7])] = 0;
+        s.recover_from(&found, ENOUGH);
     }
 }
 
@@ -244,7 +248,8 @@ pub fn random_damage(s: &mut Script) {
     }
 }
 
-/// A fault in every list and some nodes that wrongly carry an identifier, beside worn ones, at every allowance.
+/// A fault in every list, in every second beside a wrong count, and some nodes that wrongly carry an identifier, beside worn ones, at every
+/// allowance.
 pub fn many_stores(s: &mut Script) {
     for (lists, nodes, width, used, carrying) in [(1, 4, 1, 1, 2), (3, 6, 8, 3, 2), (5, 10, 3, 6, 3), (8, 23, 2, 14, 6)] {
         let shape = Shape::new(lists, nodes, width);
@@ -257,13 +262,16 @@ pub fn many_stores(s: &mut Script) {
             let cell = [&[list][..], sequence].concat()[s.random.below(sequence.len() + 1)];
             let i = s.random.below(if cell == list { 4 } else { 3 });
             words[shape.cell(cell) + i] ^= 0x4000;
+            if list % 2 == 0 {
+                words[shape.cell(list) + 3] = 0x4000;
+            }
         }
         for &cell in carriers(&sound, 0).iter().take(carrying) {
             words[shape.cell(cell)] = s.random.pick(&[1, WORN - 1, IDENTIFIER, IDENTIFIER + 7]);
         }
         s.recover_at_each(&words);
         s.load(&words);
-        for _ in 0..lists + carrying + 1 {
+        for _ in 0..2 * lists + carrying + 1 {
             s.recover(1);
         }
     }
@@ -278,17 +286,20 @@ pub fn course(s: &mut Script, shape: Shape, edit: &Edit, allowance: u16, most: u
     finish(s, shape, &sound, edit.list(), &new, most);
 }
 
-/// After an insert or delete on an ordered store: at most one word altered in each list that it does not name; recover calls with small
-/// allowances, and one with enough. It must end as `Course` says. `new` are the words with the stores that count as made.
+/// After an insert or delete on an ordered store: at most one word altered in each list that it does not name, or its count and an
+/// identifier; recover calls with small allowances, and one with enough. It must end as `Course` says. `new` are the words with the stores
+/// that count as made.
 pub fn finish(s: &mut Script, shape: Shape, old: &[u16], named: usize, new: &[u16], most: usize) {
     let lists = store::ordered(old, shape).expect("an ordered store");
     let mut found = s.words.clone();
     for (list, sequence) in lists.iter().enumerate().filter(|&(list, _)| list != named) {
-        if s.random.below(6) > 0 {
-            let cell = [&[list][..], sequence].concat()[s.random.below(sequence.len() + 1)];
-            let (at, value) = s.alteration(shape, cell);
-            found[at] = value;
-        }
+        let cell = [&[list][..], sequence].concat()[s.random.below(sequence.len() + 1)];
+        let altered = match s.random.below(6) {
+            0 => vec![],
+            1 | 2 => vec![s.value(shape, cell, 0), s.value(shape, list, 3)],
+            _ => vec![s.alteration(shape, cell)],
+        };
+        altered.into_iter().for_each(|(at, value)| found[at] = value);
     }
     s.load(&found);
     let mut course = Course::new(old, named as u16, new, &found);
@@ -337,6 +348,23 @@ pub fn courses(s: &mut Script) {
 /// Every insert and delete that the store allows, and those just beyond, with all their courses. A second word is altered too.
 fn every_course(s: &mut Script, shape: Shape, lists: &[Vec<usize>], starts: &[usize], other: (usize, u16)) {
     let values = adversarial(shape);
+    for call in every_call(lists, starts) {
+        s.add(AllCourses(Courses { call, other: (other.0 as u16, other.1), values: values.clone() }));
+    }
+}
+
+/// Such calls of one list, beside a wrong count of another.
+fn every_course_beside(s: &mut Script, shape: Shape, lists: &[Vec<usize>], starts: &[usize], other: (usize, u16)) {
+    let identifiers = (0..shape.lists as u16).map(|k| IDENTIFIER + k);
+    let values: Vec<u16> = identifiers.chain([0, WORN]).collect();
+    let count = (shape.cell(other.0) + 3) as u16;
+    for call in every_call(lists, starts).into_iter().filter(|call| usize::from(call.list) != other.0) {
+        s.add(AllCourses(Courses { call, other: (count, other.1), values: values.clone() }));
+    }
+}
+
+/// Every insert and delete at the positions of the lists and just beyond.
+fn every_call(lists: &[Vec<usize>], starts: &[usize]) -> Vec<Call> {
     let mut calls = vec![];
     for (list, sequence) in lists.iter().enumerate() {
         for position in 0..=sequence.len() {
@@ -344,24 +372,28 @@ fn every_course(s: &mut Script, shape: Shape, lists: &[Vec<usize>], starts: &[us
             calls.extend(starts.iter().map(|&start| (list, position, start)));
         }
     }
-    for (list, position, start) in calls {
-        let call = Call { list: list as u16, position: position as u16, start: start as u16, record: 77 };
-        s.add(AllCourses(Courses { call, other: (other.0 as u16, other.1), values: values.clone() }));
-    }
+    let call =
+        |(list, position, start)| Call { list: list as u16, position: position as u16, start: start as u16, record: 77 };
+    calls.into_iter().map(call).collect()
 }
 
 /// No word of a small store.
 pub const NOWHERE: (usize, u16) = (65_535, 0);
 
-/// All courses of all calls on small stores: on all sound stores of one and of two lists over two nodes; on some of two and three
-/// lists over three nodes, with alterations in both other lists.
+/// All courses of all calls on small stores: on all sound stores of one and of two lists over two nodes, with a wrong count in the other list
+/// too; on some of two and three lists over three nodes, with alterations in both other lists.
 pub fn every_course_of_small_stores(s: &mut Script) {
     for lists in [1, 2] {
         let shape = Shape::new(lists, 2, 1);
         let nodes: Vec<usize> = shape.node_cells().collect();
-        for (sequences, worn) in all_lists_and_worn(shape) {
+        for (turn, (sequences, worn)) in all_lists_and_worn(shape).into_iter().enumerate() {
             s.load(&with_worn(store_of(shape, &sequences, || 0), &worn));
             every_course(s, shape, &sequences, &nodes, NOWHERE);
+            for other in 0..if lists == 2 { 2 } else { 0 } {
+                let wrong = [0, 1, 2, 65_535].into_iter().filter(|&count| count != sequences[other].len() as u16);
+                let count = wrong.cycle().nth(turn).expect("a wrong count");
+                every_course_beside(s, shape, &sequences, &nodes[turn % 2..=turn % 2], (other, count));
+            }
         }
     }
     let shape = Shape::new(2, 3, 1);
@@ -409,7 +441,7 @@ pub fn large_courses(s: &mut Script) {
 }
 
 /// The largest store: a fault in every list, as many stores as can be, one list of all nodes, links that never meet the
-/// header.
+/// header, links that skip a block of a list.
 pub fn largest(s: &mut Script) {
     let shape = Shape::new(8, 2000, 13);
     let dealt = s.deal(shape, 1990);
@@ -434,6 +466,16 @@ pub fn largest(s: &mut Script) {
         s.recover_from(&altered(&words, &changes), ENOUGH);
         s.load(&words);
     }
+    // a block left out by the forward link before it, or by the back link behind it: the count tells the length of the one or the other
+    let (header, [i, j]) = (shape.cell(3), [dealt[3].len() / 3, dealt[3].len() / 2]);
+    let skipped = [(shape.cell(dealt[3][i]) + 1, dealt[3][j] as u16), (shape.cell(dealt[3][j]) + 2, dealt[3][i] as u16)];
+    for skipping in skipped {
+        for missing in [0, j - i - 1, 1] {
+            let count = (header + 3, (dealt[3].len() - missing) as u16);
+            s.recover_from(&altered(&words, &[skipping, count]), ENOUGH);
+            s.load(&words);
+        }
+    }
     let mut all: Vec<usize> = shape.node_cells().collect();
     s.random.shuffle(&mut all);
     let one: Vec<Vec<usize>> = (0..8).map(|k| if k == 5 { all.clone() } else { vec![] }).collect();
@@ -442,14 +484,15 @@ pub fn largest(s: &mut Script) {
     for (cell, i, value) in [(all[1000], 1, 2008), (all[1999], 1, 8), (all[0], 2, 65_535), (5, 3, 1999), (all[7], 0, 0)] {
         s.recover_from(&altered(&words, &[(shape.cell(cell) + i, value)]), ENOUGH);
     }
-    // the headers say empty, each with a fault: every node is in no list
-    let mut empty = altered(&words, &[(shape.cell(5) + 1, 5), (shape.cell(5) + 2, 5), (shape.cell(5) + 3, 0)]);
+    // the headers say empty, each with a fault and a wrong count: every node is in no list
+    let mut empty = altered(&words, &[(shape.cell(5) + 1, 5), (shape.cell(5) + 2, 5)]);
     for list in 0..8 {
-        empty[shape.cell(list) + list % 4] = 77;
+        empty[shape.cell(list) + list % 3] = 77;
+        empty[shape.cell(list) + 3] = 77;
     }
     s.recover_from(&empty, ENOUGH);
     s.load(&empty);
-    for allowance in [2007, 0, ENOUGH, ENOUGH] {
+    for allowance in [2015, 0, ENOUGH, ENOUGH] {
         s.recover(allowance);
     }
 }

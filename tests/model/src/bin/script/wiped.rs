@@ -137,13 +137,15 @@ pub fn every_course(s: &mut Script) {
     }
 }
 
-/// The largest store with remains in every record word, an identifier on every node and a fault in every list: as many stores as can be.
+/// The largest store with remains in every record word, an identifier on every node, a fault and a wrong count in every list: as many stores
+/// as can be.
 pub fn largest(s: &mut Script) {
     let shape = Shape::new(8, 2000, 13);
     let mut head = store_of(shape, &vec![vec![]; 8], || 0)[..shape.cell(8)].to_vec();
-    (0..8).for_each(|list| head[shape.cell(list) + list % 4] = 77);
-    let most = (8 + 2000 + 13 * 2000) as u16;
-    for allowances in [&[most][..], &[most - 1, 0, 1, 0], &[8, 2000, 1, 12_999, 13_000, ENOUGH]] {
+    (0..8).for_each(|list| head[shape.cell(list) + list % 3] = 77);
+    (0..8).for_each(|list| head[shape.cell(list) + 3] = 77);
+    let most = (2 * 8 + 2000 + 13 * 2000) as u16;
+    for allowances in [&[most][..], &[most - 1, 0, 1, 0], &[15, 1, 2000, 1, 12_999, 13_000, ENOUGH]] {
         s.add(Fill { size: shape.size() as u16, value: 9 });
         s.add(PutAll { at: 0, values: head.clone() });
         s.add(Check);

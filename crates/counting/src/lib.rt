@@ -1,0 +1,1 @@
+// No function: what is so of a count beside another altered word.
