@@ -20,11 +20,12 @@ pub const NOTHING: &str = "recover, nothing to do";
 pub const BEFORE: &str = "recover, insert cut before its central store";
 pub const AFTER: &str = "recover, insert cut after its central store";
 pub const FAULTS: &str = "recover, one fault in every list";
+pub const COUNTS: &str = "recover, count and identifier in every list";
 pub const OLDER: &str = "recover, an older store";
 
 /// All that is measured.
-pub const NAMES: [&str; 13] =
-    [FORMAT, CHECK, LENGTH, EDIT, MARK, TWELVE, SINGLY, THOUSAND, NOTHING, BEFORE, AFTER, FAULTS, OLDER];
+pub const NAMES: [&str; 14] =
+    [FORMAT, CHECK, LENGTH, EDIT, MARK, TWELVE, SINGLY, THOUSAND, NOTHING, BEFORE, AFTER, FAULTS, COUNTS, OLDER];
 
 /// The calls of a turn: the sum of their answers.
 pub type Turn = dyn Fn(&Engine, &mut [u8]) -> u32;
@@ -131,6 +132,7 @@ pub fn cases(sample: &Sample) -> Vec<Case> {
         Case::recovery(BEFORE, sample, sample.cut(shape.width + 4), 2 + shape.width),
         Case::recovery(AFTER, sample, sample.cut(shape.width + 5), 1),
         Case::recovery(FAULTS, sample, sample.faulty(), shape.lists),
+        Case::recovery(COUNTS, sample, sample.miscounted(), 2 * shape.lists),
     ];
     let one_call = move |engine: &Engine, bytes: &mut [u8], records: &[u8]| {
         (engine.insert_several)(bytes, list, position, start, records, ENOUGH)

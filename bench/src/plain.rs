@@ -501,7 +501,7 @@ fn recovered(store: &mut [u8], allowance: usize) -> Result<u32, u32> {
     })
 }
 
-/// The words that a sequence asks for and does not find: the one that there is, with the value asked.
+/// The words beside the count that a sequence asks for and does not find: the one that there is, with the value asked.
 #[derive(Clone, Copy)]
 enum Wrong {
     None,
@@ -520,12 +520,24 @@ impl Wrong {
     }
 }
 
-/// A sequence that may fit a list: what the links of one kind lead through.
+/// A sequence that may fit a list: what the links of one kind lead through. It is told if its length is the count.
 #[derive(Clone, Copy)]
 struct Candidate {
     onward: usize,
     length: usize,
+    told: bool,
     wrong: Wrong,
+}
+
+impl Candidate {
+    /// The stores that mend the list: the wrong word, if there is one, then the count if it is wrong.
+    fn stores(self, shape: Shape, list: usize) -> impl Iterator<Item = Store> {
+        let word = match self.wrong {
+            Wrong::One { cell, word, value } => Some((shape.at(cell, word), value)),
+            _ => None,
+        };
+        word.into_iter().chain((!self.told).then(|| (shape.at(list, COUNT), self.length as u16)))
+    }
 }
 
 impl Survey<'_> {
@@ -551,18 +563,22 @@ impl Survey<'_> {
         }
         wrong.compare(at as u16, before, ONWARD, list as u16);
         wrong.compare(header[BACKWARD], list, BACKWARD, before as u16);
-        wrong.compare(header[COUNT], list, COUNT, length as u16);
-        Candidate { onward: ONWARD, length, wrong }
+        Candidate { onward: ONWARD, length, told: usize::from(header[COUNT]) == length, wrong }
     }
 
-    /// Questions 11 and 12: the only sequence that fits the list. With one wrong word at most, all forward links are right or
-    /// all back links. Two sequences fit if one lacks a back link alone and the other a forward link alone.
-    fn fitting(&self, list: usize) -> Result<Candidate, u32> {
+    /// Questions 11 and 12: the sequence that is chosen for the list. With one wrong word at most beside the count, all forward links
+    /// are right or all back links. Two sequences fit if one lacks a back link alone and the other a forward link alone: then one of
+    /// them must be told, and the other not.
+    fn chosen(&self, list: usize) -> Result<Candidate, u32> {
         let forward = self.candidate::<FORWARD, BACK>(list);
         match forward.wrong {
             Wrong::None => Ok(forward),
-            Wrong::One { word: BACK, .. } => match self.candidate::<BACK, FORWARD>(list).wrong {
-                Wrong::One { word: FORWARD, .. } => Err(12),
+            Wrong::One { word: BACK, .. } => match self.candidate::<BACK, FORWARD>(list) {
+                back @ Candidate { wrong: Wrong::One { word: FORWARD, .. }, .. } => match (forward.told, back.told) {
+                    (true, false) => Ok(forward),
+                    (false, true) => Ok(back),
+                    _ => Err(12),
+                },
                 _ => Ok(forward),
             },
             Wrong::One { .. } => Ok(forward),
@@ -583,11 +599,11 @@ impl Survey<'_> {
     }
 }
 
-/// What recovery is to store before it wipes: the wrong word of each list that has one, and then, if there are orphans, 0 to each
-/// identifier in the copy that says in use.
+/// What recovery goes by: the sequence chosen for each list, the number of stores that mend the lists, and whether there are orphans. If so,
+/// an identifier in the copy that says in use is an orphan's.
 struct Mends {
-    wrong: [Store; 8],
-    len: usize,
+    chosen: [Candidate; 8],
+    number: usize,
     orphans: bool,
 }
 
@@ -595,23 +611,21 @@ struct Mends {
 /// use by their identifiers; the members' are then erased from the copy.
 fn mends(survey: &mut Survey) -> Result<Mends, u32> {
     let shape = survey.shape;
-    let mut fitting = [Candidate { onward: FORWARD, length: 0, wrong: Wrong::None }; 8];
-    let mut mends = Mends { wrong: [(0, 0); 8], len: 0, orphans: false };
-    let mut carrying = 0;
-    for (list, fitting) in fitting.iter_mut().enumerate().take(shape.lists) {
-        *fitting = survey.fitting(list)?;
-        carrying += fitting.length;
-        if let Wrong::One { cell, word, value } = fitting.wrong {
-            mends.wrong[mends.len] = (shape.at(cell, word), value);
-            mends.len += 1;
-            carrying -= usize::from(shape.is_node(cell) && word == IDENT && !in_use(survey.cells[cell][IDENT]));
+    let mut chosen = [Candidate { onward: FORWARD, length: 0, told: true, wrong: Wrong::None }; 8];
+    let (mut number, mut carrying) = (0, 0);
+    for (list, chosen) in chosen.iter_mut().enumerate().take(shape.lists) {
+        *chosen = survey.chosen(list)?;
+        number += chosen.stores(shape, list).count();
+        carrying += chosen.length;
+        if let Wrong::One { cell, word: IDENT, .. } = chosen.wrong {
+            carrying -= usize::from(shape.is_node(cell) && !in_use(survey.cells[cell][IDENT]));
         }
     }
-    mends.orphans = carrying < survey.used;
-    if mends.orphans {
-        (0..shape.lists).for_each(|list| survey.erase(list, fitting[list]));
+    let orphans = carrying < survey.used;
+    if orphans {
+        (0..shape.lists).for_each(|list| survey.erase(list, chosen[list]));
     }
-    Ok(mends)
+    Ok(Mends { chosen, number, orphans })
 }
 
 /// Wipes the free nodes, up to the allowance: the answer. So many stores were made before: the lists are mended and the orphans cleared, so
@@ -639,10 +653,11 @@ fn wipe(store: &mut [u8], shape: Shape, mut made: usize, allowance: usize) -> u3
 /// Recovers the store that the cells were read from.
 fn recover_by(mut survey: Survey, store: &mut [u8], allowance: usize) -> Result<u32, u32> {
     let shape = survey.shape;
-    let Mends { wrong, len, orphans } = mends(&mut survey)?;
-    let mut made = make(store, wrong[..len].iter().copied(), allowance);
-    if made < len || !(orphans || survey.remains) {
-        return Ok(answer(made, len));
+    let Mends { chosen, number, orphans } = mends(&mut survey)?;
+    let mut made = number.min(allowance);
+    (0..shape.lists).flat_map(|list| chosen[list].stores(shape, list)).take(made).for_each(|s| put(store, s));
+    if made < number || !(orphans || survey.remains) {
+        return Ok(answer(made, number));
     }
     for cell in (shape.lists..shape.cells()).filter(|&cell| orphans && in_use(survey.cells[cell][IDENT])) {
         if made == allowance {

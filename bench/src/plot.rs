@@ -7,11 +7,11 @@ use crate::stores::{shapes, Fill};
 use model::store::Shape;
 use std::fmt::Write;
 
-const WIDTH: f64 = 1200.0;
+const WIDTH: f64 = 1290.0;
 const HEIGHT: f64 = 820.0;
 /// The left and right ends of both panels.
 const LEFT: f64 = 70.0;
-const RIGHT: f64 = 1170.0;
+const RIGHT: f64 = 1260.0;
 
 const INK: &str = "#222";
 const GRID: &str = "#ddd";

@@ -83,7 +83,8 @@ pub fn of_calls(engine: &Engine, sample: &Sample) -> [(&'static str, usize); 8] 
     let several = used(|| (engine.insert_several)(&mut bytes, list, position, start, &sample.record, 65_535));
     let (mut unmarked, cell) = (sample.bytes.clone(), sample.free_cell());
     let mark = used(|| (engine.mark_worn)(&mut unmarked, cell));
-    let found = [sample.bytes.clone(), sample.cut(shape.width + 4), sample.cut(shape.width + 5), sample.faulty()];
+    let cut = [sample.cut(shape.width + 4), sample.cut(shape.width + 5)];
+    let found = [sample.bytes.clone(), sample.faulty(), sample.miscounted()].into_iter().chain(cut);
     let recover = found.map(|mut bytes| used(|| (engine.recover)(&mut bytes, 65_535)));
     [
         ("format", used(|| (engine.format)(&mut bytes, lists, nodes, width))),
@@ -93,6 +94,6 @@ pub fn of_calls(engine: &Engine, sample: &Sample) -> [(&'static str, usize); 8] 
         ("insert_several", several),
         ("delete", delete),
         ("mark_worn", mark),
-        ("recover", recover.into_iter().fold(0, usize::max)),
+        ("recover", recover.fold(0, usize::max)),
     ]
 }

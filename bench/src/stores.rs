@@ -124,4 +124,15 @@ impl Sample {
         }
         bytes
     }
+
+    /// The store with two words wrong in each list: the identifier of its middle member, and the count.
+    pub fn miscounted(&self) -> Vec<u8> {
+        let mut bytes = self.bytes.clone();
+        for (list, members) in self.lists.iter().enumerate() {
+            let middle = self.shape.cell(members[members.len() / 2]);
+            bytes[2 * middle] ^= 0x55;
+            bytes[2 * (self.shape.cell(list) + 3)] ^= 0x55;
+        }
+        bytes
+    }
 }

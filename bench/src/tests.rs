@@ -1,9 +1,10 @@
 //! The plain implementation against the model: the same answers and the same bytes.
 
 use crate::plain;
+use model::alterations::pairs;
 use model::random::Random;
 use model::recovery;
-use model::samples::{remain, wear};
+use model::samples::{all_two_sequences, carriers, every_store, likely, remain, wear, TwoSequences};
 use model::store::{self, store_of, Answer, Shape};
 use std::collections::{BTreeMap, BTreeSet};
 
@@ -154,25 +155,26 @@ fn deal(random: &mut Random, shape: Shape) -> Vec<Vec<usize>> {
 fn alter(random: &mut Random, shape: Shape, words: &mut [u16]) {
     let cell = random.below(shape.lists + shape.nodes);
     let i = random.below(if cell < shape.lists { 4 } else { 3 });
-    words[shape.cell(cell) + i] = match (i, random.below(8)) {
-        (_, 0) => random.pick(&[0, 1, 65_535]),
-        (0, 1..=4) => 42_400 + random.below(shape.lists) as u16,
-        (0, _) => 0,
-        _ => random.below(shape.lists + shape.nodes + 1) as u16,
-    };
+    words[shape.cell(cell) + i] = likely(random, shape, i);
 }
 
-/// Gives a member a twin that the back links lead through in its place: two sequences fit the list.
-fn twin(random: &mut Random, shape: Shape, lists: &[Vec<usize>], words: &mut [u16]) {
-    let free = shape.node_cells().find(|&i| words[shape.cell(i)] == 0);
+/// Alters the count of a list and an identifier of it.
+fn miscount(random: &mut Random, shape: Shape, [count, identifier]: [usize; 2], words: &mut [u16]) {
+    words[count] = likely(random, shape, 3);
+    words[identifier] = likely(random, shape, 0);
+}
+
+/// Lets two sequences fit a list, by some of the free nodes. The count is the length of one of them, or any.
+fn double(random: &mut Random, shape: Shape, lists: &[Vec<usize>], words: &mut [u16]) {
     let list = random.below(shape.lists);
-    if let (Some(free), false) = (free, lists[list].is_empty()) {
-        let member = random.pick(&lists[list]);
-        let from = shape.cell(member);
-        let after = usize::from(words[from + 1]);
-        words.copy_within(from..from + 3, shape.cell(free));
-        words[shape.cell(after) + 2] = free as u16;
-    }
+    let free = carriers(words, 0);
+    let others = &free[..random.between(0, free.len().min(3))];
+    let two = TwoSequences::random(random, list, &lists[list], others);
+    two.put(words);
+    words[shape.cell(list) + 3] = match random.below(3) {
+        2 => likely(random, shape, 3),
+        way => two.sequence(way).len() as u16,
+    };
 }
 
 /// Spoils what questions 1 to 4 ask about.
@@ -224,7 +226,7 @@ fn many_stores() {
         let mut words = store_of(shape, &lists, || random.word());
         match turn % 4 {
             0 => (),
-            1 => twin(&mut random, shape, &lists, &mut words),
+            1 => double(&mut random, shape, &lists, &mut words),
             2 => (0..random.between(1, 5)).for_each(|_| alter(&mut random, shape, &mut words)),
             _ => (0..40).for_each(|_| alter(&mut random, shape, &mut words)),
         }
@@ -264,7 +266,74 @@ fn random_words() {
     }
 }
 
-/// A cut insert or delete, an altered word in the other lists, and recovery. In some stores nodes are worn.
+/// All two sequences of up to four nodes that fit a list, of equal and of different lengths, with each count. The one whose length is the
+/// count is left, if it is one alone; else recovery refuses.
+#[test]
+fn two_sequences() {
+    let shape = Shape::new(2, 5, 1);
+    let mut seen = Seen::default();
+    let mut told = [0; 3];
+    for two in all_two_sequences(1, &[2, 3, 4, 5]) {
+        let mut words = store_of(shape, &[vec![], vec![]], || 0);
+        two.put(&mut words);
+        for count in 0..6 {
+            words[shape.cell(1) + 3] = count;
+            let mut bytes = bytes_of(&words);
+            seen.allowances(&bytes, Call::Recover);
+            let answer = seen.compare(&mut bytes, &Call::Recover(ENOUGH));
+            let mut sequences = vec![two.sequence(0), two.sequence(1)];
+            sequences.retain(|sequence| sequence.len() == usize::from(count));
+            told[sequences.len()] += 1;
+            if let [sequence] = &sequences[..] {
+                let left = store::lists(&words_of(&bytes), shape);
+                assert_eq!(left, Some(vec![vec![], sequence.clone()]), "{two:?}, count {count}");
+            } else {
+                assert_eq!(answer, 12, "{two:?}, count {count}");
+            }
+        }
+    }
+    assert!(told.iter().all(|&n| n > 100), "{told:?}");
+}
+
+/// All stores of few nodes and likely words, records apart: recovered, or refused.
+#[test]
+fn every_small_store() {
+    let mut seen = Seen::default();
+    for (lists, nodes) in [(1, 1), (1, 2), (2, 1)] {
+        every_store(Shape::new(lists, nodes, 1), |words| {
+            seen.compare(&mut bytes_of(words), &Call::Recover(ENOUGH));
+        });
+    }
+    seen.all(&[("recover", &[11, 12, 65_536])]);
+}
+
+/// The count and an identifier altered in every list: recovery puts both back, the identifier first.
+#[test]
+fn count_and_identifier() {
+    let mut random = Random::new(14);
+    let mut seen = Seen::default();
+    let mut most = 0;
+    for turn in 0..4_000 {
+        let shape = shape(&mut random, turn);
+        let lists = deal(&mut random, shape);
+        let words = store_of(shape, &lists, || random.word());
+        let sound = wear(&mut random, words, 0);
+        let mut words = sound.clone();
+        for pairs in pairs(&sound).expect("a sound store") {
+            let pair = random.pick(&pairs);
+            miscount(&mut random, shape, pair, &mut words);
+        }
+        let mut bytes = bytes_of(&words);
+        seen.allowances(&bytes, Call::Recover);
+        let stores = (0..words.len()).filter(|&at| words[at] != sound[at]).count() as u32;
+        assert_eq!(seen.compare(&mut bytes, &Call::Recover(ENOUGH)), 65_536 + stores);
+        assert!(bytes == bytes_of(&sound), "other lists than before: {words:?}");
+        most = most.max(stores);
+    }
+    assert_eq!(most, 16);
+}
+
+/// A cut insert or delete, an altered word in the other lists or their count and an identifier, and recovery. In some stores nodes are worn.
 #[test]
 fn recovery_after_cuts() {
     let mut random = Random::new(5);
@@ -283,12 +352,21 @@ fn recovery_after_cuts() {
             1 => Call::InsertSeveral(list as u16, position, start, vec![7; 6 * shape.width], 3 * allowance),
             _ => Call::Delete(list as u16, position, allowance),
         };
+        let pairs = pairs(&words_of(&bytes)).expect("a sound store");
         seen.compare(&mut bytes, &call);
-        for (other, members) in lists.iter().enumerate().filter(|&(other, _)| other != list) {
-            let cell = [&[other][..], members].concat()[random.below(members.len() + 1)];
-            let at = 2 * shape.cell(cell) + random.below(6);
-            bytes[at] ^= random.word() as u8;
+        let mut words = words_of(&bytes);
+        for (_, pairs) in pairs.iter().enumerate().filter(|&(other, _)| other != list) {
+            let [count, identifier] = random.pick(pairs);
+            match random.below(5) {
+                0 => words[count] = likely(&mut random, shape, 3),
+                1 => miscount(&mut random, shape, [count, identifier], &mut words),
+                _ => {
+                    let i = random.below(3);
+                    words[identifier + i] = likely(&mut random, shape, i);
+                }
+            }
         }
+        let mut bytes = bytes_of(&words);
         seen.allowances(&bytes, Call::Recover);
         assert!(seen.compare(&mut bytes, &Call::Recover(ENOUGH)) >= 65_536, "recovery is refused");
         assert_eq!(seen.compare(&mut bytes, &Call::Check), 0);
@@ -415,15 +493,19 @@ fn older_stores() {
     seen.all(&[("check", &[0, 1, 2, 3, 4, 6]), ("recover", &[1, 2, 3, 4, 11, 65_536, 131_072])]);
 }
 
-/// The largest store with as many stores as recovery can make.
+/// The largest store with as many stores as recovery can make: two in each list, then each node's identifier and record.
 #[test]
 fn most_stores() {
     let shape = Shape::new(8, 2000, 13);
     let mut words = vec![9; shape.size()];
     words[..shape.cell(8)].copy_from_slice(&store_of(shape, &vec![vec![]; 8], || 0)[..shape.cell(8)]);
-    (0..8).for_each(|list| words[shape.cell(list) + list % 4] = 77);
+    for list in 0..8 {
+        words[shape.cell(list) + list % 3] = 77;
+        words[shape.cell(list) + 3] = 77;
+    }
     let mut seen = Seen::default();
-    for allowance in [0, 7, 8, 9, 2007, 2008, 2009, 28_007, 28_008, ENOUGH] {
+    assert_eq!(seen.compare(&mut bytes_of(&words), &Call::Recover(ENOUGH)), 65_536 + 28_016);
+    for allowance in [0, 1, 2, 15, 16, 17, 2015, 2016, 2017, 28_015, 28_016, ENOUGH] {
         let mut bytes = bytes_of(&words);
         seen.compare(&mut bytes, &Call::Recover(allowance));
         seen.compare(&mut bytes, &Call::Recover(ENOUGH));
