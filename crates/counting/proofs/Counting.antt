@@ -26,7 +26,7 @@ use Rattle.courses.proofs.Standing.{Standing, standing-plan, standing-after}
 use Rattle.axle.specs.Interface.{codeOf, byteRecover}
 use Rattle.byte_courses.proofs.ByteCourse.{recover-plan, recover-words}
 use Rattle.counting.specs.Counting.{single, unlinked, emptied, Counting}
-use Rattle.counting.proofs.Decided.{refuses, before}
+use Rattle.counting.proofs.Decided.{refuses, before, several-before}
 use Rattle.counting.proofs.Whole.{comes-back}
 
 -- after any number of its stores a plan is the rest of it
@@ -64,6 +64,7 @@ counting =
       refuses = refuses;
       bound = recover-few;
       before = before;
+      several = several-before;
       later = later;
       whole = comes-back;
       wholeInBytes =

@@ -18,7 +18,7 @@ use Rattle.layout.specs.declared.Layout.{Layout}
 use Rattle.layout.specs.declared.Opened.the-variants as O
 use Rattle.layout.specs.Words.{Node, layoutOf, opened}
 use Rattle.lists.specs.Lists.{asked, Sound}
-use Rattle.recovery.specs.Fits.{wrong, Fits, Chosen, Undecided}
+use Rattle.recovery.specs.Fits.{wrong, Fits, Chosen, Two, Undecided}
 use Rattle.recovery.specs.Plan.{recoverStores, mostStores, recoverPlan, Accepted, differing}
 use Rattle.courses.specs.Course.{both, alter}
 use Rattle.axle.specs.Interface.{codeOf, byteRecover}
@@ -47,6 +47,15 @@ pub record Before (w : List ℕ) (ps : List Write) : Type 0 where
   pub only : (k : ℕ) → k < layout .lists → (r : List ℕ) → FitsBefore layout w k r → r ≡ sequence k
   pub stores : ps ≡ recoverStores layout w sequence
 
+-- A store that it refused with 12 until then: of the first list for which not exactly one sequence fitted, several did.
+pub record SeveralBefore (w : List ℕ) : Type 0 where
+  pub layout : Layout
+  pub opens : opened w ≡ O.Open layout
+  pub list : ℕ
+  pub below : list < layout .lists
+  pub earlier : (j : ℕ) → j < list → (s : List ℕ) × FitsBefore layout w j s × ((r : List ℕ) → FitsBefore layout w j r → r ≡ s)
+  pub two : Two (FitsBefore layout w list)
+
 -- A store of one list and one node, its member; and the same with the header's forward link and the count both 0.
 abbrev pub single : List ℕ
 single = 82 ∷ 66 ∷ 83 ∷ 1 ∷ 1 ∷ 1 ∷ 1 ∷ 0 ∷ 42400 ∷ 1 ∷ 1 ∷ 1 ∷ 42400 ∷ 0 ∷ 0 ∷ 7 ∷ []
@@ -67,8 +76,10 @@ pub record Counting : Type 0 where
   pub refuses : (w : List ℕ) (n : ℕ) → recoverPlan w ≡ refuse n → (opened w ≡ O.Refused n) ⊎ ((l : Layout) × (opened w ≡ O.Open l) × Refused l w n)
   -- "recovery's bound grows by L"
   pub bound : (w : List ℕ) (ps : List Write) → recoverPlan w ≡ stores ps → length ps ≤ mostStores (layoutOf w)
-  -- "After cuts the outcome is what it was": every store that recovery accepted before has the same plan now.
+  -- "After cuts the outcome is what it was": every store that recovery accepted before has the same plan now, and what it refused with 12 it still
+  -- does.
   pub before : (w : List ℕ) (ps : List Write) → Before w ps → recoverPlan w ≡ stores ps
+  pub several : (w : List ℕ) → SeveralBefore w → recoverPlan w ≡ refuse 12
   -- Wherever a run is cut, between the other word and the count too, a later one makes the rest of its stores.
   pub later : (w : List ℕ) (ps : List Write) → recoverPlan w ≡ stores ps → (m : ℕ) → recoverPlan (applied ps m w) ≡ stores (drop m ps)
   -- "a list with its count and one identifier altered comes back whole": list k, the header's identifier or a member's becomes v, the count n.
