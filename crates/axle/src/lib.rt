@@ -146,7 +146,8 @@ pub extern "C" fn axle_mark_worn(store: &mut [u8], cell: u16) -> u32
     code(byte_calls::mark_worn(store, cell))
 }
 
-// Recovers the store by correction: the words that a cut insert or delete, or one altered word in a list, left wrong.
+// Recovers the store by correction: the words that a cut insert or delete left wrong, or one altered word in a list, or its count and an
+// identifier.
 #[no_mangle]
 pub extern "C" fn axle_recover(store: &mut [u8], allowance: u16) -> u32
     ensures answer { λ r. ⌜ r ≡ codeOf (answerOf (byteRecover (now (store .entry))) allowance) ⌝ }

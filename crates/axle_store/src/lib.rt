@@ -217,7 +217,8 @@ pub fn mark_worn(words: &mut [u16], cell: u16) -> Answer
     }
 }
 
-// Recovers the store by correction: the words that a cut insert or delete, or one altered word in a list, left wrong.
+// Recovers the store by correction: the words that a cut insert or delete left wrong, or one altered word in a list, or its count and an
+// identifier.
 pub fn recover(words: &mut [u16], allowance: u16) -> Answer
     ensures answer { λ r. ⌜ r ≡ answerOf (recoverPlan (now (words .entry))) allowance ⌝ }
     ensures words { λ _. ⌜ now (words .exit) ≡ wordsAfter (recoverPlan (now (words .entry))) allowance (now (words .entry)) ⌝ }

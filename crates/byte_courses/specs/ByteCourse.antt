@@ -21,7 +21,8 @@ inWords (insert k p c rec) = insert k p c (recordWords rec)
 inWords (several k p c rec) = several k p c (recordWords rec)
 inWords (delete k p) = delete k p
 
--- the found store: the bytes that the call left, "in each list but the one it names, at most one word .. altered, to any value"
+-- the found store: the bytes that the call left, "in each list but the one it names, at most one word .. altered, to any value",
+-- or its count and one identifier
 pub record Found (b : List ℕ) (e : Edit) (m : ℕ) (alts : ℕ → Alteration) (y : List ℕ) : Type 0 where
   pub even : length y % 2 ≡ 0
   pub words

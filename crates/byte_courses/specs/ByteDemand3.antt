@@ -39,7 +39,7 @@ ByteDemand3 =
     -- "One insert or delete runs on it, with any arguments and any allowance; refused, it stores nothing.
     → (e : Edit) (m : ℕ)
     -- Then, in each list but the one it names, at most one word is altered, to any value: one of the header's four, or a member's
-    -- identifier, forward or back. That is the found store.
+    -- identifier, forward or back." Or two are: "its count and one identifier". "That is the found store.
     → (alts : ℕ → Alteration) → AllowedBut (named (inWords e)) (layoutOf (wordsIn b) .lists) (s .lists .sequence) alts
     → (y : List ℕ) → Found b e m alts y
     -- Recover calls follow, any number from none up, each with any allowance, whole runs among them, and last one with an allowance not

@@ -57,9 +57,9 @@ Demanded y ms last z r =
     -- "One insert or delete runs on it, with any arguments and any allowance; refused, it stores nothing.
     → (e : Edit) (m : ℕ)
     -- Then, in each list but the one it names, at most one word is altered, to any value: one of the header's four, or a member's
-    -- identifier, forward or back." Or the count and one identifier are. "
+    -- identifier, forward or back." Or two are: "its count and one identifier".
     → (alts : ℕ → Alteration) → AllowedBut (named e) (layoutOf w .lists) (s .lists .sequence) alts
-    -- That is the found store.
+    -- "That is the found store.
     → y ≡ found w e m alts
     -- Recover calls follow, any number from none up, each with any allowance, whole runs among them, and last one with an allowance not
     -- below the number of stores it needs."

@@ -29,7 +29,7 @@ pub record SameButRecords (w w′ : List ℕ) : Type 0 where
   pub size : length w′ ≡ length w
   pub agree : (a : ℕ) → (RecordWord (layoutOf w) w a → ⊥) → getD w′ a 0 ≡ getD w a 0
 
--- a node in no sequence that fits, and not worn
+-- a node in no sequence that is chosen, and not worn
 pub record Outside (w : List ℕ) (c : ℕ) : Type 0 where
   pub node : Node (layoutOf w) c
   pub out : c ∈ joined (fittingOf (layoutOf w) w) (layoutOf w .lists) → ⊥

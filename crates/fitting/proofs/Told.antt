@@ -442,7 +442,7 @@ module _ (l : Layout) (w : List ℕ) (k : ℕ) (h : k < l .lists) where
       subst (λ (y : Walk). Told l w k (choose (walkSum l w k Ahead) y (countIn l w k)))
       (sym (ap₂ walkWith (turned-faults (viewOf l w) forwardWord backWord k t) (sym (length-reverse t)))) told-by
 
--- the members by the walk that was chosen are those of the sequence that fits
+-- the members by the walk that was chosen are those of the sequence that is
 pub members-told
     : (l : Layout) (w : List ℕ) (k : ℕ) → k < l .lists → numberOf (fitIn l (viewOf l w) k (countIn l w k)) ≡ 0 → (c : ℕ)
     → (c ∈ membersBy l (viewOf l w) (isBackward (fitIn l (viewOf l w) k (countIn l w k))) k → c ∈ fittingOf l w k)

@@ -1,4 +1,4 @@
--- Who is left over. The members of the sequences that fit are different nodes. If all of them carry an identifier that says in use and
+-- Who is left over. The members of the sequences that are chosen are different nodes. If all of them carry an identifier that says in use and
 -- they are as many as the nodes that do, no other node does: recovery clears nothing, and the nodes to be wiped are the free ones.
 use Prim.Native.Nat.{ℕ, zero, suc, _+_, _<_, _≤_}
 use mathlib.Core.Path.{_≡_, refl, ap, ap₂, _∙_, sym}

@@ -33,7 +33,7 @@ accepted-number l w s a k zero h = refl
 accepted-number l w s a k (suc n) h =
     ap (λ (f : Fit). fitNumber f (refusalFrom l w (suc k) n)) (accepted-fit l w s a k (omega arith)) ∙ accepted-number l w s a (suc k) n (omega arith)
 
--- and the other way round: each list has its only sequence
+-- and the other way round: each list has its sequence
 all-only : (l : Layout) (w : List ℕ) (k n : ℕ) → refusalFrom l w k n ≡ 0 → (j : ℕ) → k ≤ j → j < k + n → fitOf l w j ≡ only (fittingOf l w j)
 unfolding refusalFrom
 all-only l w k zero e j p q = absurd (omega arith)

@@ -1,4 +1,4 @@
--- Recovery keeps the worn nodes that are in no sequence that fits.
+-- Recovery keeps the worn nodes that are in no sequence that is chosen.
 use Prim.Native.Nat.{ℕ}
 use mathlib.Core.Path.{_≡_, refl, ap, _∙_, sym, subst}
 use mathlib.Core.List.{List, [], _∷_}

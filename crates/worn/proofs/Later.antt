@@ -1,4 +1,4 @@
--- A mark is for good. After any calls the words are such that every list has exactly one sequence that fits, and the nodes that were worn are in
+-- A mark is for good. After any calls the words are such that for every list a sequence is chosen, and the nodes that were worn are in
 -- none of these; so none of the stores of a recovery goes to one of them. A call that stores otherwise finds a sound store.
 use Prim.Native.Nat.{ℕ, zero, suc, _<_}
 use mathlib.Core.Path.{_≡_, refl, ap, _∙_, sym, subst}

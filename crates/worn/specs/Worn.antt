@@ -95,7 +95,7 @@ pub record Worn : Type 0 where
   pub inserts : (w : List ℕ) (k p c : ℕ) (words : List ℕ) (m : ℕ) → KeepsWorn (layoutOf w) w (wordsAfter (insertPlan w k p c words) m w)
   pub severals : (w : List ℕ) (k p c : ℕ) (words : List ℕ) (m : ℕ) → KeepsWorn (layoutOf w) w (wordsAfter (severalPlan w k p c words) m w)
   pub deletes : (w : List ℕ) (k p m : ℕ) → KeepsWorn (layoutOf w) w (wordsAfter (deletePlan w k p) m w)
-  -- "recovery lets them be": of whatever words it is given, every such node that is in none of the sequences that fit.
+  -- "recovery lets them be": of whatever words it is given, every such node that is in none of the sequences that are chosen.
   pub recovers : (w : List ℕ) (m i : ℕ) → WornNode w i → (i ∈ joined (fittingOf (layoutOf w) w) (layoutOf w .lists) → ⊥)
       → SameCells (layoutOf w) w (wordsAfter (recoverPlan w) m w) (i ∷ [])
   -- "A new exported call marks a free node with one store, answered done."
