@@ -124,7 +124,7 @@
  *
  * A store left by a version before 1.5 may have remains in its free nodes. Then axle_check answers AXLE_UNSOUND and every call
  * that asks question 6 is refused, until axle_recover has wiped them: it changes nothing else in such a store, whole or
- * cut. Versions 1.4 and 1.5 work on each other's stores; after the older one recover again.
+ * cut. Versions from 1.4 on work on each other's stores; after 1.4 recover again.
  *
  * COST. A call that asks question 6 looks at every node's identifier and at the record of every free node, and goes once
  * through every list. To a position it goes link by link from the nearer end of the list: in min(p + 1, n - p) steps to
