@@ -1,15 +1,14 @@
 -- The statement on counts holds, for the calls on words and from C; and a count and a link altered together can be lost, by calculation.
-use Prim.Native.Nat.{ℕ, _%_, _≤_}
+use Prim.Native.Nat.{ℕ, _≤_}
 use mathlib.Core.Path.{_≡_, refl, ap, _∙_, sym, subst}
 use mathlib.Core.List.{List, [], _∷_}
-use lib.ListN.{length, drop}
+use lib.ListN.{drop}
 use borrow.Author.Tests.{le-ltb}
 use Rattle.sequences.specs.Sequence.{steps, trail, range, filter}
 use Rattle.stores.specs.declared.Answer.the-variants as A
 use Rattle.stores.specs.Stores.{Write, write, run, Plan, stores, applied, inRow, answerOf, wordsAfter}
 use Rattle.stores.proofs.Laws.{applied-all}
 use Rattle.byte_form.specs.Bytes.{wordsIn}
-use Rattle.layout.specs.declared.Layout.{Layout}
 use Rattle.layout.specs.Words.{isNode, checkWords, nodeAt, cellAt, sizeOf, marked, inRange, openedBy, layoutOf}
 use Rattle.layout.proofs.Laws.{opened-open}
 use Rattle.lists.specs.Lists.{asked}
@@ -23,7 +22,7 @@ use Rattle.axle_store.specs.Calls.{checkAnswer}
 use Rattle.axle_store.proofs.Calls.{check-sound}
 use Rattle.courses.proofs.Single.{planned, recover-few}
 use Rattle.courses.proofs.Standing.{Standing, standing-plan, standing-after}
-use Rattle.axle.specs.Interface.{codeOf, byteRecover}
+use Rattle.axle.specs.Interface.{codeOf}
 use Rattle.byte_courses.proofs.ByteCourse.{recover-plan, recover-words}
 use Rattle.counting.specs.Counting.{single, unlinked, emptied, Counting}
 use Rattle.counting.proofs.Decided.{refuses, before, several-before}

@@ -17,7 +17,7 @@ use Rattle.layout.specs.declared.Opened.the-variants as O
 use Rattle.layout.specs.Words.{opened, afterOpen, ask}
 use Rattle.lists.specs.Lists.{asked, othersAsked, countAsked}
 use Rattle.recovery.specs.Fits.{wrong, Fits, Counted, Chosen, Two, Undecided, Fit, none, only, several, fitOf, Says}
-use Rattle.recovery.specs.Plan.{recoverStores, fittingOf, fitNumber, refusalFrom, recoverOf, recoverPlan, Accepted}
+use Rattle.recovery.specs.Plan.{recoverStores, fittingOf, fitNumber, refusalFrom, recoverOf, recoverPlan}
 use Rattle.recovery.proofs.Required.{wrong-length, agrees-wrong, wrong-agrees}
 use Rattle.recovery.proofs.Candidates.{sequence-dec, right-count, decided, chosen-beside, beside-chosen, fit-accepted}
 use Rattle.recovery.proofs.Suffix.{right-unique}

@@ -1,50 +1,34 @@
 -- A list with its count and one identifier altered comes back whole: both words are required as they were, and nothing else was altered.
-use Prim.Native.Nat.{ℕ, zero, suc, _+_, _<_, _≤_}
+use Prim.Native.Nat.{ℕ, _+_, _<_, _≤_}
 use mathlib.Core.Path.{_≡_, refl, ap, _∙_, sym, subst}
-use mathlib.Core.List.{List, [], _∷_, _++_, map, List·Memᴰ, List·Memᴰ·head, List·Memᴰ·tail, Memᴰ·append-left}
+use mathlib.Core.List.{List, _∷_, _++_, map, List·Memᴰ, List·Memᴰ·head, Memᴰ·append-left}
 use mathlib.Core.Logic.{_⊎_, inl, inr, ⊎-elim}
 use native.Mathlib.Decide.{ℕ-discrete}
 use native.Mathlib.Omega.{arith}
-use lib.Dec.{eqb}
 use lib.ListN.{length, getD, set, length-set}
 use lib.Seq.{getD-set-other}
-use borrow.Author.Tests.{eq-eqb, ne-eqb}
 use Rattle.sequences.specs.Sequence.{_∈_}
 use Rattle.sequences.proofs.Members.{all-in}
 use Rattle.stores.specs.declared.Answer.the-variants as A
-use Rattle.stores.specs.Stores.{Write, write, run, Plan, stores, answerOf, wordsAfter}
+use Rattle.stores.specs.Stores.{Write, write, run, Plan, answerOf, wordsAfter}
 use Rattle.stores.proofs.Laws.{run-word, length-run, applied-all, answer-done}
 use Rattle.layout.specs.declared.Layout.{Layout}
 use Rattle.layout.specs.declared.Opened.the-variants as O
-use Rattle.layout.specs.Words.{linkWords, countWord, firstNode, Node, cellAt, identAt, countAt, isWorn, layoutOf, sizeOf, opened}
+use Rattle.layout.specs.Words.{linkWords, countWord, firstNode, cellAt, identAt, countAt, isWorn, layoutOf, opened}
 use Rattle.layout.proofs.Laws.{open-opened}
 use Rattle.layout.proofs.Apart.{cell-behind, words-apart, links-words, words-header}
 use Rattle.lists.specs.Lists.{asked, Agrees, Sound}
 use Rattle.lists.specs.Decide.{viewOf}
 use Rattle.lists.proofs.Same.{ident-word, count-word, same-opened}
-use Rattle.recovery.specs.Fits.{wrong}
 use Rattle.recovery.specs.Plan.{joined, listsAsked, clearsAsked, blanksAsked, wipesAsked, required, recoverStores, recoverPlan, Accepted, differing}
-use Rattle.recovery.proofs.Required.{Right, wrong-in, in-wrong, wrong-agreed}
-use Rattle.recovery.proofs.Differing.{differing-self, differ-none, differ-some}
+use Rattle.recovery.proofs.Required.{Right, wrong-in, wrong-agreed}
+use Rattle.recovery.proofs.Differing.{differing-self, differing-set, differ-none, differ-some}
 use Rattle.recovery.proofs.Joined.{one-joined, ring-out, out-same}
 use Rattle.recovery.proofs.Slots.{asked-word}
 use Rattle.recovery.proofs.Count.{required-once, required-inside, plan-differs}
 use Rattle.recovery.proofs.Whole.{accepted-plan, sound-agrees}
 use Rattle.courses.specs.Course.{both, alter}
 use Rattle.courses.proofs.Altered.{list-accepted}
-
--- one word more makes one difference more at most
-differing-set : (w y : List ℕ) (a v : ℕ) → differing (set w a v) y ≤ suc (differing w y)
-unfolding differing
-differing-set [] y a v = omega arith
-differing-set (c ∷ w) [] zero v = omega arith
-differing-set (c ∷ w) [] (suc a) v = omega arith
-differing-set (c ∷ w) (d ∷ y) zero v = by (ℕ-discrete v d)
-  where
-    by : Dec (v ≡ d) → differing (v ∷ w) (d ∷ y) ≤ suc (differing (c ∷ w) (d ∷ y))
-    by (yes e) = rw (eq-eqb v d e) (omega arith)
-    by (no n) = rw (ne-eqb v d n) (omega arith)
-differing-set (c ∷ w) (d ∷ y) (suc a) v = omega (arith, differing-set w y a v)
 
 module _ (w : List ℕ) (s : Sound w) (k c v n : ℕ) (h : k < layoutOf w .lists) (m : c ∈ (k ∷ s .ordered .lists .sequence k)) where
   abbrev l : Layout

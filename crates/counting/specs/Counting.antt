@@ -12,7 +12,7 @@ use mathlib.Core.Logic.{_⊎_}
 use lib.ListN.{length, drop, set}
 use Rattle.sequences.specs.Sequence.{_∈_, All, Different}
 use Rattle.stores.specs.declared.Answer.the-variants as A
-use Rattle.stores.specs.Stores.{Write, Plan, refuse, stores, applied, answerOf, wordsAfter}
+use Rattle.stores.specs.Stores.{Write, refuse, stores, applied, answerOf, wordsAfter}
 use Rattle.byte_form.specs.Bytes.{wordsIn, bytesAfter}
 use Rattle.layout.specs.declared.Layout.{Layout}
 use Rattle.layout.specs.declared.Opened.the-variants as O

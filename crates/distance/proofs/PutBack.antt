@@ -1,23 +1,20 @@
 -- One altered word is put back: every list still takes its sequence, so what is wrong of the required words is that word alone.
-use Prim.Native.Nat.{ℕ, zero, suc, _+_, _<_, _≤_}
+use Prim.Native.Nat.{ℕ, _<_, _≤_}
 use mathlib.Core.Path.{_≡_, refl, ap, _∙_, sym, subst}
 use mathlib.Core.List.{List, [], _∷_}
-use mathlib.Core.Bool.{Bool, true, false, cond}
 use mathlib.Core.Logic.{_⊎_, inl, inr}
-use native.Mathlib.Decide.{ℕ-discrete}
 use native.Mathlib.Omega.{arith}
-use lib.Dec.{eqb, ltb}
 use lib.ListN.{length, getD, set, length-set}
 use lib.Seq.{set-set, set-getD}
-use borrow.Author.Tests.{eq-eqb, ne-eqb, lt-ltb, le-ltb, ltb-true, ltb-false}
+use borrow.Author.Tests.{le-ltb}
 use Rattle.sequences.specs.Sequence.{_∈_}
 use Rattle.sequences.proofs.Members.{all-in, member?}
 use Rattle.stores.specs.declared.Answer.the-variants as A
 use Rattle.stores.specs.Stores.{Write, write, run, Plan, stores, answerOf, wordsAfter}
 use Rattle.stores.proofs.Laws.{applied-all}
 use Rattle.layout.specs.declared.Layout.{Layout}
-use Rattle.layout.specs.Words.{Node, InRange, cellAt, identAt, layoutOf}
-use Rattle.lists.specs.Lists.{Agrees, SoundLists, Ordered, Sound}
+use Rattle.layout.specs.Words.{Node, identAt, layoutOf}
+use Rattle.lists.specs.Lists.{Agrees, Ordered, Sound}
 use Rattle.lists.proofs.Same.{ident-word, list-same}
 use Rattle.lists.proofs.Unlisted.{given-list}
 use Rattle.recovery.specs.Fits.{wrong}

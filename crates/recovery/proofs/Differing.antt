@@ -24,6 +24,19 @@ differing-step (c ∷ w) [] b v h e n q = absurd (omega arith)
 differing-step (c ∷ w) (d ∷ y) zero v h e n q = rw (ne-eqb c d (λ z. n (z ∙ q)), eq-eqb v d (sym q)) (omega arith)
 differing-step (c ∷ w) (d ∷ y) (suc b) v h e n q = rw (differing-step w y b v (omega arith) (omega arith) n q) (omega arith)
 
+-- one word more makes one difference more at most
+pub differing-set : (w y : List ℕ) (a v : ℕ) → differing (set w a v) y ≤ suc (differing w y)
+unfolding differing
+differing-set [] y a v = omega arith
+differing-set (c ∷ w) [] zero v = omega arith
+differing-set (c ∷ w) [] (suc a) v = omega arith
+differing-set (c ∷ w) (d ∷ y) zero v = by (ℕ-discrete v d)
+  where
+    by : Dec (v ≡ d) → differing (v ∷ w) (d ∷ y) ≤ suc (differing (c ∷ w) (d ∷ y))
+    by (yes e) = rw (eq-eqb v d e) (omega arith)
+    by (no n) = rw (ne-eqb v d n) (omega arith)
+differing-set (c ∷ w) (d ∷ y) (suc a) v = omega (arith, differing-set w y a v)
+
 -- where none is counted, the words are the same
 pub differ-none : (w y : List ℕ) → length y ≡ length w → differing w y ≡ 0 → y ≡ w
 unfolding differing

@@ -1,5 +1,4 @@
 -- `byte_fitting::fit_one` meets its contract. A list that holds fits as it is; else the two walks and the count decide.
-use Prim.Native.Nat.{ℕ}
 use mathlib.Core.Path.{sym, ap, _∙_}
 use borrow.Author.Needs.{needs}
 use Rattle.byte_form.specs.Bytes.{wordsIn}

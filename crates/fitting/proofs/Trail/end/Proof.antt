@@ -1,6 +1,5 @@
 -- `fitting::Trail::end` meets its contract.
 use mathlib.Core.Path.{_≡_, sym, _∙_}
-use mathlib.Core.Bool.{true, false}
 use borrow.Author.Needs.{needs}
 use Rattle.fitting.specs.Fitting.{endFaults}
 use Rattle.fitting.proofs.Trail.end.Statement.{statement}
