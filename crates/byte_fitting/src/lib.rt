@@ -1,5 +1,5 @@
-// Which sequences are chosen for the lists of a store, decided in the lent bytes as they are in lent words: a cell's words are read from its bytes, and
-// all else is the same.
+// Which sequences are chosen for the lists of a store, decided in the lent bytes as they are in lent words: a cell's words are read from
+// its bytes, and all else is the same.
 use fitting::Fits;
 use fitting::Fitted;
 use fitting::Trail;

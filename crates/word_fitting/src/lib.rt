@@ -1,5 +1,6 @@
-// Which sequences are chosen for the lists of a store, decided in the lent words. Lists that hold are told at once, from both ends; others are walked
-// by their forward links, and by their back links if that does not decide. Two lists are walked in one loop: neither waits for the other.
+// Which sequences are chosen for the lists of a store, decided in the lent words. Lists that hold are told at once, from both ends; others
+// are walked by their forward links, and by their back links if that does not decide. Two lists are walked in one loop: neither waits for
+// the other.
 use fitting::Fits;
 use fitting::Fitted;
 use fitting::Trail;
