@@ -21,10 +21,10 @@ use Rattle.requests.specs.Requests.{siteOf}
 use Rattle.requests.specs.Sites.{gapSite}
 use Rattle.requests.proofs.Laws.{look-refused, look-at, site-member}
 use Rattle.requests.proofs.Sites.{member-found, gap-found}
-use Rattle.edits.specs.Edits.{insertWrites, chain, deleteWrites}
+use Rattle.edits.specs.Edits.{insertWrites, chain, deleteWrites, freeFrom}
 use Rattle.edits.specs.Edited.{recordIn}
 use Rattle.edits.proofs.Done.{gap-facts}
-use Rattle.edits.proofs.Gaps.{freeFrom, gaps-looked}
+use Rattle.edits.proofs.Gaps.{gaps-looked}
 use Rattle.axle_store.specs.Calls.{readWords, insertPlan, severalPlan, deletePlan}
 use Rattle.axle_store.proofs.Cases.{insert-refused, insert-at, several-refused, several-at, delete-at}
 use Rattle.axle_store.proofs.Calls.{sound-opened, sound-decided, sound-read}

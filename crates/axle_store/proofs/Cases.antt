@@ -13,8 +13,7 @@ use Rattle.requests.specs.declared.Site.{Site}
 use Rattle.requests.specs.declared.Request.the-variants.{Check, Whole, Member, Gap, Gaps, Mark}
 use Rattle.requests.specs.declared.Looked.the-variants as K
 use Rattle.requests.specs.Requests.{lookOf}
-use Rattle.edits.specs.Edits.{insertWrites, chain, deleteWrites, markWrites}
-use Rattle.edits.proofs.Gaps.{freeFrom}
+use Rattle.edits.specs.Edits.{insertWrites, chain, deleteWrites, markWrites, freeFrom}
 use Rattle.recovery.specs.Plan.{recoverOf, recoverPlan}
 use Rattle.axle_store.specs.declared.Formatted.the-variants as F
 use Rattle.axle_store.specs.declared.Checked.the-variants as C

@@ -2,6 +2,7 @@
 // all else is the same.
 use layout::Layout;
 use layout::Opened;
+use requests::Ends;
 use requests::Free;
 use requests::Looked;
 use requests::Request;
@@ -15,7 +16,7 @@ ghost use Rattle.byte_form.specs.Bytes.{wordsIn};
 ghost use Rattle.layout.specs.Words.{headWords, Laid, Node, openedBy, opened, wornIdent};
 ghost use Rattle.lists.specs.Decide.{viewOf, sequenceOf, HeldList};
 ghost use Rattle.spans.specs.Spans.{Gridded};
-ghost use Rattle.requests.specs.Requests.{around, firstFree, memberAt, freeGap, gapAt, gapsAt, markAt, siteOf, lookOf, foundUnworn, sitedUnworn, lookedUnworn};
+ghost use Rattle.requests.specs.Requests.{around, nth, freeCells, memberAt, freeGap, gapAt, gapsAt, endsAt, markAt, siteOf, lookOf, foundUnworn, endsUnworn, sitedUnworn, lookedUnworn};
 ghost use Rattle.requests.specs.Sites.{gapSite, nextSite};
 
 // The first eight words.
@@ -65,18 +66,23 @@ fn member(bytes: &[u8], l: Layout, g: Grid, k: u16, n: u16, p: u16) -> Sited
     })
 }
 
-// The first free one of n nodes: from the starting cell on, and on from the first node after the last. Worn nodes are passed over.
-fn free_cell(bytes: &[u8], l: Layout, g: Grid, start: u16, n: u16) -> Free
+// The free node at place i, counted from 0, of those from the starting cell on, and on from the first node after the last. Worn nodes are
+// passed over.
+fn free_cell(bytes: &[u8], l: Layout, g: Grid, start: u16, i: usize) -> Free
     requires { ⌜ Gridded l g × Laid l (wordsIn (now bytes)) × Node l start ⌝ }
-    ensures found { λ r. ⌜ r ≡ firstFree (viewOf l (wordsIn (now (bytes .entry))) .ident) (around l start n) ⌝ }
+    ensures found { λ r. ⌜ r ≡ nth (freeCells (viewOf l (wordsIn (now (bytes .entry))) .ident) (around l start (l .nodes))) i ⌝ }
     ensures worn { λ r. ⌜ foundUnworn (viewOf l (wordsIn (now (bytes .entry))) .ident) r ⌝ }
 {
     let mut c = start;
-    let mut rest = n;
+    let mut before = i;
+    let mut rest = l.nodes;
     while 0 < rest {
         let ident = byte_walks::node(bytes, l, g, c as usize).ident;
         if Layout::is_free(ident) {
-            return Free::Cell(c);
+            if before == 0 {
+                return Free::Cell(c);
+            }
+            before -= 1;
         }
         c = requests::next_cell(l, c);
         rest -= 1;
@@ -105,7 +111,7 @@ fn free_gap(bytes: &[u8], l: Layout, g: Grid, k: u16, n: u16, p: u16, start: u16
     ensures site { λ r. ⌜ r ≡ freeGap l (viewOf l (wordsIn (now (bytes .entry))) .ident) k p start (sequenceOf l (wordsIn (now (bytes .entry))) k) ⌝ }
     ensures worn { λ r. ⌜ sitedUnworn (viewOf l (wordsIn (now (bytes .entry))) .ident) r ⌝ }
 {
-    match free_cell(bytes, l, g, start, l.nodes) {
+    match free_cell(bytes, l, g, start, 0) {
         Free::Full => Sited::Refused(10),
         Free::Cell(cell) => Sited::At(gap_site(bytes, l, g, k, n, p, cell)),
     }
@@ -124,21 +130,38 @@ fn gap(bytes: &[u8], l: Layout, g: Grid, k: u16, n: u16, p: u16, start: u16, siz
     free_gap(bytes, l, g, k, n, p, start)
 }
 
-// The same for several records, of so many words in all: question 10 is then of the number of free nodes.
+// Questions 7 to 10 of several records, of so many words in all, and the first and the last of the free cells that they get. The search for
+// the last goes on from the first, so both are one turn.
+pub fn ends(bytes: &[u8], l: Layout, n: u16, p: u16, start: u16, size: usize) -> Ends
+    requires { ⌜ Laid l (wordsIn (now bytes)) ⌝ }
+    ensures cells { λ r. ⌜ r ≡ endsAt l (viewOf l (wordsIn (now (bytes .entry))) .ident) n p start size ⌝ }
+    ensures worn { λ r. ⌜ endsUnworn (viewOf l (wordsIn (now (bytes .entry))) .ident) r ⌝ }
+{
+    let refusal = requests::gaps_number(l, n, p, start, size);
+    if refusal != 0 {
+        return Ends::Refused(refusal);
+    }
+    let g = Grid::of(l);
+    let Free::Cell(first) = free_cell(bytes, l, g, start, 0) else {
+        return Ends::Refused(10);
+    };
+    let width = l.width as usize;
+    let Free::Cell(last) = free_cell(bytes, l, g, first, size / width - 1) else {
+        return Ends::Refused(10);
+    };
+    Ends::Cells(first, last)
+}
+
+// The gap of list k, which has n members, at position p, and free cells for several records, of so many words in all.
 fn gaps(bytes: &[u8], l: Layout, g: Grid, k: u16, n: u16, p: u16, start: u16, size: usize) -> Sited
     requires { ⌜ Gridded l g × Laid l (wordsIn (now bytes)) × HeldList l (viewOf l (wordsIn (now bytes))) k n ⌝ }
     ensures site { λ r. ⌜ r ≡ gapsAt l (viewOf l (wordsIn (now (bytes .entry))) .ident) k p start size (sequenceOf l (wordsIn (now (bytes .entry))) k) ⌝ }
     ensures worn { λ r. ⌜ sitedUnworn (viewOf l (wordsIn (now (bytes .entry))) .ident) r ⌝ }
 {
-    let refusal = requests::gaps_number(l, n, p, start, size);
-    if refusal != 0 {
-        return Sited::Refused(refusal);
+    match ends(bytes, l, n, p, start, size) {
+        Ends::Refused(r) => Sited::Refused(r),
+        Ends::Cells(first, _) => Sited::At(gap_site(bytes, l, g, k, n, p, first)),
     }
-    let free = byte_walks::free_nodes(bytes, l, g) as usize;
-    if free < size / l.width as usize {
-        return Sited::Refused(10);
-    }
-    free_gap(bytes, l, g, k, n, p, start)
 }
 
 // The site of the next of several records, behind the one just inserted at site t. The search goes on behind the cell just used, so all
@@ -150,7 +173,7 @@ pub fn next_site(bytes: &[u8], l: Layout, t: Site) -> Site
 {
     let g = Grid::of(l);
     let from = requests::next_cell(l, t.cell);
-    match free_cell(bytes, l, g, from, l.nodes) {
+    match free_cell(bytes, l, g, from, 0) {
         Free::Full => t,
         Free::Cell(cell) => Site {
             before: t.cell,

@@ -14,12 +14,11 @@ use Rattle.requests.specs.declared.Site.{Site}
 use Rattle.requests.specs.declared.Looked.{Looked}
 use Rattle.requests.specs.declared.Looked.the-variants as K
 use Rattle.requests.specs.declared.Request.the-variants.{Member, Gap, Gaps}
-use Rattle.requests.specs.Requests.{around, lookOf}
+use Rattle.requests.specs.Requests.{around, lookOf, FirstFree}
 use Rattle.requests.proofs.Turn.{around-nodes}
-use Rattle.edits.specs.Edits.{insertWrites, chain, deleteWrites}
-use Rattle.edits.specs.Edited.{FirstFree}
+use Rattle.edits.specs.Edits.{insertWrites, chain, deleteWrites, freeFrom}
 use Rattle.edits.proofs.Done.{gap-facts, member-facts, its-layout, its-site, its-sequence}
-use Rattle.edits.proofs.Gaps.{freeFrom, gaps-looked, gaps-position, gaps-cells, gaps-number, gaps-words, gaps-chain}
+use Rattle.edits.proofs.Gaps.{gaps-looked, gaps-position, gaps-cells, gaps-number, gaps-words, gaps-chain}
 use Rattle.axle_store.proofs.Cases.{insert-refused, insert-at, several-refused, several-at, delete-refused, delete-at}
 use Rattle.courses.specs.Course.{Edit, insert, several, delete, named, editPlan, due, dueOfSeveral, allStores}
 use Rattle.courses.specs.Left.{gapOf, memberOf, Left, nothing, inserts, insertsAll, deletes}

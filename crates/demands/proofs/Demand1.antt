@@ -30,10 +30,10 @@ use Rattle.requests.specs.declared.Request.the-variants.{Check, Whole, Member, 
 use Rattle.requests.specs.declared.Looked.{Looked}
 use Rattle.requests.specs.declared.Looked.the-variants as K
 use Rattle.requests.specs.Requests.{around, firstFree, withFree, freeCells, memberAt, gapAt, gapsAt, siteIn, siteOf, withSite, lookOf, withLook}
-use Rattle.edits.specs.Edits.{insertWrites, chain, deleteWrites, markWrites}
+use Rattle.edits.specs.Edits.{insertWrites, chain, deleteWrites, markWrites, freeFrom}
 use Rattle.edits.proofs.Inside.{insert-inside, delete-inside}
 use Rattle.edits.proofs.Done.{looked}
-use Rattle.edits.proofs.Gaps.{freeFrom, gaps-looked, gaps-chain, gaps-inside}
+use Rattle.edits.proofs.Gaps.{gaps-looked, gaps-chain, gaps-inside}
 use Rattle.recovery.specs.Fits.{Fit, none, only, several, fitOf}
 use Rattle.recovery.specs.Plan.{recoverStores, fittingOf, fitNumber, refusalFrom, recoverOf, recoverPlan}
 use Rattle.recovery.proofs.Whole.{number-accepted, stores-inside}

@@ -31,15 +31,15 @@ use Rattle.requests.specs.declared.Request.the-variants.{Member, Gap, Gaps}
 use Rattle.requests.specs.Requests.{around, firstFree, freeCells, memberAt, gapAt, gapsAt, siteIn, siteOf, lookOf}
 use Rattle.requests.proofs.Laws.{look-refused, look-at}
 use Rattle.requests.proofs.Turn.{around-all, free-taken}
-use Rattle.edits.specs.Edits.{insertWrites, chainAt, deleteLinks, deleteWrites}
+use Rattle.edits.specs.Edits.{insertWrites, chainAt, deleteLinks, deleteWrites, freeFrom}
 use Rattle.edits.specs.Edited.{insertAt, spliceAt, deleteAt, replaced, FreeNodes, recordIn, recordsOf, Edited}
 use Rattle.edits.proofs.Writes.{record-same}
 use Rattle.edits.proofs.Edited.{replaced-own, replaced-other, in-splice}
-use Rattle.edits.proofs.Free.{none-free}
+use Rattle.requests.proofs.Search.{none-free}
 use Rattle.edits.proofs.Delete.{delete-member}
 use Rattle.edits.proofs.Done.{gap-facts, member-facts, insert-done, delete-done, insert-full}
 use Rattle.edits.proofs.Several.{insert-length, chain-length, several-inserted}
-use Rattle.edits.proofs.Gaps.{freeFrom, gaps-looked, free-most, gaps-full, gaps-position, gaps-cells, gaps-number, gaps-words, gaps-chain}
+use Rattle.edits.proofs.Gaps.{gaps-looked, free-most, gaps-full, gaps-position, gaps-cells, gaps-number, gaps-words, gaps-chain}
 use Rattle.axle_store.specs.declared.Formatted.the-variants as F
 use Rattle.axle_store.specs.declared.Counted.the-variants as L
 use Rattle.axle_store.specs.Answers.{formattedNumber}

@@ -9,11 +9,11 @@ use Rattle.layout.specs.Words.{Node, sizeOf, layoutOf, opened}
 use Rattle.layout.proofs.Laws.{opened-open}
 use Rattle.lists.specs.Lists.{SoundLists, Wiped}
 use Rattle.lists.specs.Decide.{viewOf}
-use Rattle.requests.specs.Requests.{nextCell, around, freeCells}
+use Rattle.requests.specs.Requests.{nextCell, around, freeCells, FirstFree}
 use Rattle.requests.proofs.Turn.{free-first}
 use Rattle.edits.specs.Edits.{chain, chainAt}
-use Rattle.edits.specs.Edited.{FirstFree, FreeNodes, recordsOf}
-use Rattle.edits.proofs.Free.{first-free}
+use Rattle.edits.specs.Edited.{FreeNodes, recordsOf}
+use Rattle.requests.proofs.Search.{first-free}
 use Rattle.edits.proofs.Several as S
 use Rattle.edits.proofs.OneByOne as E
 use Rattle.axle_store.proofs.Cases.{insert-at}

@@ -33,10 +33,10 @@ use Rattle.requests.specs.declared.Looked.{Looked}
 use Rattle.requests.specs.declared.Looked.the-variants as K
 use Rattle.requests.specs.Requests.{around, freeCells, siteIn, siteOf, withSite, lookOf}
 use Rattle.requests.proofs.Laws.{site-same}
-use Rattle.edits.specs.Edits.{insertLinks, insertWrites, chain}
+use Rattle.edits.specs.Edits.{insertLinks, insertWrites, chain, freeFrom}
 use Rattle.edits.proofs.Writes.{record-word}
 use Rattle.edits.proofs.Done.{looked}
-use Rattle.edits.proofs.Gaps.{freeFrom, gaps-looked, gaps-cells, gaps-words}
+use Rattle.edits.proofs.Gaps.{gaps-looked, gaps-cells, gaps-words}
 use Rattle.recovery.specs.Fits.{wrong, backwardOf, fewWrong, same, hasCount, fitting, fitOf}
 use Rattle.recovery.specs.Plan.{joined, outOf, nodesOut, listsAsked, clearsAsked, blanksAsked, required, recoverStores, onlyOf, fittingOf, fitNumber, refusalFrom, recoverOf, recoverPlan}
 use Rattle.recovery.proofs.Slots.{Value, ident, forward, back, count, slot}

@@ -15,8 +15,8 @@ use Rattle.layout.specs.declared.Layout.{Layout}
 use Rattle.layout.specs.Words.{tailWords, Node, ask, identAt, layoutOf}
 use Rattle.lists.specs.Lists.{Sound, Blank, SameCells}
 use Rattle.lists.specs.Decide.{viewOf}
-use Rattle.requests.specs.Requests.{nextCell, around, freeCells}
-use Rattle.edits.specs.Edited.{insertAt, spliceAt, deleteAt, replaced, FirstFree, FreeNodes, recordIn, recordsOf}
+use Rattle.requests.specs.Requests.{nextCell, around, freeCells, FirstFree}
+use Rattle.edits.specs.Edited.{insertAt, spliceAt, deleteAt, replaced, FreeNodes, recordIn, recordsOf}
 use Rattle.axle_store.specs.declared.Formatted.the-variants as F
 use Rattle.axle_store.specs.declared.Checked.the-variants as C
 use Rattle.axle_store.specs.declared.Counted.the-variants as L

@@ -31,11 +31,11 @@ use Rattle.requests.specs.declared.Sited.the-variants.{At, Refused}
 use Rattle.requests.specs.declared.Looked.the-variants as K
 use Rattle.requests.specs.declared.Request.{Request}
 use Rattle.requests.specs.declared.Request.the-variants.{Member, Gap, Mark}
-use Rattle.requests.specs.Requests.{around, firstFree, withFree, memberAt, gapAt, siteIn, siteOf, withSite, lookOf}
+use Rattle.requests.specs.Requests.{around, firstFree, withFree, memberAt, gapAt, siteIn, siteOf, withSite, lookOf, FirstFree}
 use Rattle.requests.proofs.Turn.{around-all, around-nodes}
 use Rattle.edits.specs.Edits.{insertLinks, insertWrites, deleteLinks, deleteWrites}
-use Rattle.edits.specs.Edited.{insertAt, deleteAt, replaced, FirstFree, recordIn, Edited, Inserted, Deleted}
-use Rattle.edits.proofs.Free.{first-free, none-free}
+use Rattle.edits.specs.Edited.{insertAt, deleteAt, replaced, recordIn, Edited, Inserted, Deleted}
+use Rattle.requests.proofs.Search.{first-free, none-free}
 use Rattle.edits.proofs.Insert.{insert-lists, insert-wiped, insert-other, insert-given, insert-records}
 use Rattle.edits.proofs.Delete.{delete-lists, delete-wiped, delete-other, delete-free, delete-blank, delete-records}
 

@@ -29,17 +29,13 @@ use Rattle.requests.specs.Requests.{around, firstFree, withFree, freeCells, fre
 use Rattle.requests.specs.Sites.{gapSite}
 use Rattle.requests.proofs.Sites.{GapsFacts, gaps-facts}
 use Rattle.requests.proofs.Turn.{around-all, in-free, free-taken}
-use Rattle.edits.specs.Edits.{insertWrites, chain, chainAt, Placed}
+use Rattle.edits.specs.Edits.{insertWrites, chain, chainAt, Placed, freeFrom}
 use Rattle.edits.specs.Edited.{FreeNodes}
-use Rattle.edits.proofs.Free.{none-free}
+use Rattle.requests.proofs.Search.{none-free}
 use Rattle.edits.proofs.Done.{yes-at, no-at}
 use Rattle.edits.proofs.Inside.{insert-inside}
 use Rattle.edits.proofs.Several.{first-words, other-words, chain-few}
 use Rattle.edits.proofs.OneByOne.{turn-free}
-
--- the first r free cells of a turn from cell c on
-abbrev pub freeFrom : Layout → List ℕ → ℕ → ℕ → List ℕ
-freeFrom l w c r = take r (freeCells (viewOf l w .ident) (around l c (l .nodes)))
 
 -- a site: questions 5 to 10 are answered yes
 pub record GapsLooked (l : Layout) (w : List ℕ) (k p c m : ℕ) (t : Site) : Type 0 where

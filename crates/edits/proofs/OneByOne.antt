@@ -34,7 +34,7 @@ use Rattle.requests.proofs.Turn.{around-nodes, around-different, free-in, free-
 use Rattle.edits.specs.Edits.{insertWrites, chain}
 use Rattle.edits.specs.Edited.{FreeNodes}
 use Rattle.edits.proofs.Writes.{insert-spares, insert-ident}
-use Rattle.edits.proofs.Free.{free-behind}
+use Rattle.requests.proofs.Search.{free-behind}
 use Rattle.edits.proofs.Several as S
 
 -- the free cells that a turn meets are different free nodes, and so are the first of them

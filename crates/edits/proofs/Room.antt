@@ -26,7 +26,7 @@ use Rattle.requests.proofs.Turn.{around-nodes, free-first, free-found}
 use Rattle.edits.specs.Edits.{insertWrites, chain, chainFrom, Room}
 use Rattle.edits.specs.Edited.{FreeNodes}
 use Rattle.edits.proofs.Done.{looked}
-use Rattle.edits.proofs.Free.{free-from}
+use Rattle.requests.proofs.Search.{free-from}
 use Rattle.edits.proofs.Several.{chain-few}
 use Rattle.edits.proofs.OneByOne as O
 use Rattle.edits.proofs.Gaps.{GapsLooked, gaps-looked, gaps-cells, gaps-number, gaps-position}

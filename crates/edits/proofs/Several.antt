@@ -5,7 +5,7 @@ use mathlib.Core.Path.{_≡_, refl, ap, ap₂, fun-ext, _∙_, sym, subst}
 use mathlib.Core.List.{List, [], _∷_, _++_, map, List·Memᴰ·head, List·Memᴰ·tail}
 use native.Mathlib.Decide.{ℕ-discrete}
 use native.Mathlib.Omega.{arith}
-use native.Mathlib.Nat.{zero-mul, suc-mul}
+use native.Mathlib.Nat.{zero-mul, suc-mul, mul-le-mul}
 use native.Mathlib.Numerals.{add-one}
 use lib.ListN.{length, getD, take, drop, length-append, length-drop, take-append-drop}
 use lib.Seq.{length-take-le, take-take}
@@ -14,14 +14,14 @@ use Rattle.sequences.proofs.Members.{all-in, in-all, all-append, different-appe
 use Rattle.stores.specs.Stores.{Write, run, inRow}
 use Rattle.stores.proofs.Laws.{run-append, run-out, length-run, length-row}
 use Rattle.layout.specs.declared.Layout.{Layout}
-use Rattle.layout.specs.Words.{headWords, tailWords, Node, layoutOf, sizeOf, identAt, recordAt}
+use Rattle.layout.specs.Words.{headWords, tailWords, InRange, Node, layoutOf, sizeOf, identAt, recordAt}
 use Rattle.layout.proofs.Laws.{tail-width}
 use Rattle.lists.specs.Lists.{Sound, SoundLists, Wiped, SameCells}
 use Rattle.lists.proofs.Unique.{nodes-few}
 use Rattle.lists.proofs.Same.{same-layout, same-sound}
 use Rattle.requests.specs.declared.Site.{Site}
 use Rattle.requests.specs.Sites.{gapSite}
-use Rattle.edits.specs.Edits.{insertLinks, insertWrites, chain, chainAt}
+use Rattle.edits.specs.Edits.{insertLinks, insertWrites, insertStores, chain, chainAt}
 use Rattle.edits.specs.Edited.{insertAt, spliceAt, replaced, recordIn, recordsOf, FreeNodes, InsertedAll}
 use Rattle.edits.proofs.Edited.{replaced-own, replaced-other}
 use Rattle.edits.proofs.Insert as I
@@ -43,7 +43,7 @@ other-words l n words h = omega (arith, suc-mul n (l .width), length-drop (l .wi
 
 pub chain-length
     : (l : Layout) (k a b n : ℕ) (cells words : List ℕ) → length cells * l .width ≤ length words
-    → length (chain l k a b n cells words) ≡ length cells * (tailWords l + 6)
+    → length (chain l k a b n cells words) ≡ length cells * insertStores l
 unfolding chain
 chain-length l k a b n [] words h = sym (zero-mul (tailWords l + 6))
 chain-length l k a b n (c ∷ cs) words h =
@@ -56,6 +56,13 @@ chain-length l k a b n (c ∷ cs) words h =
       chain-length l k c b (n + 1) cs (drop (l .width) words) (other-words l (length cs) words h),
       suc-mul (length cs) (tailWords l + 6),
     )
+
+-- no more than sixteen bits hold
+pub stores-few : (l : Layout) → InRange l → (r : ℕ) → r ≤ l .nodes → r * insertStores l ≤ 38000
+stores-few l i r h =
+    let a : r ≤ 2000 = omega (arith, i .nodes) in
+    let b : insertStores l ≤ 19 = omega (arith, i .tail) in
+    mul-le-mul a b
 
 -- the first cell and then the others, in plain sequences
 pub splice-first : (p c : ℕ) (cs s : List ℕ) → p ≤ length s → spliceAt (p + 1) cs (insertAt p c s) ≡ spliceAt p (c ∷ cs) s

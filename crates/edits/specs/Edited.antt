@@ -25,14 +25,6 @@ deleteAt p s = take p s ++ drop (p + 1) s
 unfoldable pub replaced : (ℕ → List ℕ) → ℕ → List ℕ → ℕ → List ℕ
 replaced sequence k s j = cond (eqb j k) s (sequence j)
 
--- "the first free cell met": i has identifier 0, and those met before it have not
-pub record FirstFree (ident : ℕ → ℕ) (cells : List ℕ) (i : ℕ) : Type 0 where
-  pub passed : List ℕ
-  pub rest : List ℕ
-  pub order : cells ≡ passed ++ i ∷ rest
-  pub free : ident i ≡ 0
-  pub taken : All (λ c. ident c ≡ 0 → ⊥) passed
-
 -- different nodes that are free
 pub record FreeNodes (l : Layout) (w cells : List ℕ) : Type 0 where
   pub nodes : All (Node l) cells

@@ -26,6 +26,9 @@ insertLinks l k t =
 unfoldable pub insertWrites : Layout → ℕ → Site → List ℕ → List Write
 insertWrites l k t words = inRow (recordAt l (t .cell)) words ++ insertLinks l k t
 
+abbrev pub insertStores : Layout → ℕ
+insertStores l = tailWords l + 6
+
 -- "The central one is a's forward, number P + 5."
 abbrev pub insertCentral : Layout → ℕ
 insertCentral l = tailWords l + 5
@@ -74,10 +77,13 @@ pub record Placed (l : Layout) (k : ℕ) (t : Site) : Type 0 where
   pub after : t .after < cellCount l
   pub count : t .count ≤ l .nodes
 
+-- the first r free cells met from cell c on
+abbrev pub freeFrom : Layout → List ℕ → ℕ → ℕ → List ℕ
+freeFrom l w c r = take r (freeCells (viewOf l w .ident) (around l c (l .nodes)))
+
 -- the stores of r records from a site on, in its own cell and the next free ones
 abbrev pub chainFrom : Layout → List ℕ → ℕ → Site → ℕ → List ℕ → List Write
-chainFrom l w k t r words =
-    chain l k (t .before) (t .after) (t .count) (take r (freeCells (viewOf l w .ident) (around l (t .cell) (l .nodes)))) words
+chainFrom l w k t r words = chain l k (t .before) (t .after) (t .count) (freeFrom l w (t .cell) r) words
 
 -- a site with room for r records: a gap between cells that are in use, and a cell that is free, with enough others
 pub record Room (l : Layout) (w : List ℕ) (k : ℕ) (t : Site) (r : ℕ) : Type 0 where

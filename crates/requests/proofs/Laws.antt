@@ -1,25 +1,27 @@
 -- Laws of the search for a free node, and of the questions of a request.
 use Prim.Native.Nat.{ℕ, suc, _+_, _-_, _%_, _≤_, _<_}
-use mathlib.Core.Path.{_≡_, refl, sym, ap, _∙_}
+use mathlib.Core.Path.{_≡_, refl, sym, ap, ap₂, _∙_}
 use mathlib.Core.List.{List}
 use mathlib.Core.Bool.{Bool, true, false, _&&_, and-eq-true-iff}
 use native.Mathlib.Omega.{arith}
 use native.Mathlib.Decide.{ℕ-discrete}
 use lib.Dec.{eqb, leb, ltb}
 use borrow.Author.Tests.{lt-ltb, le-ltb, eq-eqb, ne-eqb, leb-true, ltb-true, eqb-true}
+use Rattle.sequences.specs.Sequence.{filter}
 use Rattle.layout.specs.declared.Layout.{Layout}
 use Rattle.layout.specs.declared.Opened.the-variants as O
 use Rattle.layout.specs.Words.{firstNode, cellCount, Node, isNode, InRange, Laid, ask, opened, isFree}
 use Rattle.layout.proofs.Laws.{opened-open, is-node}
 use Rattle.lists.specs.Decide.{View, sequenceIn, soundIn}
 use Rattle.lists.proofs.Stepwise.{sound-count, sound-same}
+use Rattle.requests.specs.declared.Free.{Free}
 use Rattle.requests.specs.declared.Free.the-variants.{Cell, Full}
 use Rattle.requests.specs.declared.Site.{Site}
 use Rattle.requests.specs.declared.Request.{Request}
 use Rattle.requests.specs.declared.Request.the-variants.{Check, Whole, Member, Gap, Gaps, Mark}
 use Rattle.requests.specs.declared.Sited.the-variants.{At, Refused}
 use Rattle.requests.specs.declared.Looked.the-variants as K
-use Rattle.requests.specs.Requests.{nextCell, around, firstFree, memberAt, askGap, askGaps, gapAt, gapsAt, markAt, siteIn, listOf, siteOf, lookOf}
+use Rattle.requests.specs.Requests.{nextCell, around, nth, freeCells, memberAt, askGap, askGaps, gapAt, gapsAt, markAt, siteIn, listOf, siteOf, lookOf}
 
 -- the node after a node: the first after the last, else the next
 module _ (l : Layout) (c : ℕ) where
@@ -39,20 +41,33 @@ module _ (l : Layout) (c : ℕ) where
       by (yes e) = let q = next-wraps e in record { low = omega arith; high = omega arith }
       by (no e) = let q = next-follows e in record { low = omega arith; high = omega arith }
 
--- of n cells from c on, the first free one: c itself, or the first of those after it, or none
-module _ (l : Layout) (ident : ℕ → ℕ) (c n : ℕ) where
-  pub free-here : 0 < n → isFree (ident c) ≡ true → Cell c ≡ firstFree ident (around l c n)
-  unfolding around firstFree
-  free-here h e = let m : n ≡ suc (n - 1) = omega arith in rw (m, e)
+-- of the free ones among n cells from c on, that at place i: c itself, or one of those after it, or none
+module _ (l : Layout) (ident : ℕ → ℕ) (c n i : ℕ) where
+  abbrev found : Free
+  found = nth (freeCells ident (around l c n)) i
 
-  pub free-later : 0 < n → isFree (ident c) ≡ false → firstFree ident (around l c n) ≡ firstFree ident (around l (nextCell l c) (n - 1))
-  unfolding around firstFree
+  abbrev later : ℕ → Free
+  later j = nth (freeCells ident (around l (nextCell l c) (n - 1))) j
+
+  pub free-here : 0 < n → isFree (ident c) ≡ true → i ≡ 0 → Cell c ≡ found
+  unfolding around filter nth
+  free-here h e z = let m : n ≡ suc (n - 1) = omega arith in rw (m, e, z)
+
+  pub free-passed : 0 < n → isFree (ident c) ≡ true → (i ≡ 0 → ⊥) → found ≡ later (i - 1)
+  unfolding around filter nth
+  free-passed h e z =
+      let m : n ≡ suc (n - 1) = omega arith in
+      let j : i ≡ suc (i - 1) = omega arith in
+      ap₂ (λ (x y : ℕ). nth (freeCells ident (around l c x)) y) m j ∙ rw e
+
+  pub free-later : 0 < n → isFree (ident c) ≡ false → found ≡ later i
+  unfolding around filter
   free-later h e =
       let m : n ≡ suc (n - 1) = omega arith in
-      ap (λ (x : ℕ). firstFree ident (around l c x)) m ∙ rw e
+      ap (λ (x : ℕ). nth (freeCells ident (around l c x)) i) m ∙ rw e
 
-  pub free-none : n ≡ 0 → Full ≡ firstFree ident (around l c n)
-  unfolding around firstFree
+  pub free-none : n ≡ 0 → Full ≡ found
+  unfolding around filter nth
   free-none e = rw e
 
 -- three questions in a row: none is answered no, or the first no refuses

@@ -1,10 +1,11 @@
 -- Laws of the sites of a list that holds: what is found at a position.
-use Prim.Native.Nat.{ℕ, _+_, _*_, _/_, _%_, _≤_, _<_}
-use mathlib.Core.Path.{_≡_, refl, ap, _∙_, sym, subst⁻¹}
+use Prim.Native.Nat.{ℕ, _+_, _-_, _*_, _/_, _%_, _≤_, _<_}
+use mathlib.Core.Path.{_≡_, refl, ap, ap₂, _∙_, sym, subst⁻¹}
 use mathlib.Core.List.{List, [], _∷_, _++_}
 use mathlib.Core.Bool.{Bool, true, false, _&&_, and-eq-true-iff}
 use native.Mathlib.Omega.{arith}
-use native.Mathlib.Nat.{div-add-mod'}
+use native.Mathlib.Decide.{ℕ-discrete}
+use native.Mathlib.Nat.{div-add-mod', zero-mul}
 use native.Mathlib.Numerals.{add-one}
 use lib.Dec.{eqb, leb, ltb}
 use lib.ListN.{length, getD}
@@ -16,12 +17,15 @@ use Rattle.lists.specs.Decide.{View, sequenceIn, HeldList}
 use Rattle.lists.proofs.Ring.{held-count, ring-node, ring-inside, ring-end, ring-after, ring-before}
 use Rattle.requests.specs.declared.Free.{Free}
 use Rattle.requests.specs.declared.Free.the-variants.{Cell, Full}
+use Rattle.requests.specs.declared.Ends.{Ends}
+use Rattle.requests.specs.declared.Ends.the-variants as E
 use Rattle.requests.specs.declared.Site.{Site}
 use Rattle.requests.specs.declared.Sited.{Sited}
 use Rattle.requests.specs.declared.Sited.the-variants.{At, Refused}
-use Rattle.requests.specs.Requests.{nextCell, around, firstFree, withFree, freeCells, memberAt, askGap, freeGap, gapAt, askGaps, gapsAt}
+use Rattle.requests.specs.Requests.{nextCell, around, firstFree, withFree, freeCells, nth, endsOf, memberAt, askGap, freeGap, gapAt, askGaps, gapsAt, endsAt, withEnds}
 use Rattle.requests.specs.Sites.{gapSite, nextSite}
-use Rattle.requests.proofs.Laws.{asked-number, gaps-number}
+use Rattle.requests.proofs.Laws.{asked-number, gaps-asked, gaps-number}
+use Rattle.requests.proofs.Search.{nth-cell, nth-none, nth-at, nth-first}
 
 module _ {l : Layout} {v : View} {k n : ℕ} (h : HeldList l v k n) where
   abbrev members : List ℕ
@@ -101,6 +105,97 @@ module _ (l : Layout) (ident : ℕ → ℕ) (k p c : ℕ) (s : List ℕ) where
     pub gaps-open : r ≡ 0 → m / l .width ≤ free → freeGap l ident k p c s ≡ gapsAt l ident k p c m s
     unfolding gapsAt
     gaps-open z g = rw (← h) (sym (gaps-number l n p c m e Refused _ ∙ rw (eq-eqb r 0 z, le-leb (m / l .width) free g)))
+
+-- words that are whole records, and not none, are one record or more
+pub some-records : (m w : ℕ) → 0 < m → m % w ≡ 0 → 0 < m / w
+some-records m w h z = by (ℕ-discrete (m / w) 0)
+  where
+    by : Dec (m / w ≡ 0) → 0 < m / w
+    by (yes q) = absurd (omega (arith, z, div-add-mod' m w, ap (λ (i : ℕ). i * w) q, zero-mul w))
+    by (no q) = omega arith
+
+-- the ends of the free cells for several records, m words in all, into a list of n members
+module _ (l : Layout) (ident : ℕ → ℕ) (n p c m : ℕ) where
+  abbrev met : List ℕ
+  met = freeCells ident (around l c (l .nodes))
+
+  -- refused by question 7, 8 or 9, or by question 10, or not
+  module _ {r : ℕ} (e : r ≡ askGaps l n p c m (λ x. x) 0) where
+    pub ends-shut : (r ≡ 0 → ⊥) → E.Refused r ≡ endsAt l ident n p c m
+    unfolding endsAt
+    ends-shut z = sym (gaps-number l n p c m e E.Refused _ ∙ rw (ne-eqb r 0 z))
+
+    module _ (z : r ≡ 0) where
+      pub ends-some : 0 < m / l .width
+      ends-some = let a = gaps-asked l n p c m e z in some-records m (l .width) (a .2) (a .3)
+
+      few : length met < m / l .width → E.Refused 10 ≡ endsAt l ident n p c m
+      unfolding endsAt
+      few g = sym (gaps-number l n p c m e E.Refused _ ∙ rw (eq-eqb r 0 z, lt-leb (m / l .width) (length met) g))
+
+      pub ends-none : nth met 0 ≡ Full → E.Refused 10 ≡ endsAt l ident n p c m
+      ends-none f = few (omega (arith, ends-some, nth-none met 0 f))
+
+      pub ends-short : nth met (m / l .width - 1) ≡ Full → E.Refused 10 ≡ endsAt l ident n p c m
+      ends-short f = few (omega (arith, ends-some, nth-none met (m / l .width - 1) f))
+
+      pub ends-cells : {a b : ℕ} → nth met 0 ≡ Cell a → nth met (m / l .width - 1) ≡ Cell b → E.Cells a b ≡ endsAt l ident n p c m
+      unfolding endsAt
+      ends-cells {a} {b} f g =
+          let x = nth-cell met 0 a f in
+          let y = nth-cell met (m / l .width - 1) b g in
+          ap₂ E.Cells (x .1) (y .1)
+          ∙ sym (gaps-number l n p c m e E.Refused _ ∙ rw (eq-eqb r 0 z, le-leb (m / l .width) (length met) (omega (arith, y .0))))
+
+  -- what they tell
+  pub ends-facts : {a b : ℕ} → endsAt l ident n p c m ≡ E.Cells a b
+      → (p ≤ n) × Node l c × (0 < m) × (m ≡ m / l .width * l .width) × (m / l .width ≤ length met) × (endsOf met (m / l .width) ≡ E.Cells a b)
+  unfolding endsAt
+  ends-facts {a} {b} e =
+      let f = yes-cells (leb p n) 7 _ e in
+      let g = yes-cells (isNode l c) 8 _ (f .1) in
+      let h = yes-cells (ltb 0 m && eqb (m % l .width) 0) 9 _ (g .1) in
+      let i = yes-cells (leb (m / l .width) (length met)) 10 _ (h .1) in
+      let q = and-eq-true-iff (ltb 0 m) (eqb (m % l .width) 0) .0 (h .0) in (
+        leb-true p n (f .0),
+        is-node l c (g .0),
+        ltb-true 0 m (q .0),
+        whole-records (eqb-true (m % l .width) 0 (q .1)),
+        leb-true (m / l .width) (length met) (i .0),
+        i .1,
+      )
+    where
+      yes-cells : (y : Bool) (k : ℕ) (x : Ends) → ask y (E.Refused k) x ≡ E.Cells a b → (y ≡ true) × (x ≡ E.Cells a b)
+      yes-cells true k x e = (refl, e)
+      yes-cells false k x e = let z : _≡_ {A = ℕ} 0 1 = cc in absurd (omega arith)
+
+      whole-records : m % l .width ≡ 0 → m ≡ m / l .width * l .width
+      whole-records z = omega (arith, z, div-add-mod' m (l .width))
+
+-- the gap for several records is that with the first of their cells
+pub gaps-ends : (l : Layout) (ident : ℕ → ℕ) (k p c m : ℕ) (s : List ℕ)
+    → gapsAt l ident k p c m s ≡ withEnds (endsAt l ident (length s) p c m) Refused (λ a b. At (gapSite k p a s))
+unfolding gapsAt endsAt
+gaps-ends l ident k p c m s =
+    by (leb p (length s)) (isNode l c) (ltb 0 m && eqb (m % l .width) 0) refl (leb (m / l .width) (length cells)) refl
+  where
+    cells : List ℕ
+    cells = freeCells ident (around l c (l .nodes))
+
+    by : (a b d : Bool) → (ltb 0 m && eqb (m % l .width) 0) ≡ d → (f : Bool) → leb (m / l .width) (length cells) ≡ f
+        → ask a (Refused 7) (ask b (Refused 8) (ask d (Refused 9) (ask f (Refused 10) (freeGap l ident k p c s))))
+        ≡ withEnds (ask a (E.Refused 7) (ask b (E.Refused 8) (ask d (E.Refused 9) (ask f (E.Refused 10) (endsOf cells (m / l .width))))))
+        Refused (λ a b. At (gapSite k p a s))
+    by false b d g f h = refl
+    by true false d g f h = refl
+    by true true false g f h = refl
+    by true true true g false h = refl
+    by true true true g true h =
+        let q = and-eq-true-iff (ltb 0 m) (eqb (m % l .width) 0) .0 g in
+        let some = some-records m (l .width) (ltb-true 0 m (q .0)) (eqb-true (m % l .width) 0 (q .1)) in
+        sym
+        (gap-free l ident k p c s
+        (sym (nth-at cells 0 (omega (arith, some, leb-true (m / l .width) (length cells) h))) ∙ nth-first ident (around l c (l .nodes))))
 
 -- the next site: no cell is free, or the first that is
 module _ (l : Layout) (ident : ℕ → ℕ) (t : Site) where

@@ -7,7 +7,8 @@ use native.Mathlib.Omega.{arith}
 use lib.Dec.{leb, ltb, eqb}
 use lib.ListN.{length, getD}
 use borrow.Author.Tests.{ltb-true, eqb-true}
-use Rattle.sequences.proofs.Members.{all-nth}
+use Rattle.sequences.specs.Sequence.{_∈_}
+use Rattle.sequences.proofs.Members.{all-nth, at-in}
 use Rattle.layout.specs.declared.Layout.{Layout}
 use Rattle.layout.specs.declared.Opened.{Opened}
 use Rattle.layout.specs.declared.Opened.the-variants as O
@@ -27,7 +28,9 @@ use Rattle.requests.specs.declared.Request.{Request}
 use Rattle.requests.specs.declared.Request.the-variants.{Check, Whole, Member, Gap, Gaps, Mark}
 use Rattle.requests.specs.declared.Site.{Site}
 use Rattle.requests.specs.Sites.{gapSite, nextSite}
-use Rattle.requests.specs.Requests.{nextCell, around, firstFree, withFree, freeCells, ofList, memberAt, freeGap, gapAt, gapsAt, markAt, siteIn, siteOf, lookOf, withSite, foundUnworn, sitedUnworn, lookedUnworn}
+use Rattle.requests.specs.Requests.{nextCell, around, firstFree, withFree, freeCells, nth, ofList, memberAt, freeGap, gapAt, gapsAt, markAt, siteIn, siteOf, lookOf, withSite, foundUnworn, sitedUnworn, lookedUnworn}
+use Rattle.requests.proofs.Turn.{free-in}
+use Rattle.requests.proofs.Search.{nth-cell, nth-first}
 
 -- an equation, and what is so of its right side
 said {ℓ} : {A : Type ℓ} {x y : A} (P : A → Type 0) → x ≡ y → P y → (x ≡ y) × P x
@@ -36,15 +39,19 @@ said P e h = (e, subst P (sym e) h)
 free-unworn : {x : ℕ} → isFree x ≡ true → x ≡ wornIdent → ⊥
 free-unworn {x} e z = omega (arith, eqb-true x 0 e, z)
 
--- the search
-found-unworn : (ident : ℕ → ℕ) (cells : List ℕ) → foundUnworn ident (firstFree ident cells)
-unfolding firstFree
-found-unworn ident [] = tt
-found-unworn ident (c ∷ cs) = by (isFree (ident c)) refl (found-unworn ident cs)
+-- the search: of the cell at any place, and of the first
+nth-unworn : (ident : ℕ → ℕ) (cells : List ℕ) (i : ℕ) → foundUnworn ident (nth (freeCells ident cells) i)
+nth-unworn ident cells i = by (nth (freeCells ident cells) i) refl
   where
-    by : (b : Bool) → isFree (ident c) ≡ b → foundUnworn ident (firstFree ident cs) → foundUnworn ident (cond b (Cell c) (firstFree ident cs))
-    by true e below = free-unworn e
-    by false e below = below
+    by : (f : Free) → nth (freeCells ident cells) i ≡ f → foundUnworn ident f
+    by Full e = tt
+    by (Cell x) e =
+        let r = nth-cell (freeCells ident cells) i x e in
+        let m = free-in ident cells x (subst (λ (y : ℕ). y ∈ freeCells ident cells) (sym (r .1)) (at-in (freeCells ident cells) i (r .0))) in
+        λ z. omega (arith, m .1, z)
+
+found-unworn : (ident : ℕ → ℕ) (cells : List ℕ) → foundUnworn ident (firstFree ident cells)
+found-unworn ident cells = subst (foundUnworn ident) (nth-first ident cells) (nth-unworn ident cells 0)
 
 -- questions in front
 module _ (ident : ℕ → ℕ) where
@@ -139,8 +146,9 @@ look-unworn w q = by (opened w) refl
     by (O.Open l) e = sited l (siteOf l w q) (site-unworn l (opened-open w l e .2) (viewOf l w) (countIn l w) q)
 
 -- as the functions that search and their callers say it: with what they find
-pub found-said : (ident : ℕ → ℕ) (cells : List ℕ) {r : Free} → r ≡ firstFree ident cells → (r ≡ firstFree ident cells) × foundUnworn ident r
-found-said ident cells e = said (foundUnworn ident) e (found-unworn ident cells)
+pub found-said : (ident : ℕ → ℕ) (cells : List ℕ) (i : ℕ) {r : Free} → r ≡ nth (freeCells ident cells) i
+    → (r ≡ nth (freeCells ident cells) i) × foundUnworn ident r
+found-said ident cells i e = said (foundUnworn ident) e (nth-unworn ident cells i)
 
 pub free-gap-said : (l : Layout) (ident : ℕ → ℕ) (k p c : ℕ) (s : List ℕ) {r : Sited} → r ≡ freeGap l ident k p c s
     → (r ≡ freeGap l ident k p c s) × sitedUnworn ident r

@@ -1,16 +1,18 @@
 -- Questions 5 to 10 and 13: what a call asks for, and the site in the lists that it gets.
-use Prim.Native.Nat.{ℕ, zero, suc, _+_, _/_, _%_}
+use Prim.Native.Nat.{ℕ, zero, suc, _+_, _-_, _/_, _%_}
 use mathlib.Core.Path.{_≡_}
 use mathlib.Core.List.{List, [], _∷_, _++_}
 use mathlib.Core.Bool.{cond, _&&_}
 use lib.Dec.{eqb, leb, ltb}
 use lib.ListN.{length, getD}
-use Rattle.sequences.specs.Sequence.{filter}
+use Rattle.sequences.specs.Sequence.{All, filter}
 use Rattle.layout.specs.declared.Layout.{Layout}
 use Rattle.layout.specs.Words.{ask, firstNode, cellCount, isNode, wornIdent, isFree, opened, afterOpen}
 use Rattle.lists.specs.Decide.{View, viewOf, countIn, sequenceIn, soundIn}
 use Rattle.requests.specs.declared.Free.{Free}
 use Rattle.requests.specs.declared.Free.the-variants.{Cell, Full}
+use Rattle.requests.specs.declared.Ends.{Ends}
+use Rattle.requests.specs.declared.Ends.the-variants as E
 use Rattle.requests.specs.declared.Site.{Site}
 use Rattle.requests.specs.declared.Request.{Request}
 use Rattle.requests.specs.declared.Request.the-variants.{Check, Whole, Member, Gap, Gaps, Mark}
@@ -32,6 +34,14 @@ unfoldable pub firstFree : (ℕ → ℕ) → List ℕ → Free
 firstFree ident [] = Full
 firstFree ident (c ∷ cs) = cond (isFree (ident c)) (Cell c) (firstFree ident cs)
 
+-- in the document's own words: i has identifier 0, and those met before it have not
+pub record FirstFree (ident : ℕ → ℕ) (cells : List ℕ) (i : ℕ) : Type 0 where
+  pub passed : List ℕ
+  pub rest : List ℕ
+  pub order : cells ≡ passed ++ i ∷ rest
+  pub free : ident i ≡ 0
+  pub taken : All (λ c. ident c ≡ 0 → ⊥) passed
+
 abbrev pub withFree {ℓ} : {A : Type ℓ} → Free → A → (ℕ → A) → A
 withFree Full refusal rest = refusal
 withFree (Cell c) refusal rest = rest c
@@ -39,6 +49,16 @@ withFree (Cell c) refusal rest = rest c
 -- of these cells, those that are free, in order
 abbrev pub freeCells : (ℕ → ℕ) → List ℕ → List ℕ
 freeCells ident = filter (λ c. isFree (ident c))
+
+-- the cell at place i of these, counted from 0, if there are so many
+unfoldable pub nth : List ℕ → ℕ → Free
+nth [] i = Full
+nth (c ∷ cs) zero = Cell c
+nth (c ∷ cs) (suc i) = nth cs i
+
+-- the first and the last of r cells, the first r of these
+abbrev pub endsOf : List ℕ → ℕ → Ends
+endsOf cells r = E.Cells (getD cells 0 0) (getD cells (r - 1) 0)
 
 -- question 7 of read and delete: the member of list k at position p, with the cells before and after it
 unfoldable pub memberAt : ℕ → ℕ → List ℕ → Sited
@@ -77,6 +97,13 @@ gapsAt l ident k p c m s =
     askGaps l (length s) p c m Refused
     (ask (leb (m / l .width) (length (freeCells ident (around l c (l .nodes))))) (Refused 10)
     (freeGap l ident k p c s))
+
+-- the same questions of a list of n members, and "the first and the last cell in order of use"
+unfoldable pub endsAt : Layout → (ℕ → ℕ) → ℕ → ℕ → ℕ → ℕ → Ends
+endsAt l ident n p c m =
+    askGaps l n p c m E.Refused
+    (ask (leb (m / l .width) (length (freeCells ident (around l c (l .nodes))))) (E.Refused 10)
+    (endsOf (freeCells ident (around l c (l .nodes))) (m / l .width)))
 
 -- of the cell c to mark: question 8, and "13, the node to mark isn't free, asked after 6 and 8, where 8 is asked of the cell to mark"
 abbrev pub markAt : Layout → (ℕ → ℕ) → ℕ → Sited
@@ -123,6 +150,10 @@ unfoldable pub lookOf : List ℕ → Request → Looked
 lookOf w q = afterOpen (opened w) K.Refused (λ l. withSite (siteOf l w q) K.Refused (λ t. K.At l t))
 
 -- and what a call makes of the outcome
+abbrev pub withEnds {ℓ} : {A : Type ℓ} → Ends → (ℕ → A) → (ℕ → ℕ → A) → A
+withEnds (E.Refused n) refuse rest = refuse n
+withEnds (E.Cells a b) refuse rest = rest a b
+
 abbrev pub withLook {ℓ} : {A : Type ℓ} → Looked → (ℕ → A) → (Layout → Site → A) → A
 withLook (K.Refused n) refuse rest = refuse n
 withLook (K.At l t) refuse rest = rest l t
@@ -132,6 +163,10 @@ withLook (K.At l t) refuse rest = rest l t
 abbrev pub foundUnworn : (ℕ → ℕ) → Free → Type 0
 foundUnworn ident Full = Unit {0}
 foundUnworn ident (Cell c) = ident c ≡ wornIdent → ⊥
+
+abbrev pub endsUnworn : (ℕ → ℕ) → Ends → Type 0
+endsUnworn ident (E.Refused n) = Unit {0}
+endsUnworn ident (E.Cells a b) = (ident a ≡ wornIdent → ⊥) × (ident b ≡ wornIdent → ⊥)
 
 abbrev pub sitedUnworn : (ℕ → ℕ) → Sited → Type 0
 sitedUnworn ident (Refused n) = Unit {0}

@@ -47,6 +47,12 @@ pub enum Free {
     Full,
 }
 
+// The first and the last of the cells for several records, in order of use.
+pub enum Ends {
+    Cells(u16, u16),
+    Refused(u16),
+}
+
 // The node after node c, which after the last is the first.
 pub fn next_cell(l: Layout, c: u16) -> u16
     requires { ⌜ InRange l × Node l c ⌝ }

@@ -12,7 +12,7 @@ use Rattle.sequences.proofs.Range.{length-range, range-append}
 use Rattle.sequences.proofs.Filter.{filter-append, filter-length}
 use Rattle.layout.specs.declared.Layout.{Layout}
 use Rattle.layout.specs.Words.{mostNodes, firstNode, isFree, isWorn, inUse}
-use Rattle.lists.specs.Decide.{View, sequenceIn, holds, allHold, members, cellsWith, used, unwiped, soundIn}
+use Rattle.lists.specs.Decide.{View, sequenceIn, holds, allHold, members, used, unwiped, soundIn}
 use Rattle.lists.proofs.Agree.{holds-true}
 use Rattle.lists.proofs.Stepwise.{all-hold-more, sound-by, sound-hold, sound-number, sound-blank}
 use Rattle.spans.specs.declared.Tally.{Tally}
@@ -47,10 +47,7 @@ pub one-small : (b : Bool) → cond b 1 0 ≤ 1
 one-small true = omega arith
 one-small false = omega arith
 
--- the tests of a cell: is it free, is it in use, is it free with a record that is not blank?
-abbrev freeIn : View → ℕ → Bool
-freeIn v c = isFree (v .ident c)
-
+-- the tests of a cell: is it in use, is it free with a record that is not blank?
 abbrev usedIn : View → ℕ → Bool
 usedIn v c = inUse (v .ident c)
 
@@ -91,17 +88,6 @@ module _ (v : View) (a : ℕ) where
 
   pub tally-few : (n : ℕ) → n ≤ mostNodes → FewIn (tallyOf v a n)
   tally-few n h = record { used = omega (arith, passing-few (usedIn v) a n); unwiped = omega (arith, passing-few (unwipedIn v) a n) }
-
-  -- so of the free cells alone
-  pub free-none : 0 ≡ length (cellsWith isFree v a 0)
-  unfolding range filter
-  free-none = refl
-
-  pub free-more : (n : ℕ) → length (cellsWith isFree v a (n + 1)) ≡ length (cellsWith isFree v a n) + cond (isFree (v .ident (a + n))) 1 0
-  free-more n = passing-more (freeIn v) a n
-
-  pub free-few : (n : ℕ) → length (cellsWith isFree v a n) ≤ n
-  free-few n = passing-few (freeIn v) a n
 
 -- the sum of no counts, and of one count more
 pub sum-none : (count : ℕ → ℕ) → 0 ≡ countSum count 0

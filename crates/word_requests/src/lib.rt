@@ -2,6 +2,7 @@
 // the identifiers. Nothing is copied.
 use layout::Layout;
 use layout::Opened;
+use requests::Ends;
 use requests::Free;
 use requests::Looked;
 use requests::Request;
@@ -13,7 +14,7 @@ ghost use Prim.Native.Nat.{_≤_};
 ghost use Rattle.layout.specs.Words.{Laid, Node, wornIdent};
 ghost use Rattle.lists.specs.Decide.{viewOf, sequenceOf, HeldList};
 ghost use Rattle.spans.specs.Spans.{Gridded};
-ghost use Rattle.requests.specs.Requests.{around, firstFree, memberAt, freeGap, gapAt, gapsAt, markAt, siteOf, lookOf, foundUnworn, sitedUnworn, lookedUnworn};
+ghost use Rattle.requests.specs.Requests.{around, nth, freeCells, memberAt, freeGap, gapAt, gapsAt, endsAt, markAt, siteOf, lookOf, foundUnworn, endsUnworn, sitedUnworn, lookedUnworn};
 ghost use Rattle.requests.specs.Sites.{gapSite, nextSite};
 
 // The member of list k, which has n members, at position p.
@@ -34,18 +35,23 @@ fn member(words: &[u16], l: Layout, g: Grid, k: u16, n: u16, p: u16) -> Sited
     })
 }
 
-// The first free one of n nodes: from the starting cell on, and on from the first node after the last. Worn nodes are passed over.
-fn free_cell(words: &[u16], l: Layout, g: Grid, start: u16, n: u16) -> Free
+// The free node at place i, counted from 0, of those from the starting cell on, and on from the first node after the last. Worn nodes are
+// passed over.
+fn free_cell(words: &[u16], l: Layout, g: Grid, start: u16, i: usize) -> Free
     requires { ⌜ Gridded l g × Laid l (now words) × Node l start ⌝ }
-    ensures found { λ r. ⌜ r ≡ firstFree (viewOf l (now (words .entry)) .ident) (around l start n) ⌝ }
+    ensures found { λ r. ⌜ r ≡ nth (freeCells (viewOf l (now (words .entry)) .ident) (around l start (l .nodes))) i ⌝ }
     ensures worn { λ r. ⌜ foundUnworn (viewOf l (now (words .entry)) .ident) r ⌝ }
 {
     let mut c = start;
-    let mut rest = n;
+    let mut before = i;
+    let mut rest = l.nodes;
     while 0 < rest {
         let ident = word_walks::node(words, l, g, c as usize).ident;
         if Layout::is_free(ident) {
-            return Free::Cell(c);
+            if before == 0 {
+                return Free::Cell(c);
+            }
+            before -= 1;
         }
         c = requests::next_cell(l, c);
         rest -= 1;
@@ -74,7 +80,7 @@ fn free_gap(words: &[u16], l: Layout, g: Grid, k: u16, n: u16, p: u16, start: u1
     ensures site { λ r. ⌜ r ≡ freeGap l (viewOf l (now (words .entry)) .ident) k p start (sequenceOf l (now (words .entry)) k) ⌝ }
     ensures worn { λ r. ⌜ sitedUnworn (viewOf l (now (words .entry)) .ident) r ⌝ }
 {
-    match free_cell(words, l, g, start, l.nodes) {
+    match free_cell(words, l, g, start, 0) {
         Free::Full => Sited::Refused(10),
         Free::Cell(cell) => Sited::At(gap_site(words, l, g, k, n, p, cell)),
     }
@@ -93,22 +99,38 @@ fn gap(words: &[u16], l: Layout, g: Grid, k: u16, n: u16, p: u16, start: u16, si
     free_gap(words, l, g, k, n, p, start)
 }
 
-// The same for several records, of so many words in all: question 10 is then of the number of free nodes.
+// Questions 7 to 10 of several records, of so many words in all, and the first and the last of the free cells that they get. The search for
+// the last goes on from the first, so both are one turn.
+pub fn ends(words: &[u16], l: Layout, n: u16, p: u16, start: u16, size: usize) -> Ends
+    requires { ⌜ Laid l (now words) ⌝ }
+    ensures cells { λ r. ⌜ r ≡ endsAt l (viewOf l (now (words .entry)) .ident) n p start size ⌝ }
+    ensures worn { λ r. ⌜ endsUnworn (viewOf l (now (words .entry)) .ident) r ⌝ }
+{
+    let refusal = requests::gaps_number(l, n, p, start, size);
+    if refusal != 0 {
+        return Ends::Refused(refusal);
+    }
+    let g = Grid::of(l);
+    let Free::Cell(first) = free_cell(words, l, g, start, 0) else {
+        return Ends::Refused(10);
+    };
+    let width = l.width as usize;
+    let Free::Cell(last) = free_cell(words, l, g, first, size / width - 1) else {
+        return Ends::Refused(10);
+    };
+    Ends::Cells(first, last)
+}
+
+// The gap of list k, which has n members, at position p, and free cells for several records, of so many words in all.
 fn gaps(words: &[u16], l: Layout, g: Grid, k: u16, n: u16, p: u16, start: u16, size: usize) -> Sited
     requires { ⌜ Gridded l g × Laid l (now words) × HeldList l (viewOf l (now words)) k n ⌝ }
     ensures site { λ r. ⌜ r ≡ gapsAt l (viewOf l (now (words .entry)) .ident) k p start size (sequenceOf l (now (words .entry)) k) ⌝ }
     ensures worn { λ r. ⌜ sitedUnworn (viewOf l (now (words .entry)) .ident) r ⌝ }
 {
-    let refusal = requests::gaps_number(l, n, p, start, size);
-    if refusal != 0 {
-        return Sited::Refused(refusal);
+    match ends(words, l, n, p, start, size) {
+        Ends::Refused(r) => Sited::Refused(r),
+        Ends::Cells(first, _) => Sited::At(gap_site(words, l, g, k, n, p, first)),
     }
-    let free = word_walks::free_nodes(words, l, g) as usize;
-    let width = l.width as usize;
-    if free < size / width {
-        return Sited::Refused(10);
-    }
-    free_gap(words, l, g, k, n, p, start)
 }
 
 // The site of the next of several records, behind the one just inserted at site t. The search goes on behind the cell just used, so all
@@ -120,7 +142,7 @@ pub fn next_site(words: &[u16], l: Layout, t: Site) -> Site
 {
     let g = Grid::of(l);
     let from = requests::next_cell(l, t.cell);
-    match free_cell(words, l, g, from, l.nodes) {
+    match free_cell(words, l, g, from, 0) {
         Free::Full => t,
         Free::Cell(cell) => Site {
             before: t.cell,

@@ -26,7 +26,7 @@ use Rattle.requests.specs.declared.Request.the-variants.{Gap, Gaps}
 use Rattle.requests.specs.Requests.{around, firstFree, freeCells, gapAt, gapsAt, siteIn, siteOf}
 use Rattle.requests.proofs.Laws.{look-refused}
 use Rattle.requests.proofs.Turn.{free-count}
-use Rattle.edits.proofs.Free.{first-free}
+use Rattle.requests.proofs.Search.{first-free}
 use Rattle.edits.proofs.OneByOne.{turn-free}
 use Rattle.recovery.specs.Plan.{joined}
 use Rattle.recovery.proofs.Joined.{one-joined, joined-one, joined-same}

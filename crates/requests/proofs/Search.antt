@@ -1,22 +1,21 @@
 -- The search for a free cell: what it finds is free and the first in its order; and the search for the next one, behind it.
-use Prim.Native.Nat.{ℕ, zero, suc, _-_, _<_}
+use Prim.Native.Nat.{ℕ, zero, suc, _-_, _<_, _≤_}
 use mathlib.Core.Path.{_≡_, refl, ap, ap₂, _∙_, sym, subst}
 use mathlib.Core.List.{List, [], _∷_, _++_, append-nil, append-assoc, Memᴰ·append-left, Memᴰ·append-right}
 use mathlib.Core.Bool.{Bool, true, false, cond}
 use native.Mathlib.Omega.{arith}
 use lib.Dec.{eqb}
-use lib.ListN.{length, take, drop, length-append}
+use lib.ListN.{length, getD, take, drop, length-append}
 use lib.Seq.{take-at}
 use borrow.Author.Tests.{eq-eqb, eqb-true, eqb-false}
 use Rattle.sequences.specs.Sequence.{_∈_, All, Different, filter}
-use Rattle.sequences.proofs.Members.{all-in, in-all, all-append, out-without}
+use Rattle.sequences.proofs.Members.{all-in, in-all, all-append, at-in, out-without}
 use Rattle.sequences.proofs.Filter.{filter-append}
 use Rattle.layout.specs.declared.Layout.{Layout}
 use Rattle.layout.specs.Words.{Node, isFree}
 use Rattle.requests.specs.declared.Free.the-variants.{Cell, Full}
-use Rattle.requests.specs.Requests.{nextCell, around, firstFree, freeCells}
-use Rattle.requests.proofs.Turn.{around-different, around-behind, free-taken, free-first, free-same}
-use Rattle.edits.specs.Edited.{FirstFree}
+use Rattle.requests.specs.Requests.{nextCell, around, firstFree, FirstFree, freeCells, nth}
+use Rattle.requests.proofs.Turn.{around-nodes, around-different, around-behind, free-in, free-taken, free-first, free-found, free-same}
 
 -- what is found is free, and those before it are not
 pub first-free : (ident : ℕ → ℕ) (cs : List ℕ) (i : ℕ) → firstFree ident cs ≡ Cell i → FirstFree ident cs i
@@ -141,3 +140,48 @@ free-from l ident c x xs h some e =
         ∙ ap (λ (m : ℕ). take n (around l (nextCell l x) m)) (sym whole)
         ∙ ap (take n) (around-behind l c (f .passed) x (f .rest) h (f .order) ∙ sym (append-assoc (f .rest) (f .passed) (x ∷ [])))
         ∙ take-at (f .rest ++ f .passed) (x ∷ []) n others
+
+-- the cell at a place, if there is one
+pub nth-cell : (cs : List ℕ) (i x : ℕ) → nth cs i ≡ Cell x → (i < length cs) × (x ≡ getD cs i 0)
+unfolding nth
+nth-cell [] i x e = let z : _≡_ {A = ℕ} 0 1 = cc in absurd (omega arith)
+nth-cell (c ∷ cs) zero x e = let q : c ≡ x = cc in (omega arith, sym q)
+nth-cell (c ∷ cs) (suc i) x e = let r = nth-cell cs i x e in (omega (arith, r .0), r .1)
+
+pub nth-none : (cs : List ℕ) (i : ℕ) → nth cs i ≡ Full → length cs ≤ i
+unfolding nth
+nth-none [] i e = omega arith
+nth-none (c ∷ cs) zero e = let z : _≡_ {A = ℕ} 0 1 = cc in absurd (omega arith)
+nth-none (c ∷ cs) (suc i) e = omega (arith, nth-none cs i e)
+
+pub nth-at : (cs : List ℕ) (i : ℕ) → i < length cs → nth cs i ≡ Cell (getD cs i 0)
+unfolding nth
+nth-at [] i h = absurd (omega arith)
+nth-at (c ∷ cs) zero h = refl
+nth-at (c ∷ cs) (suc i) h = nth-at cs i (omega arith)
+
+-- at place 0 it is the first free cell met
+pub nth-first : (ident : ℕ → ℕ) (cs : List ℕ) → nth (freeCells ident cs) 0 ≡ firstFree ident cs
+unfolding filter firstFree nth
+nth-first ident [] = refl
+nth-first ident (c ∷ cs) = by (isFree (ident c)) (nth-first ident cs)
+  where
+    by : (b : Bool) → nth (freeCells ident cs) 0 ≡ firstFree ident cs
+        → nth (cond b (c ∷ freeCells ident cs) (freeCells ident cs)) 0 ≡ cond b (Cell c) (firstFree ident cs)
+    by true below = refl
+    by false below = below
+
+-- a cell found in a turn is a node
+pub free-node : (l : Layout) (ident : ℕ → ℕ) (c i x : ℕ) → Node l c → nth (freeCells ident (around l c (l .nodes))) i ≡ Cell x → Node l x
+free-node l ident c i x h e =
+    let free = freeCells ident (around l c (l .nodes)) in
+    let r = nth-cell free i x e in
+    all-in (Node l) (around l c (l .nodes)) (around-nodes l c (l .nodes) h)
+    (free-in ident (around l c (l .nodes)) x (subst (λ (y : ℕ). y ∈ free) (sym (r .1)) (at-in free i (r .0))) .0)
+
+-- the turn begun at the first of them meets the same
+pub free-again : (l : Layout) (ident : ℕ → ℕ) (c x : ℕ) → Node l c → 0 < l .nodes → nth (freeCells ident (around l c (l .nodes))) 0 ≡ Cell x
+    → freeCells ident (around l x (l .nodes)) ≡ freeCells ident (around l c (l .nodes))
+free-again l ident c x h some e =
+    let f = free-found ident (around l c (l .nodes)) x (sym (nth-first ident (around l c (l .nodes))) ∙ e) in
+    free-from l ident c x (drop 1 (freeCells ident (around l c (l .nodes)))) h some f ∙ sym f
