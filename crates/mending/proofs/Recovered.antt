@@ -13,7 +13,7 @@ use borrow.Author.Tests.{eq-eqb, ne-eqb, eqb-true}
 use Rattle.sequences.specs.Sequence.{_∈_}
 use Rattle.stores.specs.Stores.{Write, write, run, refuse, stores, writesIn}
 use Rattle.layout.specs.declared.Layout.{Layout}
-use Rattle.layout.specs.Words.{firstNode, Node, InRange, sizeOf, identAt, countAt, Unlisted}
+use Rattle.layout.specs.Words.{mostCells, firstNode, Node, InRange, sizeOf, identAt, countAt, Unlisted}
 use Rattle.lists.specs.Lists.{asked, othersAsked, countAsked}
 use Rattle.lists.specs.Decide.{View, viewOf, countIn, used, unwiped}
 use Rattle.recovery.specs.Fits.{wrong}
@@ -26,7 +26,7 @@ use Rattle.fitting.specs.Fitting.{fitIn, countMend, numberOf, membersBy}
 use Rattle.fitting.proofs.Told.{Told, fit-told, chosen-told, members-told}
 use Rattle.mending.specs.declared.Mends.{Mends}
 use Rattle.mending.specs.Mending.{refusalIn, listMends, mendsIn, erasedFrom, clears, wipes, MendsOf}
-use Rattle.mending.proofs.Cleared.{cleared-told}
+use Rattle.mending.proofs.Cleared.{Column, column-told, clears-told}
 use Rattle.mending.proofs.LeftOver.{nothing-left, clears-nothing, wipes-nothing}
 use Rattle.mending.proofs.Wiping.{plan-parted, plan-told}
 
@@ -134,14 +134,18 @@ module _ (l : Layout) (w : List ℕ) (m : Mends) (told : MendsOf l (viewOf l w) 
         ∙ ap₂ (λ (a b : List Write). (a ++ b) ++ wipes l (run (a ++ b) w)) (sym mends) (sym e)))
 
     -- .. by what is left of the nodes' identifiers
-    pub recover-stores : (idents : List ℕ) → ((c : ℕ) → Node l c → getD idents c 0 ≡ v .ident c)
-        → let ps = writesIn (m .rows) ++ clears l (erasedFrom l v (λ k. getD (m .back) k false) 0 (l .lists) idents) in
-        recoverOf l w ≡ stores (ps ++ wipes l (run ps w))
-    recover-stores idents same =
-        stores-told (clears l (erasedFrom l v (λ k. getD (m .back) k false) 0 (l .lists) idents))
-        (cleared-told l w idents v (λ k. getD (m .back) k false) s same
-        (λ k h. subst (λ (b : Bool). (c : ℕ) → (c ∈ membersBy l v b k → c ∈ s k) × (c ∈ s k → c ∈ membersBy l v b k))
-        (sym (told .back z k h)) (members-told l w k h (fitted k h))))
+    module _ (r : InRange l) (idents : List ℕ) (room : mostCells ≡ length idents) (same : (c : ℕ) → Node l c → getD idents c 0 ≡ v .ident c) where
+      abbrev left : List ℕ
+      left = erasedFrom l v (λ k. getD (m .back) k false) 0 (l .lists) idents
+
+      pub column : Column l w (joined s (l .lists)) left (firstNode l) (l .nodes)
+      column =
+          column-told l w idents v (λ k. getD (m .back) k false) s (omega arith) same
+          (λ k h. subst (λ (b : Bool). (c : ℕ) → (c ∈ membersBy l v b k → c ∈ s k) × (c ∈ s k → c ∈ membersBy l v b k))
+          (sym (told .back z k h)) (members-told l w k h (fitted k h)))
+
+      pub recover-stores : let ps = writesIn (m .rows) ++ clears l left in recoverOf l w ≡ stores (ps ++ wipes l (run ps w))
+      recover-stores = stores-told (clears l left) (clears-told l w left (joined s (l .lists)) (firstNode l) (l .nodes) column)
 
     -- .. without clears, if nobody is left over; and the mends alone, if no free node has a record
     module _ (r : InRange l) (e : (m .carried && eqb (m .members) (length (used v (firstNode l) (l .nodes)))) ≡ true) where

@@ -10,7 +10,7 @@ use Rattle.stores.specs.declared.Answer.{Answer}
 use Rattle.stores.specs.declared.Answer.the-variants as A
 use Rattle.stores.specs.Stores.{Write, write, applied, stores, answerOf, more, writesIn, Held}
 use Rattle.layout.specs.declared.Layout.{Layout}
-use Rattle.layout.specs.Words.{firstNode, isNode, identAt, isFree, inUse, sizeOf}
+use Rattle.layout.specs.Words.{firstNode, isNode, identAt, wornIdent, isFree, inUse, sizeOf}
 use Rattle.lists.specs.Lists.{blankAsked}
 use Rattle.lists.specs.Decide.{View, viewOf, cellsWith}
 use Rattle.recovery.specs.Fits.{wrong}
@@ -42,25 +42,26 @@ unfoldable pub mendsIn : Layout → View → (ℕ → ℕ) → ℕ → ℕ → L
 mendsIn l v count k zero = []
 mendsIn l v count k (suc n) = listMends l v count k ++ mendsIn l v count (suc k) n
 
--- a column with 0 at these cells
+-- a column of identifiers with these cells erased: entry 65,535, which says of a member what it says of a worn node, that it is neither to be
+-- cleared nor wiped; 0 stays a free node in no list, and any other entry a node left over
 unfoldable pub erased : List ℕ → List ℕ → List ℕ
 erased [] xs = xs
-erased (c ∷ cs) xs = erased cs (set xs c 0)
+erased (c ∷ cs) xs = erased cs (set xs c wornIdent)
 
 -- the link of a cell that a walk follows
 abbrev pub linkBy : View → Bool → ℕ → ℕ
 linkBy v back c = cond back (v .back c) (v .forward c)
 
--- a column with 0 at the cells that the links lead through from y on, n at most
+-- a column with the cells erased that the links lead through from y on, n at most
 abbrev pub erasedAlong : Layout → View → Bool → ℕ → ℕ → List ℕ → List ℕ
 erasedAlong l v back n y idents = erased (trail (linkBy v back) (isNode l) n y) idents
 
--- the identifiers with 0 at every member of the n lists from k on
+-- the identifiers with every member of the n lists from k on erased
 unfoldable pub erasedFrom : Layout → View → (ℕ → Bool) → ℕ → ℕ → List ℕ → List ℕ
 erasedFrom l v back k zero xs = xs
 erasedFrom l v back k (suc n) xs = erasedFrom l v back (suc k) n (erased (membersBy l v (back k) k) xs)
 
--- the clears of the n cells from a on whose entry says in use
+-- the clears of the n cells from a on whose entry says in use: no member, not worn and not free
 unfoldable pub clearsIn : Layout → List ℕ → ℕ → ℕ → List Write
 clearsIn l idents a zero = []
 clearsIn l idents a (suc n) =

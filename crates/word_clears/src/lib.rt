@@ -17,7 +17,8 @@ ghost use Rattle.mending.specs.Mending.{erased, erasedAlong, erasedFrom, clears
 // Reads the identifier of each node into the column.
 pub fn read_nodes(idents: &mut [u16; Layout::MAX_CELLS], words: &[u16], l: Layout, g: Grid)
     requires { ⌜ Gridded l g × Laid l (now words) × (mostCells ≡ length (now idents)) ⌝ }
-    ensures { λ _. ⌜ ((c : ℕ) → Node l c → getD (now (idents .exit)) c 0 ≡ viewOf l (now (words .entry)) .ident c) ⌝ }
+    ensures nodes { λ _. ⌜ ((c : ℕ) → Node l c → getD (now (idents .exit)) c 0 ≡ viewOf l (now (words .entry)) .ident c) ⌝ }
+    ensures room { λ _. ⌜ mostCells ≡ length (now (idents .exit)) ⌝ }
 {
     let mut c = g.from;
     while c < g.to {
@@ -26,7 +27,8 @@ pub fn read_nodes(idents: &mut [u16; Layout::MAX_CELLS], words: &[u16], l: Layou
     }
 }
 
-// A column with 0 at every cell that the links lead through from a cell on, n at most.
+// Erases in the column every cell that the links lead through from a cell on, n at most: its entry becomes that of a worn node, which is neither
+// to be cleared nor wiped.
 fn erase(
     idents: &mut [u16; Layout::MAX_CELLS],
     words: &[u16],
@@ -45,13 +47,13 @@ fn erase(
         if !g.is_node(l, y) {
             return;
         }
-        idents[y] = 0;
+        idents[y] = Layout::WORN;
         y = mending::onward(word_walks::node(words, l, g, y), back);
         more -= 1;
     }
 }
 
-// A column with 0 at every member of lists k and j, each by its back links or its forward links: both in one loop, and then each alone.
+// Erases every member of lists k and j, each by its back links or its forward links: both in one loop, and then each alone.
 fn erase_two(
     idents: &mut [u16; Layout::MAX_CELLS],
     words: &[u16],
@@ -75,8 +77,8 @@ fn erase_two(
         if !g.is_node(l, z) {
             break;
         }
-        idents[y] = 0;
-        idents[z] = 0;
+        idents[y] = Layout::WORN;
+        idents[z] = Layout::WORN;
         y = mending::onward(word_walks::node(words, l, g, y), back);
         z = mending::onward(word_walks::node(words, l, g, z), other);
         more -= 1;
@@ -85,7 +87,7 @@ fn erase_two(
     erase(idents, words, l, g, other, z, more);
 }
 
-// A column with 0 at every member of every list, each by the links that it goes by.
+// Erases every member of every list, each by the links that it goes by.
 pub fn erase_all(
     idents: &mut [u16; Layout::MAX_CELLS],
     words: &[u16],

@@ -5,7 +5,7 @@ use mathlib.Core.Bool.{true, cond}
 use native.Mathlib.Omega.{arith}
 use lib.ListN.{set}
 use Rattle.byte_form.specs.Bytes.{wordsIn}
-use Rattle.layout.specs.Words.{mostCells, Laid, isNode}
+use Rattle.layout.specs.Words.{mostCells, wornIdent, Laid, isNode}
 use Rattle.layout.proofs.Laws.{is-node, answered-no, answered-yes}
 use Rattle.lists.specs.Decide.{View, viewOf}
 use Rattle.spans.specs.declared.Cell.{Cell}
@@ -78,7 +78,7 @@ loop-again c =
     let a = s .args in
     let e : c .onward .result ≡ linkBy (view s) (a .back) (t .loop .y) = c .onward .ensures ∙ ap (λ (x : Cell). cond (a .back) (x .back) (x .forward)) (n .node .ensures) in (
       t .loop .inv .0,
-      ap (λ (y : ℕ). erasedAlong (a .l) (view s) (a .back) (t .loop .more - 1) y (set (t .loop .idents) (t .loop .y) 0)) e
+      ap (λ (y : ℕ). erasedAlong (a .l) (view s) (a .back) (t .loop .more - 1) y (set (t .loop .idents) (t .loop .y) wornIdent)) e
           ∙ sym (erased-on (a .l) (view s) (a .back) (t .loop .more) (t .loop .y) (t .loop .idents) (omega arith) (node (n .before)))
           ∙ t .loop .inv .1,
     )

@@ -7,7 +7,7 @@ use native.Mathlib.Omega.{arith}
 use lib.ListN.{set}
 use Rattle.byte_form.specs.Bytes.{wordsIn}
 use Rattle.layout.specs.declared.Layout.{Layout}
-use Rattle.layout.specs.Words.{mostCells, Laid, isNode}
+use Rattle.layout.specs.Words.{mostCells, wornIdent, Laid, isNode}
 use Rattle.layout.proofs.Laws.{is-node, answered-yes}
 use Rattle.lists.specs.Decide.{View, viewOf}
 use Rattle.spans.specs.declared.Cell.{Cell}
@@ -131,7 +131,7 @@ loop-again c =
     let y = read (view s) (a .back) (t .y) (n .node .ensures) (m .before .onward3 .ensures) in
     let z = read (view s) (a .other) (t .z) (m .node2 .ensures) (c .onward4 .ensures) in (
       t .inv .0,
-      ap₂ (λ (y z : ℕ). left (a .l) (view s) (a .back) (a .other) (t .more - 1) y z (set (set (t .idents) (at e .loop .y) 0) (at e .loop .z) 0)) y z
+      ap₂ (λ (y z : ℕ). left (a .l) (view s) (a .back) (a .other) (t .more - 1) y z (set (set (t .idents) (at e .loop .y) wornIdent) (at e .loop .z) wornIdent)) y z
           ∙ sym (erased-both (a .l) (view s) (a .back) (a .other) (t .more) (t .y) (t .z) (t .idents) (omega (arith, e .before .before .before .before .loop-test .taken)) (node e) (node-other e))
           ∙ t .inv .1,
     )
