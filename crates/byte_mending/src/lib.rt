@@ -2,6 +2,7 @@
 // a node in no list may be in use by its identifier, the identifiers are read into a column and the members erased there. The wipes need no
 // column: once the mends and the clears are made, the nodes to be wiped are the free ones.
 use layout::Layout;
+use mending::Found;
 use mending::Mends;
 use spans::Grid;
 use stores::Answer;
@@ -16,7 +17,7 @@ ghost use Rattle.layout.specs.Words.{mostCells, Laid, sizeOf};
 ghost use Rattle.lists.specs.Decide.{viewOf, countIn};
 ghost use Rattle.spans.specs.Spans.{Gridded};
 ghost use Rattle.recovery.specs.Plan.{recoverOf};
-ghost use Rattle.mending.specs.Mending.{clears, wipes, MendsOf};
+ghost use Rattle.mending.specs.Mending.{clears, wipes, MendsOf, FoundIn};
 
 // Makes the mends and then the clears, up to the allowance.
 fn make(
@@ -70,25 +71,39 @@ fn recover_none_left(bytes: &mut [u8], l: Layout, g: Grid, mends: Rows, allowanc
     byte_wipes::go_on(bytes, l, g, made, allowance)
 }
 
-// Recovers a store of this layout. The nodes are tallied first: that fetches the bytes in order.
+// What is found of the store. The nodes are tallied first: that fetches the bytes in order.
+fn decide(bytes: &[u8], l: Layout, g: Grid) -> Found
+    requires { ⌜ Gridded l g × Laid l (wordsIn (now bytes)) ⌝ }
+    ensures { λ r. ⌜ FoundIn l (wordsIn (now (bytes .entry))) r ⌝ }
+{
+    let t = byte_walks::tally(bytes, l, g);
+    let mends = byte_mends::all_mends(bytes, l, g);
+    Found {
+        mends,
+        left: !mends.none_left(t.used),
+        unwiped: t.unwiped != 0,
+    }
+}
+
+// Recovers a store of this layout.
 pub fn recover_in(bytes: &mut [u8], l: Layout, allowance: u16) -> Answer
     requires { ⌜ Laid l (wordsIn (now bytes)) ⌝ }
     ensures answer { λ r. ⌜ r ≡ answerOf (recoverOf l (wordsIn (now (bytes .entry)))) allowance ⌝ }
     ensures bytes { λ _. ⌜ now (bytes .exit) ≡ bytesAfter (recoverOf l (wordsIn (now (bytes .entry)))) allowance (now (bytes .entry)) ⌝ }
 {
     let g = Grid::of(l);
-    let t = byte_walks::tally(bytes, l, g);
-    let found = byte_mends::all_mends(bytes, l, g);
-    if found.refusal != 0 {
-        return Answer::Refused(found.refusal);
+    let found = decide(bytes, l, g);
+    let m = found.mends;
+    if m.refusal != 0 {
+        return Answer::Refused(m.refusal);
     }
-    if found.none_left(t.used) {
-        let mends = found.rows;
-        if t.unwiped == 0 {
-            return byte_form::run_rows(bytes, mends, allowance);
-        }
+    if found.left {
+        let mut idents = mending::column();
+        return recover_left(bytes, l, g, m, &mut idents, allowance);
+    }
+    let mends = m.rows;
+    if found.unwiped {
         return recover_none_left(bytes, l, g, mends, allowance);
     }
-    let mut idents = mending::column();
-    recover_left(bytes, l, g, found, &mut idents, allowance)
+    byte_form::run_rows(bytes, mends, allowance)
 }

@@ -6,3 +6,4 @@ pub mod Cleared
 pub mod LeftOver
 pub mod Wiping
 pub mod Recovered
+pub mod Finding

@@ -2,9 +2,9 @@
 use Prim.Native.Nat.{ℕ, zero, suc, _+_, _-_, _<_, _≤_}
 use mathlib.Core.Path.{_≡_}
 use mathlib.Core.List.{List, [], _∷_, _++_}
-use mathlib.Core.Bool.{Bool, true, false, cond}
+use mathlib.Core.Bool.{Bool, true, false, not, cond, _&&_}
 use lib.Dec.{eqb}
-use lib.ListN.{getD, set, take}
+use lib.ListN.{length, getD, set, take}
 use Rattle.sequences.specs.Sequence.{All, trail}
 use Rattle.stores.specs.declared.Answer.{Answer}
 use Rattle.stores.specs.declared.Answer.the-variants as A
@@ -12,13 +12,14 @@ use Rattle.stores.specs.Stores.{Write, write, applied, stores, answerOf, more, 
 use Rattle.layout.specs.declared.Layout.{Layout}
 use Rattle.layout.specs.Words.{firstNode, isNode, identAt, wornIdent, isFree, inUse, sizeOf}
 use Rattle.lists.specs.Lists.{blankAsked}
-use Rattle.lists.specs.Decide.{View, viewOf, cellsWith}
+use Rattle.lists.specs.Decide.{View, viewOf, countIn, cellsWith, used, unwiped}
 use Rattle.recovery.specs.Fits.{wrong}
 use Rattle.recovery.specs.Plan.{blanksAsked}
 use Rattle.fitting.specs.declared.Walk.{Walk}
 use Rattle.fitting.specs.Fitting.{fitIn, mendOf, countMend, numberOf, walkIn, isBackward, carries, membersBy}
 use Rattle.mending.specs.declared.Mend.{Mend}
 use Rattle.mending.specs.declared.Mends.{Mends}
+use Rattle.mending.specs.declared.Found.{Found}
 
 -- the sum of the first n
 unfoldable pub total : (ℕ → ℕ) → ℕ → ℕ
@@ -107,3 +108,9 @@ pub record MendsOf (l : Layout) (v : View) (count : ℕ → ℕ) (m : Mends) : T
   pub rows : m .refusal ≡ 0 → writesIn (m .rows) ≡ mendsIn l v count 0 (l .lists)
   pub held : Held (sizeOf l) (m .rows) (writesIn (m .rows))
   pub back : m .refusal ≡ 0 → (k : ℕ) → k < l .lists → getD (m .back) k false ≡ isBackward (fitIn l v k (count k))
+
+-- what is found of the words before the first store
+pub record FoundIn (l : Layout) (w : List ℕ) (f : Found) : Type 0 where
+  pub mends : MendsOf l (viewOf l w) (countIn l w) (f .mends)
+  pub left : f .left ≡ not (f .mends .carried && eqb (f .mends .members) (length (used (viewOf l w) (firstNode l) (l .nodes))))
+  pub unwiped : f .unwiped ≡ not (eqb (length (unwiped (viewOf l w) (firstNode l) (l .nodes))) 0)

@@ -32,6 +32,14 @@ pub struct Mends {
     pub rows: Rows,
 }
 
+// What recovery finds of a store before its first store: what it finds of the lists; may a node in no list be in use by its identifier; has a
+// free node a record?
+pub struct Found {
+    pub mends: Mends,
+    pub left: bool,
+    pub unwiped: bool,
+}
+
 // The store that mends a fault.
 pub fn mend_of(l: Layout, f: Faults) -> Mend
     requires { ⌜ InRange l × FaultFits l f ⌝ }

@@ -2,6 +2,7 @@
 // node in no list may be in use by its identifier, the identifiers are read into a column and the members erased there. The wipes need no
 // column: once the mends and the clears are made, the nodes to be wiped are the free ones.
 use layout::Layout;
+use mending::Found;
 use mending::Mends;
 use spans::Grid;
 use stores::Answer;
@@ -15,7 +16,7 @@ ghost use Rattle.layout.specs.Words.{mostCells, Laid, sizeOf};
 ghost use Rattle.lists.specs.Decide.{viewOf, countIn};
 ghost use Rattle.spans.specs.Spans.{Gridded};
 ghost use Rattle.recovery.specs.Plan.{recoverOf};
-ghost use Rattle.mending.specs.Mending.{clears, wipes, MendsOf};
+ghost use Rattle.mending.specs.Mending.{clears, wipes, MendsOf, FoundIn};
 
 // Makes the mends and then the clears, up to the allowance.
 fn make(
@@ -69,25 +70,39 @@ fn recover_none_left(words: &mut [u16], l: Layout, g: Grid, mends: Rows, allowan
     word_wipes::go_on(words, l, g, made, allowance)
 }
 
-// Recovers a store of this layout. The nodes are tallied first: that fetches the words in order.
+// What is found of the store. The nodes are tallied first: that fetches the words in order.
+fn decide(words: &[u16], l: Layout, g: Grid) -> Found
+    requires { ⌜ Gridded l g × Laid l (now words) ⌝ }
+    ensures { λ r. ⌜ FoundIn l (now (words .entry)) r ⌝ }
+{
+    let t = word_walks::tally(words, l, g);
+    let mends = word_mends::all_mends(words, l, g);
+    Found {
+        mends,
+        left: !mends.none_left(t.used),
+        unwiped: t.unwiped != 0,
+    }
+}
+
+// Recovers a store of this layout.
 pub fn recover_in(words: &mut [u16], l: Layout, allowance: u16) -> Answer
     requires { ⌜ Laid l (now words) ⌝ }
     ensures answer { λ r. ⌜ r ≡ answerOf (recoverOf l (now (words .entry))) allowance ⌝ }
     ensures words { λ _. ⌜ now (words .exit) ≡ wordsAfter (recoverOf l (now (words .entry))) allowance (now (words .entry)) ⌝ }
 {
     let g = Grid::of(l);
-    let t = word_walks::tally(words, l, g);
-    let found = word_mends::all_mends(words, l, g);
-    if found.refusal != 0 {
-        return Answer::Refused(found.refusal);
+    let found = decide(words, l, g);
+    let m = found.mends;
+    if m.refusal != 0 {
+        return Answer::Refused(m.refusal);
     }
-    if found.none_left(t.used) {
-        let mends = found.rows;
-        if t.unwiped == 0 {
-            return stores::run_rows(words, mends, allowance);
-        }
+    if found.left {
+        let mut idents = mending::column();
+        return recover_left(words, l, g, m, &mut idents, allowance);
+    }
+    let mends = m.rows;
+    if found.unwiped {
         return recover_none_left(words, l, g, mends, allowance);
     }
-    let mut idents = mending::column();
-    recover_left(words, l, g, found, &mut idents, allowance)
+    stores::run_rows(words, mends, allowance)
 }
