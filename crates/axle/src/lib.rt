@@ -1,17 +1,19 @@
 // The C interface (include/axle.h): the calls on a store in byte form. Each asks and answers as the call of crate axle_store does on the
 // words of the bytes; the stores are made in the lent bytes, in the same order.
+use edits::Foretold;
 use layout::Layout;
 use requests::Looked;
 use requests::Request;
 use stores::Answer;
+use stores::Needed;
 ghost use mathlib.Core.Path.{_≡_};
 ghost use Prim.Native.Nat.{_+_, _/_, _%_};
 ghost use Rattle.stores.specs.Stores.{answerOf};
 ghost use Rattle.byte_form.specs.Bytes.{wordsIn, bytesAfter};
 ghost use Rattle.layout.specs.Words.{layoutFor, layoutOf};
 ghost use Rattle.lists.specs.Lists.{KeepsWorn};
-ghost use Rattle.edits.specs.Edits.{markStores};
-ghost use Rattle.axle.specs.Interface.{codeOf, checkCode, lengthCode, wholeCode, wholeBytes, byteFormat, byteInsert, byteSeveral, byteDelete, byteMark, byteRecover};
+ghost use Rattle.edits.specs.Edits.{markStores, foretoldUnworn};
+ghost use Rattle.axle.specs.Interface.{codeOf, firstCode, lastCode, storesCode, neededCode, checkCode, lengthCode, wholeCode, wholeBytes, byteFormat, byteInsert, byteSeveral, byteFigures, byteDelete, byteMark, byteRecover, byteNeeded};
 
 // What stands in front of the number of stores done or of a length, and of the number where stopped.
 const DONE: u32 = 65536;
@@ -26,6 +28,43 @@ fn code(answer: Answer) -> u32
         Answer::Done(n) => DONE + n as u32,
         Answer::Stopped(n) => STOPPED + n as u32,
         Answer::Refused(n) => n as u32,
+    }
+}
+
+// The numbers of what is told beforehand: of the first cell, of the last cell, of the stores of an insert and of those of a recovery.
+fn first_code(told: Foretold) -> u32
+    ensures { λ r. ⌜ r ≡ firstCode told ⌝ }
+{
+    match told {
+        Foretold::Figures(first, _, _) => DONE + first as u32,
+        Foretold::Refused(n) => n as u32,
+    }
+}
+
+fn last_code(told: Foretold) -> u32
+    ensures { λ r. ⌜ r ≡ lastCode told ⌝ }
+{
+    match told {
+        Foretold::Figures(_, last, _) => DONE + last as u32,
+        Foretold::Refused(n) => n as u32,
+    }
+}
+
+fn stores_code(told: Foretold) -> u32
+    ensures { λ r. ⌜ r ≡ storesCode told ⌝ }
+{
+    match told {
+        Foretold::Figures(_, _, stores) => DONE + stores as u32,
+        Foretold::Refused(n) => n as u32,
+    }
+}
+
+fn needed_code(told: Needed) -> u32
+    ensures { λ r. ⌜ r ≡ neededCode told ⌝ }
+{
+    match told {
+        Needed::Stores(stores) => DONE + stores as u32,
+        Needed::Refused(n) => n as u32,
     }
 }
 
@@ -122,6 +161,60 @@ pub extern "C" fn axle_insert_several(
     code(byte_calls::insert_several(store, list, position, start, records, allowance))
 }
 
+// The first cell that an insert of several records will use. Worn nodes are passed over.
+#[no_mangle]
+pub extern "C" fn axle_insert_several_first_cell(
+    store: &[u8],
+    list: u16,
+    position: u16,
+    start: u16,
+    records: &[u8],
+) -> u32
+    ensures answer { λ r. ⌜ r ≡ firstCode (byteFigures (now (store .entry)) list position start (now (records .entry))) ⌝ }
+    ensures worn { λ _. ⌜ foretoldUnworn (layoutOf (wordsIn (now (store .entry)))) (wordsIn (now (store .entry))) (byteFigures (now (store .entry)) list position start (now (records .entry))) ⌝ }
+{
+    if store.len() % 2 != 0 {
+        return 4;
+    }
+    first_code(byte_calls::insert_several_figures(store, list, position, start, records))
+}
+
+// The last cell that an insert of several records will use, in order of use. Worn nodes are passed over.
+#[no_mangle]
+pub extern "C" fn axle_insert_several_last_cell(
+    store: &[u8],
+    list: u16,
+    position: u16,
+    start: u16,
+    records: &[u8],
+) -> u32
+    ensures answer { λ r. ⌜ r ≡ lastCode (byteFigures (now (store .entry)) list position start (now (records .entry))) ⌝ }
+    ensures worn { λ _. ⌜ foretoldUnworn (layoutOf (wordsIn (now (store .entry)))) (wordsIn (now (store .entry))) (byteFigures (now (store .entry)) list position start (now (records .entry))) ⌝ }
+{
+    if store.len() % 2 != 0 {
+        return 4;
+    }
+    last_code(byte_calls::insert_several_figures(store, list, position, start, records))
+}
+
+// How many stores an insert of several records will make. Worn nodes are passed over.
+#[no_mangle]
+pub extern "C" fn axle_insert_several_stores(
+    store: &[u8],
+    list: u16,
+    position: u16,
+    start: u16,
+    records: &[u8],
+) -> u32
+    ensures answer { λ r. ⌜ r ≡ storesCode (byteFigures (now (store .entry)) list position start (now (records .entry))) ⌝ }
+    ensures worn { λ _. ⌜ foretoldUnworn (layoutOf (wordsIn (now (store .entry)))) (wordsIn (now (store .entry))) (byteFigures (now (store .entry)) list position start (now (records .entry))) ⌝ }
+{
+    if store.len() % 2 != 0 {
+        return 4;
+    }
+    stores_code(byte_calls::insert_several_figures(store, list, position, start, records))
+}
+
 // Deletes the record of the list at the position.
 #[no_mangle]
 pub extern "C" fn axle_delete(store: &mut [u8], list: u16, position: u16, allowance: u16) -> u32
@@ -157,4 +250,15 @@ pub extern "C" fn axle_recover(store: &mut [u8], allowance: u16) -> u32
         return 4;
     }
     code(byte_calls::recover(store, allowance))
+}
+
+// How many stores a recovery will make.
+#[no_mangle]
+pub extern "C" fn axle_recover_stores(store: &[u8]) -> u32
+    ensures { λ r. ⌜ r ≡ neededCode (byteNeeded (now (store .entry))) ⌝ }
+{
+    if store.len() % 2 != 0 {
+        return 4;
+    }
+    needed_code(byte_calls::recover_stores(store))
 }

@@ -4,3 +4,4 @@ pub mod Numbers
 pub mod Sites
 pub mod Calls
 pub mod Worn
+pub mod Figures

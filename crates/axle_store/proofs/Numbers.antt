@@ -5,6 +5,8 @@ use mathlib.Core.List.{List}
 use mathlib.Core.Bool.{Bool, true, false}
 use lib.Dec.{eqb}
 use lib.ListN.{length}
+use Rattle.stores.specs.declared.Needed.{Needed}
+use Rattle.stores.specs.Stores.{Plan, refuse, stores, planNumber, neededOf, neededNumber}
 use Rattle.layout.specs.declared.Layout.{Layout}
 use Rattle.layout.specs.Words.{ask, inRange, sizeOf}
 use Rattle.requests.specs.declared.Looked.{Looked}
@@ -46,3 +48,11 @@ counted-number {r} w k e = by (lookOf w (Whole k)) e
         → (countedNumber r ≡ lookNumber x) × (countedLength r ≡ withLook x (λ n. 0) (λ l t. t .count))
     by (K.Refused n) e = rw e (refl, refl)
     by (K.At l t) e = rw e (refl, refl)
+
+-- of what is told of a plan
+pub needed-number : {r : Needed} (p : Plan) → r ≡ neededOf p → neededNumber r ≡ planNumber p
+needed-number p e = ap neededNumber e ∙ by p
+  where
+    by : (p : Plan) → neededNumber (neededOf p) ≡ planNumber p
+    by (refuse n) = refl
+    by (stores ps) = refl

@@ -3,14 +3,17 @@ use Prim.Native.Nat.{ℕ, _/_}
 use mathlib.Core.List.{List, []}
 use lib.Dec.{eqb}
 use lib.ListN.{length, take, drop}
-use Rattle.stores.specs.Stores.{Plan, refuse, stores}
+use Rattle.stores.specs.declared.Needed.{Needed}
+use Rattle.stores.specs.Stores.{Plan, refuse, stores, neededOf}
 use Rattle.layout.specs.declared.Layout.{Layout}
 use Rattle.layout.specs.Words.{ask, inRange, sizeOf, recordAt}
 use Rattle.requests.specs.declared.Looked.{Looked}
 use Rattle.requests.specs.declared.Request.the-variants.{Check, Whole, Member, Gap, Gaps, Mark}
-use Rattle.lists.specs.Decide.{viewOf}
-use Rattle.requests.specs.Requests.{around, freeCells, lookOf, withLook}
-use Rattle.edits.specs.Edits.{insertWrites, chain, deleteWrites, markWrites}
+use Rattle.requests.specs.Requests.{lookOf, withLook}
+use Rattle.edits.specs.declared.Foretold.{Foretold}
+use Rattle.edits.specs.declared.Foretold.the-variants as T
+use Rattle.edits.specs.Edits.{insertWrites, chain, freeFrom, deleteWrites, markWrites, figuresOf}
+use Rattle.recovery.specs.Plan.{recoverPlan}
 use Rattle.axle_store.specs.Answers.{formattedWords}
 use Rattle.axle_store.specs.declared.Formatted.{Formatted}
 use Rattle.axle_store.specs.declared.Formatted.the-variants as F
@@ -82,9 +85,16 @@ insertPlan w k p c words =
 unfoldable pub severalPlan : List ℕ → ℕ → ℕ → ℕ → List ℕ → Plan
 severalPlan w k p c words =
     withLook (lookOf w (Gaps k p c (length words))) refuse
+    (λ l t. stores (chain l k (t .before) (t .after) (t .count) (freeFrom l w c (length words / l .width)) words))
+
+-- "For an insert of several records, give the first and the last cell in order of use and the number of word stores" of this plan; "where it
+-- would refuse, its number is given"
+unfoldable pub severalFigures : List ℕ → ℕ → ℕ → ℕ → List ℕ → Foretold
+severalFigures w k p c words =
+    withLook (lookOf w (Gaps k p c (length words))) T.Refused
     (λ l t.
-    let cells = take (length words / l .width) (freeCells (viewOf l w .ident) (around l c (l .nodes))) in
-    stores (chain l k (t .before) (t .after) (t .count) cells words))
+    let cells = freeFrom l w c (length words / l .width) in
+    figuresOf cells (length (chain l k (t .before) (t .after) (t .count) cells words)))
 
 -- delete from list k at position p: 1 to 4, 5, 6, 7
 unfoldable pub deletePlan : List ℕ → ℕ → ℕ → Plan
@@ -94,3 +104,7 @@ deletePlan w k p = withLook (lookOf w (Member k p)) refuse (λ l t. stores (dele
 -- `markStores`
 unfoldable pub markPlan : List ℕ → ℕ → Plan
 markPlan w c = withLook (lookOf w (Mark c)) refuse (λ l t. stores (markWrites l (t .cell)))
+
+-- "for a recovery, the number of stores it will make"
+abbrev pub recoverNeeded : List ℕ → Needed
+recoverNeeded w = neededOf (recoverPlan w)

@@ -1,20 +1,23 @@
 // The axle store's calls on lent words. Each asks its questions in the order of docs/FORMAT.md; the first no decides, and a
 // refused call stores nothing. No call asks anything of its caller: the words may hold anything, at any length.
+use edits::Foretold;
 use layout::Layout;
 use layout::Opened;
+use requests::Ends;
 use requests::Looked;
 use requests::Request;
 use stores::Answer;
+use stores::Needed;
 ghost use mathlib.Core.Path.{_≡_};
 ghost use Prim.Native.Nat.{_+_, _*_};
 ghost use lib.ListN.{length};
-ghost use Rattle.stores.specs.Stores.{stores, answerOf, wordsAfter, answerNumber, answerStores, planNumber, madeBy};
+ghost use Rattle.stores.specs.Stores.{stores, answerOf, wordsAfter, answerNumber, answerStores, planNumber, madeBy, neededOf, neededNumber, neededStores};
 ghost use Rattle.layout.specs.Words.{layoutFor, layoutOf};
 ghost use Rattle.lists.specs.Lists.{KeepsWorn};
-ghost use Rattle.edits.specs.Edits.{markStores};
+ghost use Rattle.edits.specs.Edits.{markStores, foretoldNumber, foretoldStores, foretoldUnworn};
 ghost use Rattle.recovery.specs.Plan.{recoverPlan};
 ghost use Rattle.axle_store.specs.Answers.{checkedNumber, formattedNumber, countedNumber, countedLength};
-ghost use Rattle.axle_store.specs.Calls.{formatAnswer, formatNumber, formatWords, checkAnswer, checkNumber, lengthAnswer, lengthNumber, lengthValue, readNumber, readWords, readStart, insertPlan, severalPlan, deletePlan, markPlan};
+ghost use Rattle.axle_store.specs.Calls.{formatAnswer, formatNumber, formatWords, checkAnswer, checkNumber, lengthAnswer, lengthNumber, lengthValue, readNumber, readWords, readStart, insertPlan, severalPlan, severalFigures, deletePlan, markPlan, recoverNeeded};
 
 // The answer of format.
 pub enum Formatted {
@@ -188,6 +191,35 @@ pub fn insert_several(
     }
 }
 
+// What an insert of several records will do: the first and the last cell that it uses, in order of use, and how many stores it makes. Nothing
+// is stored. Worn nodes are passed over.
+pub fn insert_several_figures(
+    words: &[u16],
+    list: u16,
+    position: u16,
+    start: u16,
+    records: &[u16],
+) -> Foretold
+    ensures figures { λ r. ⌜ r ≡ severalFigures (now (words .entry)) list position start (now (records .entry)) ⌝ }
+    ensures number { λ r. ⌜ foretoldNumber r ≡ planNumber (severalPlan (now (words .entry)) list position start (now (records .entry))) ⌝ }
+    ensures stores { λ r. ⌜ foretoldStores r ≡ neededStores (neededOf (severalPlan (now (words .entry)) list position start (now (records .entry)))) ⌝ }
+    ensures worn { λ r. ⌜ foretoldUnworn (layoutOf (now (words .entry))) (now (words .entry)) r ⌝ }
+{
+    let whole = Request::Whole(list);
+    match word_requests::look(words, whole) {
+        Looked::Refused(n) => Foretold::Refused(n),
+        Looked::At(l, t) => {
+            let size = records.len();
+            match word_requests::ends(words, l, t.count, position, start, size) {
+                Ends::Refused(n) => Foretold::Refused(n),
+                Ends::Cells(first, last) => {
+                    Foretold::Figures(first, last, edits::several_stores(l, size))
+                }
+            }
+        }
+    }
+}
+
 // Deletes the record of the list at the position.
 pub fn delete(words: &mut [u16], list: u16, position: u16, allowance: u16) -> Answer
     ensures answer { λ r. ⌜ r ≡ answerOf (deletePlan (now (words .entry)) list position) allowance ⌝ }
@@ -228,5 +260,16 @@ pub fn recover(words: &mut [u16], allowance: u16) -> Answer
     match layout::open(words) {
         Opened::Refused(n) => Answer::Refused(n),
         Opened::Open(l) => word_mending::recover_in(words, l, allowance),
+    }
+}
+
+// How many stores a recovery will make. Nothing is stored.
+pub fn recover_stores(words: &[u16]) -> Needed
+    ensures stores { λ r. ⌜ r ≡ recoverNeeded (now (words .entry)) ⌝ }
+    ensures number { λ r. ⌜ neededNumber r ≡ planNumber (recoverPlan (now (words .entry))) ⌝ }
+{
+    match layout::open(words) {
+        Opened::Refused(n) => Needed::Refused(n),
+        Opened::Open(l) => word_mending::stores_in(words, l),
     }
 }

@@ -1,9 +1,12 @@
 // Insert, delete, mark and recover on lent bytes: what the calls of crate axle_store are on words. That the bytes are even is asked above, in crate axle.
+use edits::Foretold;
 use layout::Layout;
 use layout::Opened;
+use requests::Ends;
 use requests::Looked;
 use requests::Request;
 use stores::Answer;
+use stores::Needed;
 ghost use mathlib.Core.Path.{_≡_};
 ghost use Prim.Native.Nat.{_%_, _≤_};
 ghost use lib.ListN.{length};
@@ -11,9 +14,9 @@ ghost use Rattle.stores.specs.Stores.{answerOf};
 ghost use Rattle.byte_form.specs.Bytes.{wordsIn, bytesAfter};
 ghost use Rattle.layout.specs.Words.{headWords, layoutOf};
 ghost use Rattle.lists.specs.Lists.{KeepsWorn};
-ghost use Rattle.edits.specs.Edits.{markStores};
+ghost use Rattle.edits.specs.Edits.{markStores, foretoldUnworn};
 ghost use Rattle.recovery.specs.Plan.{recoverPlan};
-ghost use Rattle.axle_store.specs.Calls.{insertPlan, severalPlan, deletePlan, markPlan};
+ghost use Rattle.axle_store.specs.Calls.{insertPlan, severalPlan, severalFigures, deletePlan, markPlan, recoverNeeded};
 ghost use Rattle.byte_calls.specs.Records.{recordWords};
 
 // The layout of a store that is open. It is read again by the calls that store: that is quicker than to hand it on with the site.
@@ -86,6 +89,29 @@ pub fn insert_several(
     }
 }
 
+// What an insert of several records will do. Worn nodes are passed over.
+pub fn insert_several_figures(
+    bytes: &[u8],
+    list: u16,
+    position: u16,
+    start: u16,
+    records: &[u8],
+) -> Foretold
+    ensures figures { λ r. ⌜ r ≡ severalFigures (wordsIn (now (bytes .entry))) list position start (recordWords (now (records .entry))) ⌝ }
+    ensures worn { λ r. ⌜ foretoldUnworn (layoutOf (wordsIn (now (bytes .entry)))) (wordsIn (now (bytes .entry))) r ⌝ }
+{
+    let size = record_size(records);
+    match byte_requests::look(bytes, Request::Whole(list)) {
+        Looked::Refused(n) => Foretold::Refused(n),
+        Looked::At(l, t) => match byte_requests::ends(bytes, l, t.count, position, start, size) {
+            Ends::Refused(n) => Foretold::Refused(n),
+            Ends::Cells(first, last) => {
+                Foretold::Figures(first, last, edits::several_stores(l, size))
+            }
+        },
+    }
+}
+
 // Deletes a record.
 pub fn delete(bytes: &mut [u8], list: u16, position: u16, allowance: u16) -> Answer
     ensures answer { λ r. ⌜ r ≡ answerOf (deletePlan (wordsIn (now (bytes .entry))) list position) allowance ⌝ }
@@ -119,5 +145,15 @@ pub fn recover(bytes: &mut [u8], allowance: u16) -> Answer
     match byte_requests::open(bytes) {
         Opened::Refused(n) => Answer::Refused(n),
         Opened::Open(l) => byte_mending::recover_in(bytes, l, allowance),
+    }
+}
+
+// How many stores recovery of any store will make.
+pub fn recover_stores(bytes: &[u8]) -> Needed
+    ensures { λ r. ⌜ r ≡ recoverNeeded (wordsIn (now (bytes .entry))) ⌝ }
+{
+    match byte_requests::open(bytes) {
+        Opened::Refused(n) => Needed::Refused(n),
+        Opened::Open(l) => byte_mending::stores_in(bytes, l),
     }
 }

@@ -1,17 +1,19 @@
 // Recovery of a store in byte form, decided in the lent bytes: each list is walked there, and the mends are kept in short rows. Only if
 // a node in no list may be in use by its identifier, the identifiers are read into a column and the members erased there. The wipes need no
-// column: once the mends and the clears are made, the nodes to be wiped are the free ones.
+// column: once the mends and the clears are made, the nodes to be wiped are the free ones. What is found also tells,
+// without a store, how many there will be.
 use layout::Layout;
 use mending::Found;
 use mending::Mends;
 use spans::Grid;
 use stores::Answer;
+use stores::Needed;
 use stores::Rows;
 ghost use mathlib.Core.Path.{_≡_};
 ghost use Prim.Native.Nat.{_+_};
 ghost use mathlib.Core.List.{_++_};
 ghost use lib.ListN.{length};
-ghost use Rattle.stores.specs.Stores.{run, stores, answerOf, writesIn, Held};
+ghost use Rattle.stores.specs.Stores.{run, stores, answerOf, neededOf, writesIn, Held};
 ghost use Rattle.byte_form.specs.Bytes.{wordsIn, appliedBytes, bytesAfter};
 ghost use Rattle.layout.specs.Words.{mostCells, Laid, sizeOf};
 ghost use Rattle.lists.specs.Decide.{viewOf, countIn};
@@ -106,4 +108,45 @@ pub fn recover_in(bytes: &mut [u8], l: Layout, allowance: u16) -> Answer
         return recover_none_left(bytes, l, g, mends, allowance);
     }
     byte_form::run_rows(bytes, mends, allowance)
+}
+
+// How many stores recovery will make of a store where a node in no list may be in use by its identifier.
+fn stores_left(
+    bytes: &[u8],
+    l: Layout,
+    g: Grid,
+    m: Mends,
+    idents: &mut [u16; Layout::MAX_CELLS],
+) -> Needed
+    requires { ⌜ Gridded l g × Laid l (wordsIn (now bytes)) × MendsOf l (viewOf l (wordsIn (now bytes))) (countIn l (wordsIn (now bytes))) m × (m .refusal ≡ 0) × (mostCells ≡ length (now idents)) ⌝ }
+    ensures { λ r. ⌜ r ≡ neededOf (recoverOf l (wordsIn (now (bytes .entry)))) ⌝ }
+{
+    let back = m.back;
+    let rows = m.rows;
+    byte_clears::read_nodes(idents, bytes, l, g);
+    byte_clears::erase_all(idents, bytes, l, g, back);
+    Needed::Stores(rows.len as u16 + byte_counts::outside_stores(bytes, idents, l, g))
+}
+
+// How many stores recovery of a store of this layout will make.
+pub fn stores_in(bytes: &[u8], l: Layout) -> Needed
+    requires { ⌜ Laid l (wordsIn (now bytes)) ⌝ }
+    ensures { λ r. ⌜ r ≡ neededOf (recoverOf l (wordsIn (now (bytes .entry)))) ⌝ }
+{
+    let g = Grid::of(l);
+    let found = decide(bytes, l, g);
+    let lists = found.mends;
+    if lists.refusal != 0 {
+        return Needed::Refused(lists.refusal);
+    }
+    if found.left {
+        let mut idents = mending::column();
+        return stores_left(bytes, l, g, lists, &mut idents);
+    }
+    let rows = lists.rows;
+    let mends = rows.len as u16;
+    if !found.unwiped {
+        return Needed::Stores(mends);
+    }
+    Needed::Stores(mends + byte_counts::free_wipes(bytes, l, g))
 }

@@ -12,21 +12,24 @@
 //     8 k p c m v1 .. vm a            insert of the record v1 .. vm (at most 64 words) from cell c on, allowance a
 //                                     prints 'insert k p c m a = ANSWER', then the words or their checksum
 //     9 k p a         delete          prints 'delete k p a = ANSWER', then the same
-//     10 a            recover         prints 'recover a = ANSWER', then the same
+//     10 a            recover         prints 'told = NUMBER STORES', 'recover a = ANSWER', then the same
 //     11 k p c v b w n u1 .. un       all courses of one call on the store, which is left as it is (at most 64 words)
 //                                     prints 'courses k p c v b w n = DIGEST'
 //     12 k p c m n v1 .. vn a         insert of several records from cell c on, allowance a: m words in all (at most 32,100), which
 //                                     are v1 .. vn over and over (n is not 0)
-//                                     prints 'insert_several k p c m a = ANSWER', then the words or their checksum
+//                                     prints 'told = NUMBER FIRST LAST STORES', 'insert_several k p c m a = ANSWER', then the words or
+//                                     their checksum
 //     13 c            mark_worn       prints 'mark_worn c = ANSWER', then the words or their checksum
 //
 // The courses of operation 11: the delete at position p of list k, if c is 0, else the insert of the record v there from cell c on;
 // cut after 0 to 7 stores; then word b altered to w, and each word from 8 on, one at a time, to each of u1 .. un; then a recovery
 // cut after any number of the stores that a whole one makes, a second one cut after any number of the rest, and a whole one. The
-// digest depends on every answer and on the words that each course leaves.
+// digest depends on every answer, on what is told before each recovery, and on the words that each course leaves.
 //
-// An ANSWER is 'done', 'stopped' or 'refused' and its number. Words outside the store are not stored. An unknown operation, an
-// entry that is cut short, a record or records that are too long end the run with the line 'bad script'. The last line is 'end'.
+// What is told is told of the call with full allowance, before it is made. An ANSWER is 'done', 'stopped' or 'refused' and its number. Words
+// outside the store are not stored. An unknown operation, an entry that is cut short, a record or records that are too long end the run with
+// the line 'bad script'. The last line is 'end'.
+use edits::Foretold;
 use libc::STDIN_FILENO;
 use libc::STDOUT_FILENO;
 use stores::Answer;
@@ -258,8 +261,18 @@ fn delete(words: &mut [u16], list: u16, position: u16, allowance: u16) {
     print_answer(answer, words);
 }
 
+// What is told of a recovery.
+fn print_needed(words: &[u16]) {
+    printing::text(b"told =");
+    let needed = axle_store::recover_stores(words);
+    printing::spaced(needed.number());
+    printing::spaced(needed.stores());
+    printing::text(b"\n");
+}
+
 // Operation 10.
 fn recover(words: &mut [u16], allowance: u16) {
+    print_needed(words);
     printing::text(b"recover");
     printing::spaced(allowance);
     let answer = axle_store::recover(words, allowance);
@@ -283,20 +296,19 @@ fn copy(words: &mut [u16], others: &[u16]) {
     }
 }
 
-// The stores that a whole recovery of the words makes, 0 if it is refused.
-fn needed(words: &mut [u16]) -> u16 {
-    let Answer::Done(n) = axle_store::recover(words, 65535) else {
-        return 0;
-    };
-    n
+// A recovery, and what is told of it.
+fn recovered(words: &mut [u16], allowance: u16, sum: u64) -> u64 {
+    let needed = axle_store::recover_stores(words);
+    let told = mixed(mixed(sum, needed.number()), needed.stores());
+    mixed_answer(told, axle_store::recover(words, allowance))
 }
 
 // The end of a course: recoveries cut after a and after b stores, and a whole one.
 fn recoveries(found: &[u16], words: &mut [u16], a: u16, b: u16, sum: u64) -> u64 {
     copy(words, found);
-    let first = mixed_answer(sum, axle_store::recover(words, a));
-    let second = mixed_answer(first, axle_store::recover(words, b));
-    let last = mixed_answer(second, axle_store::recover(words, 65535));
+    let first = recovered(words, a, sum);
+    let second = recovered(words, b, first);
+    let last = recovered(words, 65535, second);
     mixed_words(last, words)
 }
 
@@ -313,8 +325,7 @@ fn second_cuts(found: &[u16], words: &mut [u16], a: u16, left: u16, sum: u64) ->
 
 // All recoveries of the words found.
 fn all_recoveries(found: &[u16], words: &mut [u16], sum: u64) -> u64 {
-    copy(words, found);
-    let whole = needed(words);
+    let whole = axle_store::recover_stores(found).stores();
     let mut sum = sum;
     let mut a: u16 = 0;
     while a < whole {
@@ -451,6 +462,29 @@ fn records_of(entry: &[u8]) -> [u16; 32100]
     records
 }
 
+// What is told of an insert of the records in the first m words.
+fn told_first_several(
+    words: &[u16],
+    list: u16,
+    position: u16,
+    start: u16,
+    records: &[u16],
+    m: usize,
+) -> Foretold
+    requires { ⌜ m ≤ length (now records) ⌝ }
+{
+    axle_store::insert_several_figures(words, list, position, start, &records[..m])
+}
+
+fn print_foretold(told: Foretold) {
+    printing::text(b"told =");
+    printing::spaced(told.number());
+    printing::spaced(told.first());
+    printing::spaced(told.last());
+    printing::spaced(told.stores());
+    printing::text(b"\n");
+}
+
 // Inserts the records in the first m words.
 fn insert_first_several(
     words: &mut [u16],
@@ -476,13 +510,14 @@ fn insert_several(words: &mut [u16], entry: &[u8]) {
         return;
     }
     let allowance = word(entry, 6 + word(entry, 5) as usize);
+    let records = records_of(entry);
+    print_foretold(told_first_several(words, list, position, start, &records, m));
     printing::text(b"insert_several");
     printing::spaced(list);
     printing::spaced(position);
     printing::spaced(start);
     printing::spaced(word(entry, 4));
     printing::spaced(allowance);
-    let records = records_of(entry);
     let answer = insert_first_several(words, list, position, start, &records, m, allowance);
     print_answer(answer, words);
 }

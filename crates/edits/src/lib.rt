@@ -3,20 +3,71 @@
 use layout::Layout;
 use requests::Site;
 ghost use mathlib.Core.Path.{_≡_};
-ghost use Prim.Native.Nat.{_+_, _-_, _<_};
+ghost use Prim.Native.Nat.{_+_, _-_, _*_, _/_, _≤_, _<_};
 ghost use Rattle.layout.specs.Words.{InRange, linkWords, cellCount, cellAt, countAt, sizeOf};
 ghost use Rattle.stores.specs.Stores.{Listed};
-ghost use Rattle.edits.specs.Edits.{insertLinks, deleteLinks, Placed};
+ghost use Rattle.edits.specs.Edits.{insertLinks, insertStores, deleteLinks, Placed, foretoldNumber, foretoldFirst, foretoldLast, foretoldStores};
 
 // Six stores, and four: their addresses and their values.
 pub struct Six {
-    pub at: [u16; 6],
-    pub values: [u16; 6],
+    pub at: [u16; Six::LEN],
+    pub values: [u16; Six::LEN],
+}
+
+impl Six {
+    pub const LEN: usize = 6;
 }
 
 pub struct Four {
     pub at: [u16; 4],
     pub values: [u16; 4],
+}
+
+// What an insert of several records will do, told before its first store: the first and the last cell that it uses, in order of use, and how
+// many stores it makes.
+pub enum Foretold {
+    Figures(u16, u16, u16),
+    Refused(u16),
+}
+
+impl Foretold {
+    // The number of the refusal, 0 for none.
+    pub fn number(self) -> u16
+        ensures { λ r. ⌜ r ≡ foretoldNumber self ⌝ }
+    {
+        match self {
+            Foretold::Figures(_, _, _) => 0,
+            Foretold::Refused(n) => n,
+        }
+    }
+
+    // The first cell, the last cell and the number of stores, each 0 if refused.
+    pub fn first(self) -> u16
+        ensures { λ r. ⌜ r ≡ foretoldFirst self ⌝ }
+    {
+        match self {
+            Foretold::Figures(a, _, _) => a,
+            Foretold::Refused(_) => 0,
+        }
+    }
+
+    pub fn last(self) -> u16
+        ensures { λ r. ⌜ r ≡ foretoldLast self ⌝ }
+    {
+        match self {
+            Foretold::Figures(_, b, _) => b,
+            Foretold::Refused(_) => 0,
+        }
+    }
+
+    pub fn stores(self) -> u16
+        ensures { λ r. ⌜ r ≡ foretoldStores self ⌝ }
+    {
+        match self {
+            Foretold::Figures(_, _, n) => n,
+            Foretold::Refused(_) => 0,
+        }
+    }
 }
 
 // The address of word f of cell i.
@@ -52,6 +103,24 @@ pub fn insert_links(l: Layout, k: u16, t: Site) -> Six
     ];
     let values = [t.after, t.before, ident, count, t.cell, t.cell];
     Six { at, values }
+}
+
+// How many stores an insert makes: the words of the record, and those behind them.
+fn insert_stores(l: Layout) -> usize
+    requires { ⌜ InRange l ⌝ }
+    ensures { λ r. ⌜ r ≡ insertStores l ⌝ }
+{
+    l.node_words() - Layout::LINK_WORDS + Six::LEN
+}
+
+// How many stores an insert of several records makes, of so many words in all.
+pub fn several_stores(l: Layout, size: usize) -> u16
+    requires { ⌜ InRange l × (size / l .width ≤ l .nodes) ⌝ }
+    ensures { λ r. ⌜ r ≡ size / l .width * insertStores l ⌝ }
+{
+    let width = l.width as usize;
+    let records = size / width;
+    (records * insert_stores(l)) as u16
 }
 
 // One less; 0 has none less.

@@ -25,7 +25,7 @@ use Rattle.recovery.proofs.Candidates.{fit-accepted}
 use Rattle.fitting.specs.Fitting.{numberOf, fitIn, carries}
 use Rattle.mending.specs.Mending.{total, walkAt}
 use Rattle.fitting.proofs.Members.{members-carry}
-use Rattle.fitting.proofs.Told.{Few, few-summed, faultSum, summed-others, chosen-told}
+use Rattle.fitting.proofs.Told.{few-summed, faultSum, summed-others, chosen-told}
 
 -- the members of all lists: as many as the lists have, ..
 length-joined : (s : ℕ → List ℕ) (n : ℕ) → length (joined s n) ≡ total (λ k. length (s k)) n
@@ -81,30 +81,32 @@ module _ (l : Layout) (w : List ℕ) (s : ℕ → List ℕ) (fits : (k : ℕ) �
                 (is-used (viewOf l w) (firstNode l) (l .nodes) c (n .low) (n .high) (in-use _ z)) o,
           ))
 
--- As it is told by the walks: no list is refused, all members carry an identifier that says in use, and they are as many as the nodes
--- that do. Then every node in no list is free or worn.
-pub nothing-left : (l : Layout) → InRange l → (w : List ℕ)
-    → ((k : ℕ) → k < l .lists → numberOf (fitIn l (viewOf l w) k (countIn l w k)) ≡ 0)
-    → ((k : ℕ) → k < l .lists → carries (viewOf l w .ident) (walkAt l (viewOf l w) (countIn l w) k .faults) ≡ true)
-    → total (λ k. walkAt l (viewOf l w) (countIn l w) k .members) (l .lists) ≡ length (used (viewOf l w) (firstNode l) (l .nodes))
-    → (c : ℕ) → Node l c → (c ∈ joined (fittingOf l w) (l .lists) → ⊥) → Unlisted (getD w (identAt l c) 0)
-nothing-left l r w fitted carried number =
-    none-else l w s fits
-    (λ k h. members-carry (viewOf l w) k (s k) (few k h)
-    (ap (carries (viewOf l w .ident)) (sym (chosen-told l w k h (fitted k h) .2)) ∙ carried k h) (omega (arith, h, r .lists)))
-    (length-joined s (l .lists)
-    ∙ total-same (λ k. length (s k)) (λ k. walkAt l (viewOf l w) (countIn l w) k .members) (l .lists)
-    (λ k h. sym (chosen-told l w k h (fitted k h) .3))
-    ∙ number)
-  where
-    s : ℕ → List ℕ
-    s = fittingOf l w
+-- As it is told by the walks: no list is refused, and all members carry an identifier that says in use.
+module _ (l : Layout) (r : InRange l) (w : List ℕ)
+    (fitted : (k : ℕ) → k < l .lists → numberOf (fitIn l (viewOf l w) k (countIn l w k)) ≡ 0)
+    (carried : (k : ℕ) → k < l .lists → carries (viewOf l w .ident) (walkAt l (viewOf l w) (countIn l w) k .faults) ≡ true) where
+  abbrev s : ℕ → List ℕ
+  s = fittingOf l w
 
-    fits : (k : ℕ) → k < l .lists → Fits l w k (s k)
-    fits = fit-accepted l w s (λ k h. chosen-told l w k h (fitted k h) .0) .fits
+  fits : (k : ℕ) → k < l .lists → Fits l w k (s k)
+  fits = fit-accepted l w s (λ k h. chosen-told l w k h (fitted k h) .0) .fits
 
-    few : (k : ℕ) → k < l .lists → Few (faultSum l w k (s k))
-    few k h = few-summed l (faultSum l w k (s k)) (wrong w (othersAsked l k (s k))) (summed-others l w k (s k)) (fits k h .few)
+  pub all-carry : (k : ℕ) → k < l .lists → (x : ℕ) → x ∈ s k → Unlisted (getD w (identAt l x) 0) → ⊥
+  all-carry k h =
+      members-carry (viewOf l w) k (s k)
+      (few-summed l (faultSum l w k (s k)) (wrong w (othersAsked l k (s k))) (summed-others l w k (s k)) (fits k h .few))
+      (ap (carries (viewOf l w .ident)) (sym (chosen-told l w k h (fitted k h) .2)) ∙ carried k h)
+      (omega (arith, h, r .lists))
+
+  -- If they are as many as the nodes that do, every node in no list is free or worn.
+  pub nothing-left : total (λ k. walkAt l (viewOf l w) (countIn l w) k .members) (l .lists) ≡ length (used (viewOf l w) (firstNode l) (l .nodes))
+      → (c : ℕ) → Node l c → (c ∈ joined s (l .lists) → ⊥) → Unlisted (getD w (identAt l c) 0)
+  nothing-left number =
+      none-else l w s fits all-carry
+      (length-joined s (l .lists)
+      ∙ total-same (λ k. length (s k)) (λ k. walkAt l (viewOf l w) (countIn l w) k .members) (l .lists)
+      (λ k h. sym (chosen-told l w k h (fitted k h) .3))
+      ∙ number)
 
 -- so nothing is to be cleared ..
 pub clears-nothing : (l : Layout) (w : List ℕ) (s : ℕ → List ℕ) → ((c : ℕ) → Node l c → (c ∈ joined s (l .lists) → ⊥) → Unlisted (getD w (identAt l c) 0))

@@ -7,3 +7,5 @@ pub mod LeftOver
 pub mod Wiping
 pub mod Recovered
 pub mod Finding
+pub mod Counting
+pub mod Counted

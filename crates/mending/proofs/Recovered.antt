@@ -17,7 +17,7 @@ use Rattle.layout.specs.Words.{mostCells, firstNode, Node, InRange, sizeOf, ide
 use Rattle.lists.specs.Lists.{asked, othersAsked, countAsked}
 use Rattle.lists.specs.Decide.{View, viewOf, countIn, used, unwiped}
 use Rattle.recovery.specs.Fits.{wrong}
-use Rattle.recovery.specs.Plan.{joined, listsAsked, clearsAsked, fittingOf, refusalFrom, recoverOf, Accepted}
+use Rattle.recovery.specs.Plan.{joined, listsAsked, clearsAsked, wipesAsked, fittingOf, refusalFrom, recoverOf, Accepted}
 use Rattle.recovery.proofs.Required.{wrong-right, wrong-wrong, wrong-append}
 use Rattle.recovery.proofs.Whole.{number-accepted}
 use Rattle.fitting.specs.declared.Fitted.{Fitted}
@@ -27,7 +27,7 @@ use Rattle.fitting.proofs.Told.{Told, fit-told, chosen-told, members-told}
 use Rattle.mending.specs.declared.Mends.{Mends}
 use Rattle.mending.specs.Mending.{refusalIn, listMends, mendsIn, erasedFrom, clears, wipes, MendsOf}
 use Rattle.mending.proofs.Cleared.{Column, column-told, clears-told}
-use Rattle.mending.proofs.LeftOver.{nothing-left, clears-nothing, wipes-nothing}
+use Rattle.mending.proofs.LeftOver.{all-carry, nothing-left, clears-nothing, wipes-nothing}
 use Rattle.mending.proofs.Wiping.{plan-parted, plan-told}
 
 -- the first list that is refused is the same
@@ -124,7 +124,16 @@ module _ (l : Layout) (w : List ℕ) (m : Mends) (told : MendsOf l (viewOf l w) 
     mends : writesIn (m .rows) ≡ wrong w (listsAsked l s)
     mends = told .rows z ∙ mends-told l w fitted (l .lists) (omega arith)
 
-    -- the stores: the mends, the clears, and the wipes of what these leave ..
+    -- the stores in three parts, as they are required of the words
+    pub parts-told : recoverOf l w ≡ stores ((writesIn (m .rows) ++ wrong w (clearsAsked l w s)) ++ wrong w (wipesAsked l w s))
+    unfolding recoverOf
+    parts-told =
+        rw (eq-eqb _ _ (sym refusal ∙ z))
+        (ap stores
+        (plan-parted l w s exact accepted
+        ∙ ap (λ (ps : List Write). (ps ++ wrong w (clearsAsked l w s)) ++ wrong w (wipesAsked l w s)) (sym mends)))
+
+    -- as they are made: the mends, the clears, and the wipes of what these leave ..
     stores-told : (cs : List Write) → cs ≡ wrong w (clearsAsked l w s) → let ps = writesIn (m .rows) ++ cs in recoverOf l w ≡ stores (ps ++ wipes l (run ps w))
     unfolding recoverOf
     stores-told cs e =
@@ -149,10 +158,14 @@ module _ (l : Layout) (w : List ℕ) (m : Mends) (told : MendsOf l (viewOf l w) 
 
     -- .. without clears, if nobody is left over; and the mends alone, if no free node has a record
     module _ (r : InRange l) (e : (m .carried && eqb (m .members) (length (used v (firstNode l) (l .nodes)))) ≡ true) where
-      unlisted : (c : ℕ) → Node l c → (c ∈ joined s (l .lists) → ⊥) → Unlisted (getD w (identAt l c) 0)
-      unlisted =
-          let both = and-eq-true-iff _ _ .0 e in
-          nothing-left l r w fitted (told .carried z (both .0)) (sym (told .members z) ∙ eqb-true _ _ (both .1))
+      both : (m .carried ≡ true) × (eqb (m .members) (length (used v (firstNode l) (l .nodes))) ≡ true)
+      both = and-eq-true-iff _ _ .0 e
+
+      pub listed : (k : ℕ) → k < l .lists → (c : ℕ) → c ∈ s k → Unlisted (getD w (identAt l c) 0) → ⊥
+      listed = all-carry l r w fitted (told .carried z (both .0))
+
+      pub unlisted : (c : ℕ) → Node l c → (c ∈ joined s (l .lists) → ⊥) → Unlisted (getD w (identAt l c) 0)
+      unlisted = nothing-left l r w fitted (told .carried z (both .0)) (sym (told .members z) ∙ eqb-true _ _ (both .1))
 
       pub recover-wipes : recoverOf l w ≡ stores (writesIn (m .rows) ++ wipes l (run (writesIn (m .rows)) w))
       recover-wipes =
@@ -160,11 +173,9 @@ module _ (l : Layout) (w : List ℕ) (m : Mends) (told : MendsOf l (viewOf l w) 
           ∙ ap (λ (ps : List Write). stores (ps ++ wipes l (run ps w))) (append-nil (writesIn (m .rows)))
 
       pub recover-mends : length (unwiped v (firstNode l) (l .nodes)) ≡ 0 → recoverOf l w ≡ stores (writesIn (m .rows))
-      unfolding recoverOf
       recover-mends q =
-          rw (eq-eqb _ _ (sym refusal ∙ z))
-          (ap stores
-          (plan-parted l w s exact accepted
-          ∙ ap₂ _++_ (ap₂ _++_ (sym mends) (clears-nothing l w s unlisted)) (wipes-nothing l w s unlisted q)
+          parts-told
+          ∙ ap stores
+          (ap₂ (λ (a b : List Write). (writesIn (m .rows) ++ a) ++ b) (clears-nothing l w s unlisted) (wipes-nothing l w s unlisted q)
           ∙ append-nil (writesIn (m .rows) ++ [])
-          ∙ append-nil (writesIn (m .rows))))
+          ∙ append-nil (writesIn (m .rows)))

@@ -3,7 +3,7 @@ use Prim.Native.Nat.{ℕ, suc, _+_, _-_, _<_, _≤_}
 use mathlib.Core.Path.{_≡_, refl, ap, _∙_, sym, subst}
 use mathlib.Core.List.{List, [], _∷_, _++_, append-assoc, List·Memᴰ, Memᴰ·append-left, Memᴰ·map}
 use mathlib.Core.Bool.{Bool, true, false, not, cond}
-use mathlib.Core.Logic.{_⊎_, inl, inr, ⊎-elim}
+use mathlib.Core.Logic.{inl, inr, ⊎-elim}
 use native.Mathlib.Omega.{arith}
 use lib.ListN.{length, getD, set, replicate, take}
 use borrow.Author.Tests.{eq-eqb, ne-eqb, eqb-true, eqb-false}
@@ -72,10 +72,13 @@ module _ (w : List ℕ) (b e : ℕ) (h : b < e) where
   pub row-zero : getD w b 0 ≡ 0 → rowLeft w b e ≡ rowLeft w (b + 1) e
   row-zero z = row-first ∙ wrong-right w (write b 0) (inRow (b + 1) (replicate (e - (b + 1)) 0)) z
 
+  -- one that is not, whether it stays or is wiped
+  pub row-other : (getD w b 0 ≡ 0 → ⊥) → rowLeft w b e ≡ write b 0 ∷ rowLeft w (b + 1) e
+  row-other n = row-first ∙ wrong-wrong w (write b 0) (inRow (b + 1) (replicate (e - (b + 1)) 0)) n
+
   pub row-one : (getD w b 0 ≡ 0 → ⊥) → rowLeft w b e ≡ (write b 0 ∷ []) ++ rowLeft (set w b 0) (b + 1) e
   row-one n =
-      row-first
-      ∙ wrong-wrong w (write b 0) (inRow (b + 1) (replicate (e - (b + 1)) 0)) n
+      row-other n
       ∙ ap (λ (ps : List Write). write b 0 ∷ ps)
       (sym
       (wrong-out w b 0 (inRow (b + 1) (replicate (e - (b + 1)) 0))

@@ -10,7 +10,7 @@ use Rattle.stores.specs.declared.Answer.{Answer}
 use Rattle.stores.specs.declared.Answer.the-variants as A
 use Rattle.stores.specs.Stores.{Write, write, applied, stores, answerOf, more, writesIn, Held}
 use Rattle.layout.specs.declared.Layout.{Layout}
-use Rattle.layout.specs.Words.{firstNode, isNode, identAt, wornIdent, isFree, inUse, sizeOf}
+use Rattle.layout.specs.Words.{firstNode, isNode, identAt, wornIdent, isFree, isWorn, inUse, sizeOf}
 use Rattle.lists.specs.Lists.{blankAsked}
 use Rattle.lists.specs.Decide.{View, viewOf, countIn, cellsWith, used, unwiped}
 use Rattle.recovery.specs.Fits.{wrong}
@@ -82,6 +82,16 @@ wipesFrom l w a n = wrong w (blanksAsked l (cellsWith isFree (viewOf l w) a n))
 -- the wipes of all nodes that are free
 abbrev pub wipes : Layout → List ℕ → List Write
 wipes l w = wipesFrom l w (firstNode l) (l .nodes)
+
+-- "for a recovery, the number of stores it will make": of these, how many go to node c, by its entry e in the column. None, if that says member or
+-- worn; else its clear, if the entry says in use, and its wipes.
+abbrev pub outsideOf : Layout → List ℕ → ℕ → ℕ → ℕ
+outsideOf l w e c = cond (isWorn e) 0 (cond (inUse e) 1 0 + length (wrong w (blankAsked l c)))
+
+-- and how many to the n cells from a on
+unfoldable pub outsideFrom : Layout → List ℕ → List ℕ → ℕ → ℕ → ℕ
+outsideFrom l w idents a zero = 0
+outsideFrom l w idents a (suc n) = outsideOf l w (getD idents a 0) a + outsideFrom l w idents (suc a) n
 
 -- stores that follow on others, which were answered r under the allowance m: the answer to all, and the words that the others are left in
 abbrev pub answerOn : Answer → List Write → ℕ → Answer

@@ -22,14 +22,14 @@ pub struct Mend {
     pub number: usize,
 }
 
-// What is found of all lists: the number of the first that is refused, 0 for none; how many members they have, and whether each
-// is in use by its identifier; which lists go by their back links; and the mends, list 0 first.
+// What is found of all lists: the mends, list 0 first; which lists go by their back links; how many members they have; the number of the first
+// that is refused, 0 for none; and whether each member is in use by its identifier. The larger fields stand first: so it is copied in whole words.
 pub struct Mends {
-    pub refusal: u16,
-    pub members: u32,
-    pub carried: bool,
-    pub back: [bool; Layout::MAX_LISTS],
     pub rows: Rows,
+    pub back: [bool; Layout::MAX_LISTS],
+    pub members: u32,
+    pub refusal: u16,
+    pub carried: bool,
 }
 
 // What recovery finds of a store before its first store: what it finds of the lists; may a node in no list be in use by its identifier; has a

@@ -10,7 +10,7 @@ use lib.Seq.{take-at}
 use borrow.Author.Tests.{eq-eqb, eqb-true, eqb-false}
 use Rattle.sequences.specs.Sequence.{_∈_, All, Different, filter}
 use Rattle.sequences.proofs.Members.{all-in, in-all, all-append, at-in, out-without}
-use Rattle.sequences.proofs.Filter.{filter-append}
+use Rattle.sequences.proofs.Filter.{filter-append, filter-length}
 use Rattle.layout.specs.declared.Layout.{Layout}
 use Rattle.layout.specs.Words.{Node, isFree}
 use Rattle.requests.specs.declared.Free.the-variants.{Cell, Full}
@@ -185,3 +185,7 @@ pub free-again : (l : Layout) (ident : ℕ → ℕ) (c x : ℕ) → Node l c →
 free-again l ident c x h some e =
     let f = free-found ident (around l c (l .nodes)) x (sym (nth-first ident (around l c (l .nodes))) ∙ e) in
     free-from l ident c x (drop 1 (freeCells ident (around l c (l .nodes)))) h some f ∙ sym f
+
+-- they are no more than there are nodes
+pub free-few : (l : Layout) (ident : ℕ → ℕ) (c : ℕ) → length (freeCells ident (around l c (l .nodes))) ≤ l .nodes
+free-few l ident c = omega (arith, filter-length (λ x. isFree (ident x)) (around l c (l .nodes)), around-length l c (l .nodes))

@@ -11,9 +11,11 @@ use lib.Dec.{eqb, leb, ltb}
 use lib.ListN.{length, getD}
 use borrow.Author.Tests.{lt-ltb, le-ltb, le-leb, lt-leb, eq-eqb, ne-eqb, leb-true, ltb-true, eqb-true}
 use Rattle.layout.specs.declared.Layout.{Layout}
-use Rattle.layout.specs.Words.{Node, isNode, cellCount, ask}
+use Rattle.layout.specs.declared.Opened.{Opened}
+use Rattle.layout.specs.declared.Opened.the-variants as O
+use Rattle.layout.specs.Words.{Node, isNode, cellCount, ask, opened, afterOpen}
 use Rattle.layout.proofs.Laws.{is-node}
-use Rattle.lists.specs.Decide.{View, sequenceIn, HeldList}
+use Rattle.lists.specs.Decide.{View, viewOf, countIn, sequenceIn, sequenceOf, soundIn, HeldList}
 use Rattle.lists.proofs.Ring.{held-count, ring-node, ring-inside, ring-end, ring-after, ring-before}
 use Rattle.requests.specs.declared.Free.{Free}
 use Rattle.requests.specs.declared.Free.the-variants.{Cell, Full}
@@ -22,7 +24,9 @@ use Rattle.requests.specs.declared.Ends.the-variants as E
 use Rattle.requests.specs.declared.Site.{Site}
 use Rattle.requests.specs.declared.Sited.{Sited}
 use Rattle.requests.specs.declared.Sited.the-variants.{At, Refused}
-use Rattle.requests.specs.Requests.{nextCell, around, firstFree, withFree, freeCells, nth, endsOf, memberAt, askGap, freeGap, gapAt, askGaps, gapsAt, endsAt, withEnds}
+use Rattle.requests.specs.declared.Request.the-variants.{Whole, Gaps}
+use Rattle.requests.specs.declared.Looked.the-variants as K
+use Rattle.requests.specs.Requests.{nextCell, around, firstFree, withFree, freeCells, nth, endsOf, memberAt, askGap, freeGap, gapAt, askGaps, gapsAt, endsAt, withEnds, siteIn, siteOf, withSite, lookOf, withLook}
 use Rattle.requests.specs.Sites.{gapSite, nextSite}
 use Rattle.requests.proofs.Laws.{asked-number, gaps-asked, gaps-number}
 use Rattle.requests.proofs.Search.{nth-cell, nth-none, nth-at, nth-first}
@@ -89,30 +93,16 @@ module _ (l : Layout) (ident : ℕ → ℕ) (k p c : ℕ) (s : List ℕ) where
     unfolding gapAt
     gap-open z = rw (← h) (sym (asked-number l n p c m e Refused _ ∙ rw (eq-eqb r 0 z)))
 
-  -- the same of several records; and by question 10, if the free cells are too few
-  module _ {n : ℕ} (h : n ≡ length s) (m : ℕ) {r : ℕ} (e : r ≡ askGaps l n p c m (λ x. x) 0) where
-    abbrev free : ℕ
-    free = length (freeCells ident (around l c (l .nodes)))
-
-    pub gaps-shut : (r ≡ 0 → ⊥) → Refused r ≡ gapsAt l ident k p c m s
-    unfolding gapsAt
-    gaps-shut z = rw (← h) (sym (gaps-number l n p c m e Refused _ ∙ rw (ne-eqb r 0 z)))
-
-    pub gaps-few : r ≡ 0 → free < m / l .width → Refused 10 ≡ gapsAt l ident k p c m s
-    unfolding gapsAt
-    gaps-few z g = rw (← h) (sym (gaps-number l n p c m e Refused _ ∙ rw (eq-eqb r 0 z, lt-leb (m / l .width) free g)))
-
-    pub gaps-open : r ≡ 0 → m / l .width ≤ free → freeGap l ident k p c s ≡ gapsAt l ident k p c m s
-    unfolding gapsAt
-    gaps-open z g = rw (← h) (sym (gaps-number l n p c m e Refused _ ∙ rw (eq-eqb r 0 z, le-leb (m / l .width) free g)))
-
 -- words that are whole records, and not none, are one record or more
-pub some-records : (m w : ℕ) → 0 < m → m % w ≡ 0 → 0 < m / w
-some-records m w h z = by (ℕ-discrete (m / w) 0)
+pub some-whole : (m w : ℕ) → 0 < m → m ≡ m / w * w → 0 < m / w
+some-whole m w h e = by (ℕ-discrete (m / w) 0)
   where
     by : Dec (m / w ≡ 0) → 0 < m / w
-    by (yes q) = absurd (omega (arith, z, div-add-mod' m w, ap (λ (i : ℕ). i * w) q, zero-mul w))
+    by (yes q) = absurd (omega (arith, e, ap (λ (i : ℕ). i * w) q, zero-mul w))
     by (no q) = omega arith
+
+some-records : (m w : ℕ) → 0 < m → m % w ≡ 0 → 0 < m / w
+some-records m w h z = some-whole m w h (omega (arith, z, div-add-mod' m w))
 
 -- the ends of the free cells for several records, m words in all, into a list of n members
 module _ (l : Layout) (ident : ℕ → ℕ) (n p c m : ℕ) where
@@ -196,6 +186,38 @@ gaps-ends l ident k p c m s =
         sym
         (gap-free l ident k p c s
         (sym (nth-at cells 0 (omega (arith, some, leb-true (m / l .width) (length cells) h))) ∙ nth-first ident (around l c (l .nodes))))
+
+-- so the questions of several records are those of the whole list, and then those of their cells
+pub look-gaps : (w : List ℕ) (k p c m : ℕ)
+    → lookOf w (Gaps k p c m)
+    ≡ withLook (lookOf w (Whole k)) K.Refused
+    (λ l t. withEnds (endsAt l (viewOf l w .ident) (t .count) p c m) K.Refused (λ a b. K.At l (gapSite k p a (sequenceOf l w k))))
+unfolding lookOf siteIn
+look-gaps w k p c m = by (opened w)
+  where
+    ended : (l : Layout) (s : List ℕ) (x : Ends)
+        → withSite (withEnds x Refused (λ a b. At (gapSite k p a s))) K.Refused (λ t. K.At l t) ≡ withEnds x K.Refused (λ a b. K.At l (gapSite k p a s))
+    ended l s (E.Refused n) = refl
+    ended l s (E.Cells a b) = refl
+
+    sited : (l : Layout) (a b : Bool)
+        → (let s = sequenceOf l w k in
+        withSite (ask a (Refused 5) (ask b (Refused 6) (gapsAt l (viewOf l w .ident) k p c m s))) K.Refused (λ t. K.At l t)
+        ≡ withLook (withSite (ask a (Refused 5) (ask b (Refused 6) (At (record { before = k; cell = k; after = k; count = length s })))) K.Refused (λ t. K.At l t)) K.Refused
+        (λ l t. withEnds (endsAt l (viewOf l w .ident) (t .count) p c m) K.Refused (λ a b. K.At l (gapSite k p a (sequenceOf l w k)))))
+    sited l false b = refl
+    sited l true false = refl
+    sited l true true =
+        let s = sequenceOf l w k in
+        let ident = viewOf l w .ident in
+        ap (λ (x : Sited). withSite x K.Refused (λ t. K.At l t)) (gaps-ends l ident k p c m s) ∙ ended l s (endsAt l ident (length s) p c m)
+
+    by : (o : Opened)
+        → afterOpen o K.Refused (λ l. withSite (siteOf l w (Gaps k p c m)) K.Refused (λ t. K.At l t))
+        ≡ withLook (afterOpen o K.Refused (λ l. withSite (siteOf l w (Whole k)) K.Refused (λ t. K.At l t))) K.Refused
+        (λ l t. withEnds (endsAt l (viewOf l w .ident) (t .count) p c m) K.Refused (λ a b. K.At l (gapSite k p a (sequenceOf l w k))))
+    by (O.Refused n) = refl
+    by (O.Open l) = sited l (ltb k (l .lists)) (soundIn l (viewOf l w) (countIn l w))
 
 -- the next site: no cell is free, or the first that is
 module _ (l : Layout) (ident : ℕ → ℕ) (t : Site) where

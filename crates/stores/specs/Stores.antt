@@ -10,6 +10,8 @@ use Rattle.layout.specs.Words.{mostLists}
 use Rattle.stores.specs.declared.Answer.{Answer}
 use Rattle.stores.specs.declared.Rows.{Rows}
 use Rattle.stores.specs.declared.Answer.the-variants as A
+use Rattle.stores.specs.declared.Needed.{Needed}
+use Rattle.stores.specs.declared.Needed.the-variants as N
 
 -- a word store: word `at` becomes `value`
 pub record Write : Type 0 where
@@ -76,6 +78,20 @@ planNumber (stores ps) = 0
 abbrev pub madeBy : Plan → ℕ → List Write
 madeBy (refuse n) m = []
 madeBy (stores ps) m = take m ps
+
+-- "the number of stores it will make": all stores of a plan, told before the first of them; "where it would refuse, its number is given"
+abbrev pub neededOf : Plan → Needed
+neededOf (refuse n) = N.Refused n
+neededOf (stores ps) = N.Stores (length ps)
+
+-- the number of what is told, 0 for none, and its number of stores, 0 if refused, by its cases
+abbrev pub neededNumber : Needed → ℕ
+neededNumber (N.Stores n) = 0
+neededNumber (N.Refused n) = n
+
+abbrev pub neededStores : Needed → ℕ
+neededStores (N.Stores n) = n
+neededStores (N.Refused n) = 0
 
 -- the stores whose addresses and values stand in two rows
 unfoldable pub writesOf : List ℕ → List ℕ → List Write

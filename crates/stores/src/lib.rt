@@ -5,7 +5,7 @@ use layout::Layout;
 ghost use mathlib.Core.Path.{_≡_};
 ghost use Prim.Native.Nat.{_+_, _<_, _≤_};
 ghost use lib.ListN.{length, getD};
-ghost use Rattle.stores.specs.Stores.{write, store, stores, applied, answerOf, answerNumber, answerStores, writesOf, inRow, writesIn, Planned, Held};
+ghost use Rattle.stores.specs.Stores.{write, store, stores, applied, answerOf, answerNumber, answerStores, neededNumber, neededStores, writesOf, inRow, writesIn, Planned, Held};
 
 // The answer of a call that stores.
 pub enum Answer {
@@ -34,6 +34,34 @@ impl Answer {
             Answer::Done(n) => n,
             Answer::Stopped(n) => n,
             Answer::Refused(_) => 0,
+        }
+    }
+}
+
+// How many stores a call will make, told before the first of them.
+pub enum Needed {
+    Stores(u16),
+    Refused(u16),
+}
+
+impl Needed {
+    // The number of the refusal, 0 for none.
+    pub fn number(self) -> u16
+        ensures { λ r. ⌜ r ≡ neededNumber self ⌝ }
+    {
+        match self {
+            Needed::Stores(_) => 0,
+            Needed::Refused(n) => n,
+        }
+    }
+
+    // The number of stores, 0 if refused.
+    pub fn stores(self) -> u16
+        ensures { λ r. ⌜ r ≡ neededStores self ⌝ }
+    {
+        match self {
+            Needed::Stores(n) => n,
+            Needed::Refused(_) => 0,
         }
     }
 }

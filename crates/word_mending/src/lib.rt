@@ -1,17 +1,19 @@
 // Recovery of a store in words, decided in the lent words: each list is walked there, and the mends are kept in short rows. Only if a
 // node in no list may be in use by its identifier, the identifiers are read into a column and the members erased there. The wipes need no
-// column: once the mends and the clears are made, the nodes to be wiped are the free ones.
+// column: once the mends and the clears are made, the nodes to be wiped are the free ones. What is found also tells,
+// without a store, how many there will be.
 use layout::Layout;
 use mending::Found;
 use mending::Mends;
 use spans::Grid;
 use stores::Answer;
+use stores::Needed;
 use stores::Rows;
 ghost use mathlib.Core.Path.{_≡_};
 ghost use Prim.Native.Nat.{_+_};
 ghost use mathlib.Core.List.{_++_};
 ghost use lib.ListN.{length};
-ghost use Rattle.stores.specs.Stores.{run, stores, answerOf, applied, wordsAfter, writesIn, Held};
+ghost use Rattle.stores.specs.Stores.{run, stores, answerOf, applied, wordsAfter, neededOf, writesIn, Held};
 ghost use Rattle.layout.specs.Words.{mostCells, Laid, sizeOf};
 ghost use Rattle.lists.specs.Decide.{viewOf, countIn};
 ghost use Rattle.spans.specs.Spans.{Gridded};
@@ -105,4 +107,45 @@ pub fn recover_in(words: &mut [u16], l: Layout, allowance: u16) -> Answer
         return recover_none_left(words, l, g, mends, allowance);
     }
     stores::run_rows(words, mends, allowance)
+}
+
+// How many stores recovery will make of a store where a node in no list may be in use by its identifier.
+fn stores_left(
+    words: &[u16],
+    l: Layout,
+    g: Grid,
+    m: Mends,
+    idents: &mut [u16; Layout::MAX_CELLS],
+) -> Needed
+    requires { ⌜ Gridded l g × Laid l (now words) × MendsOf l (viewOf l (now words)) (countIn l (now words)) m × (m .refusal ≡ 0) × (mostCells ≡ length (now idents)) ⌝ }
+    ensures { λ r. ⌜ r ≡ neededOf (recoverOf l (now (words .entry))) ⌝ }
+{
+    let back = m.back;
+    let rows = m.rows;
+    word_clears::read_nodes(idents, words, l, g);
+    word_clears::erase_all(idents, words, l, g, back);
+    Needed::Stores(rows.len as u16 + word_counts::outside_stores(words, idents, l, g))
+}
+
+// How many stores recovery of a store of this layout will make.
+pub fn stores_in(words: &[u16], l: Layout) -> Needed
+    requires { ⌜ Laid l (now words) ⌝ }
+    ensures { λ r. ⌜ r ≡ neededOf (recoverOf l (now (words .entry))) ⌝ }
+{
+    let g = Grid::of(l);
+    let found = decide(words, l, g);
+    let lists = found.mends;
+    if lists.refusal != 0 {
+        return Needed::Refused(lists.refusal);
+    }
+    if found.left {
+        let mut idents = mending::column();
+        return stores_left(words, l, g, lists, &mut idents);
+    }
+    let rows = lists.rows;
+    let mends = rows.len as u16;
+    if !found.unwiped {
+        return Needed::Stores(mends);
+    }
+    Needed::Stores(mends + word_counts::free_wipes(words, l, g))
 }

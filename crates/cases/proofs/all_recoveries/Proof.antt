@@ -12,11 +12,11 @@ Inv-loop found words₀ sum whole sum₀ a₀ words sum' a = (a ≤ whole) × (l
 abbrev μ-loop : tie.MeasureT-loop
 μ-loop found words₀ sum whole sum₀ a₀ words sum' a = whole - a
 
-copy-requires : tie.Need-copy-requires Inv-loop μ-loop
-copy-requires c κs = search needs
+recover-stores-requires : tie.Need-recover-stores-requires Inv-loop μ-loop
+recover-stores-requires c κs = search needs
 
-needed-requires : tie.Need-needed-requires Inv-loop μ-loop
-needed-requires c κs = search needs
+stores-requires : tie.Need-stores-requires Inv-loop μ-loop
+stores-requires c κs = search needs
 
 loop-holds : tie.Need-loop-holds Inv-loop μ-loop
 loop-holds c = search needs
@@ -51,8 +51,8 @@ all-recoveries-spec =
     (tie.spec
     Inv-loop
     μ-loop
-    copy-requires
-    needed-requires
+    recover-stores-requires
+    stores-requires
     loop-holds
     sub-second-cuts
     second-cuts-requires
