@@ -1,5 +1,6 @@
 /*
  * The sheet of a brake test: a store in a memory-mapped file, axles put in, one tested again, the power cut, the sheet printed.
+ * Before a vehicle rolls on it is asked whether there is room for its axles.
  *
  *     sheet FILE [STORES]
  *
@@ -63,16 +64,17 @@ static uint8_t *open_store(const char *path)
     return store;
 }
 
-/* To be done at every power-up, before anything else: recovery, and a check. */
+/* To be done at every power-up, before anything else: recovery, and a check. How many stores it takes is told beforehand. */
 static void power_up(uint8_t *store)
 {
-    uint32_t found = axle_check(store, BYTES);
+    uint32_t found = axle_check(store, BYTES), needed = axle_recover_stores(store, BYTES);
+    expect("recover stores", needed, axle_is_done(needed));
+    printf("power-up: check %u, needs %u stores", (unsigned)found, (unsigned)axle_number(needed));
     uint32_t answer = axle_recover(store, BYTES, AXLE_WHOLE);
-    expect("recover", answer, axle_is_done(answer));
+    expect("recover", answer, answer == needed);
     uint32_t now = axle_check(store, BYTES);
     expect("check", now, now == 0);
-    printf("power-up: check %u, recovered with %u stores, check %u\n", (unsigned)found, (unsigned)axle_number(answer),
-           (unsigned)now);
+    printf(", made %u, check %u\n", (unsigned)axle_number(answer), (unsigned)now);
 }
 
 /* A word of the store or of a record: low byte first. */
@@ -113,6 +115,26 @@ static void print_sheet(const uint8_t *store)
     expect("check", answer, answer == 0);
     for (uint16_t list = 0; list < LISTS; list++)
         print_list(store, list);
+}
+
+/*
+ * Before a vehicle rolls on: is there room for its axles? The cells that they get and the stores are told before anything is
+ * measured, since it does not matter what the records hold.
+ */
+static void announce(const uint8_t *store, const char *vehicle, size_t axles)
+{
+    static const uint8_t records[12 * AXLE_RECORD_BYTES(WORDS)];
+    size_t len = AXLE_RECORD_BYTES(WORDS) * axles;
+    uint32_t stores = axle_insert_several_stores(store, BYTES, SERVICE, 0, LISTS, records, len);
+    if (stores == AXLE_FULL) {
+        printf("%s: no room, warn the driver\n", vehicle);
+        return;
+    }
+    expect("insert stores", stores, axle_is_done(stores));
+    uint32_t first = axle_insert_several_first_cell(store, BYTES, SERVICE, 0, LISTS, records, len);
+    uint32_t last = axle_insert_several_last_cell(store, BYTES, SERVICE, 0, LISTS, records, len);
+    printf("%s: room from cell %u to cell %u, %u stores\n", vehicle, (unsigned)axle_number(first), (unsigned)axle_number(last),
+           (unsigned)axle_number(stores));
 }
 
 /* Inserts axles one behind the other, in one call. The search for free nodes starts at the first node. */
@@ -158,7 +180,8 @@ int main(int argc, char **argv)
         while (length_of(store, list) > 0) /* the bus before */
             delete_whole(store, list, 0);
 
-    puts("a bus of three axles, in one call");
+    announce(store, "a trailer of twelve axles", 12);
+    announce(store, "a bus of three axles", 3);
     insert_whole(store, SERVICE, 0, bus, 3);
     insert_whole(store, PARKING, 0, handbrake, 1);
     print_sheet(store);

@@ -14,6 +14,8 @@
  *     axle_insert_several(store, sizeof store, 0, 1, 2, records, sizeof records, AXLE_WHOLE);      as many as there are
  *     axle_delete(store, sizeof store, 0, 0, AXLE_WHOLE);
  *     axle_mark_worn(store, sizeof store, 5);                                cell 5 is never used again
+ *     axle_insert_several_stores(store, sizeof store, 0, 1, 2, records, sizeof records);       told beforehand: is there room?
+ *     axle_recover_stores(store, sizeof store);                              told beforehand: how many stores?
  *
  * WORDS. A word is 16 bits, in two bytes, low byte first. A record is given in the same form. The layout is below; it is
  * described with examples in docs/FORMAT.md.
@@ -28,12 +30,13 @@
  *     1 to 13                refused; see the table
  *     AXLE_DONE + n          axle_length: the list has n records
  *                            the inserts, axle_delete, axle_mark_worn, axle_recover: done, with n word stores
+ *                            what is told beforehand: the figure is n
  *     AXLE_STOPPED + n       the inserts, axle_delete, axle_recover: stopped after n word stores, because the allowance
  *                            was smaller than the number needed
  *
  * A call asks the questions that concern it, in this order. The first no decides, and its number is the answer. A store of
  * an odd number of bytes is answered 4 before all else; records of an odd number of bytes are answered 9 in their turn. Both
- * inserts ask the same questions but for 9 and 10.
+ * inserts ask the same questions but for 9 and 10. A call that tells a figure of another asks the questions of that one.
  *
  *     No    Name                Question                                            Asked by
  *      1    AXLE_SHORT          Are there 8 words (16 bytes) or more?               all but format
@@ -53,6 +56,17 @@
  *     12    AXLE_TWO_FIT        and only one, or one that has the count's length?   recover
  *                               (asked before the next list's 11)
  *     13    AXLE_NOT_FREE       Is the node to mark free?                           mark_worn
+ *
+ * TOLD BEFOREHAND. Four calls say what another would do, and write nothing: of axle_insert_several the first and the last cell
+ * in order of use and the number of word stores, of axle_recover the number of word stores. The figure is that of the call on
+ * the same bytes with AXLE_WHOLE; where that call would be refused, so is this one, with the same number. What the records
+ * hold does not matter, so a box can ask before a vehicle rolls on, with any bytes of the right length:
+ *
+ *     if (axle_insert_several_stores(store, sizeof store, 0, 0, 2, records, 12 * AXLE_RECORD_BYTES(3)) == AXLE_FULL)
+ *         ...                                                                  no room for twelve axles: warn the driver
+ *
+ * A recovery of n stores that was cut after m of them has n - m left: that is told then. Of a sound store it is 0. The store
+ * may lie where it cannot be written.
  *
  * POWER CUTS. Insert, delete and recover change the store by word stores, one after the other, each low byte before high.
  * One of them is central: number P + 5 of the P + 6 of an insert, number 2 of the P + 4 of a delete. An insert of several
@@ -129,7 +143,8 @@
  * COST. A call that asks question 6 looks at every node's identifier and at the record of every free node, and goes once
  * through every list. To a position it goes link by link from the nearer end of the list: in min(p + 1, n - p) steps to
  * delete at position p of n records, in min(p, n + 1 - p) to insert there, never more than half of n, rounded up. The last
- * records cost no more than the first, and a record is appended in one step.
+ * records cost no more than the first, and a record is appended in one step. The cells and stores of an insert are told for
+ * a check and one turn round the nodes, the stores of a recovery for what it decides before its first one.
  *
  * THREADS. The calls have no state of their own and may run at the same time on different stores. On one store the caller
  * must let one call at a time through, the reading ones too, from interrupts as from threads. While a call runs nobody else
@@ -158,7 +173,7 @@ extern "C" {
 
 /* The version of the library: in numbers, and as text "MAJOR.MINOR.PATCH". */
 #define AXLE_VERSION_MAJOR 1
-#define AXLE_VERSION_MINOR 6
+#define AXLE_VERSION_MINOR 7
 #define AXLE_VERSION_PATCH 0
 #define AXLE_VERSION AXLE_DOTTED(AXLE_VERSION_MAJOR, AXLE_VERSION_MINOR, AXLE_VERSION_PATCH)
 #define AXLE_DOTTED(a, b, c) AXLE_QUOTED(a) "." AXLE_QUOTED(b) "." AXLE_QUOTED(c)
@@ -186,7 +201,7 @@ extern "C" {
 static inline int axle_is_refused(uint32_t answer) { return answer != 0 && answer < AXLE_DONE; }
 static inline int axle_is_done(uint32_t answer) { return answer >= AXLE_DONE && answer < AXLE_STOPPED; }
 static inline int axle_is_stopped(uint32_t answer) { return answer >= AXLE_STOPPED; }
-/* The refusal's number, the length, or the number of stores. */
+/* The refusal's number, the length, the number of stores, or the figure told. */
 static inline uint16_t axle_number(uint32_t answer) { return (uint16_t)(answer & 0xffffu); }
 
 /* Limits. Each number is at least 1. */
@@ -268,6 +283,28 @@ uint32_t axle_insert_several(uint8_t *store, size_t store_len, uint16_t list, ui
                              const uint8_t *records, size_t records_len, uint16_t allowance);
 
 /*
+ * Which node would axle_insert_several put the first record in? Its cell number is told, and nothing is written. The arguments
+ * are those of the call, but for the allowance.
+ * Answers: AXLE_DONE + the cell, 1 to 10.
+ */
+uint32_t axle_insert_several_first_cell(const uint8_t *store, size_t store_len, uint16_t list, uint16_t position,
+                                        uint16_t start, const uint8_t *records, size_t records_len);
+
+/*
+ * And the last record? The cell may be lower than the first: the search goes on from the first node after the last.
+ * Answers: AXLE_DONE + the cell, 1 to 10.
+ */
+uint32_t axle_insert_several_last_cell(const uint8_t *store, size_t store_len, uint16_t list, uint16_t position,
+                                       uint16_t start, const uint8_t *records, size_t records_len);
+
+/*
+ * How many word stores would axle_insert_several make? What it answers with AXLE_WHOLE, and nothing is written.
+ * Answers: AXLE_DONE + AXLE_INSERT_SEVERAL_STORES(P, records), 1 to 10.
+ */
+uint32_t axle_insert_several_stores(const uint8_t *store, size_t store_len, uint16_t list, uint16_t position,
+                                    uint16_t start, const uint8_t *records, size_t records_len);
+
+/*
  * Deletes the record at the position, and wipes it. Its node is free then. The stores: the back behind it, the forward
  * before it (central), the count, its identifier, and 0 to each of its P record words, first word first.
  * Answers: AXLE_DONE + P + 4, AXLE_STOPPED + the allowance, 1 to 7.
@@ -292,6 +329,12 @@ uint32_t axle_mark_worn(uint8_t *store, size_t store_len, uint16_t cell);
  * Answers: AXLE_DONE + the number of stores, AXLE_STOPPED + the allowance, 1 to 4, 11, 12.
  */
 uint32_t axle_recover(uint8_t *store, size_t store_len, uint16_t allowance);
+
+/*
+ * How many word stores would axle_recover make? What it answers with AXLE_WHOLE, and nothing is written.
+ * Answers: AXLE_DONE + the number of stores, 1 to 4, 11, 12.
+ */
+uint32_t axle_recover_stores(const uint8_t *store, size_t store_len);
 
 #ifdef __cplusplus
 }

@@ -1,7 +1,8 @@
 /*
  * The C interface through include/axle.h: every call, every answer number, the marked store C1 to C10 byte by byte at every
  * allowance. Each call is made on a lent store and a lent record between canaries, at four alignments, and on blocks that end
- * where the lent bytes end, for valgrind to watch. The last line is 'N passed, M failed'.
+ * where the lent bytes end, for valgrind to watch. What is told of inserts and recoveries beforehand is asked before each. The
+ * last line is 'N passed, M failed'.
  */
 #include <axle.h>
 #include <stdio.h>
@@ -12,9 +13,15 @@
 #define LONGEST_RECORD 40
 #define ROOM 32 /* canary bytes on each side */
 
-enum call { FORMAT, CHECK, LENGTH, INSERT, INSERT_SEVERAL, DELETE, RECOVER, MARK_WORN, CALLS };
-static const char *const call_names[CALLS] = {"format",         "check",  "length",  "insert",
-                                              "insert several", "delete", "recover", "mark worn"};
+enum call {
+    FORMAT, CHECK, LENGTH, INSERT, INSERT_SEVERAL, DELETE, RECOVER, MARK_WORN,
+    FIRST_CELL, LAST_CELL, SEVERAL_STORES, RECOVER_STORES, /* told beforehand */
+    CALLS
+};
+static const char *const call_names[CALLS] = {
+    "format", "check", "length", "insert", "insert several", "delete", "recover", "mark worn",
+    "first cell", "last cell", "several stores", "recover stores",
+};
 
 static unsigned long passed, failed;
 
@@ -80,6 +87,10 @@ static uint32_t make(uint8_t *store, size_t len, const struct arguments *a, cons
         return axle_insert_several(store, len, a->list, a->position, a->start, record, a->record_len, allowance);
     case DELETE: return axle_delete(store, len, a->list, a->position, allowance);
     case MARK_WORN: return axle_mark_worn(store, len, a->start);
+    case FIRST_CELL: return axle_insert_several_first_cell(store, len, a->list, a->position, a->start, record, a->record_len);
+    case LAST_CELL: return axle_insert_several_last_cell(store, len, a->list, a->position, a->start, record, a->record_len);
+    case SEVERAL_STORES: return axle_insert_several_stores(store, len, a->list, a->position, a->start, record, a->record_len);
+    case RECOVER_STORES: return axle_recover_stores(store, len);
     default: return axle_recover(store, len, allowance);
     }
 }
@@ -149,20 +160,53 @@ static void gives(struct bytes before, struct arguments a, uint16_t allowance, u
     in_blocks(&before, &a, allowance, answer, &after);
 }
 
+/* This is told beforehand of an insert of several records, or of a recovery, and nothing is written. */
+static void tells(struct bytes b, struct arguments a, uint32_t first, uint32_t last, uint32_t number)
+{
+    if (a.call == RECOVER) {
+        a.call = RECOVER_STORES;
+        gives(b, a, 0, number, b);
+    }
+    if (a.call == INSERT_SEVERAL) {
+        a.call = FIRST_CELL;
+        gives(b, a, 0, first, b);
+        a.call = LAST_CELL;
+        gives(b, a, 0, last, b);
+        a.call = SEVERAL_STORES;
+        gives(b, a, 0, number, b);
+    }
+}
+
 /* The call is refused with this number, at every allowance. */
 static void refused(struct bytes before, struct arguments a, uint32_t number)
 {
+    tells(before, a, number, number, number);
     for (uint16_t allowance = 0; allowance < 10; allowance++)
         gives(before, a, allowance, number, before);
     gives(before, a, AXLE_WHOLE, number, before);
 }
 
-/* The call makes these stores in their order: at every allowance the first of them. Returns the bytes with all made. */
+/* What is told of a call that makes these stores: of an insert the values of its first and last central store, and how many they are. */
+static void tells_of(struct bytes before, struct arguments a, const struct change *changes, size_t count)
+{
+    if (a.call == INSERT)
+        a.call = INSERT_SEVERAL;
+    uint16_t first = 0, last = 0;
+    if (a.call == INSERT_SEVERAL)
+        first = changes[AXLE_INSERT_CENTRAL(before.at[12]) - 1].value, last = changes[count - 2].value;
+    tells(before, a, AXLE_DONE + first, AXLE_DONE + last, AXLE_DONE + (uint32_t)count);
+}
+
+/* The call makes these stores in their order: at every allowance the first of them. A recovery that is cut has the others left. Returns
+   the bytes with all made. */
 static struct bytes stores(struct bytes before, struct arguments a, const struct change *changes, size_t count)
 {
+    tells_of(before, a, changes, count);
     for (size_t n = 0; n <= count + 2; n++) {
         uint32_t answer = n < count ? AXLE_STOPPED + (uint32_t)n : AXLE_DONE + (uint32_t)count;
         gives(before, a, (uint16_t)n, answer, with(before, changes, n < count ? n : count));
+        if (a.call == RECOVER && n <= count)
+            tells(with(before, changes, n), a, 0, 0, AXLE_DONE + (uint32_t)(count - n));
     }
     struct bytes after = with(before, changes, count);
     gives(before, a, AXLE_WHOLE, AXLE_DONE + (uint32_t)count, after);
@@ -372,6 +416,33 @@ static void several_records(void)
     refused(c2, several_of(0, 1, 4, 3, words), 8);
 }
 
+/* What is told of the marked store, in memory that nobody may write: of C1, formatted, and of C4, an insert cut after 5 stores. */
+static void told_beforehand(void)
+{
+    static const uint8_t formatted[48] = {82, 0, 66, 0, 83, 0, 1, 0, 1, 0, 3, 0, 1, 0, 0, 0, 0xa0, 0xa5};
+    static const uint8_t cut[48] = {
+        82, 0, 66, 0, 83, 0, 1, 0, 1, 0, 3, 0, 1, 0, 0, 0, /* words 0 to 7 */
+        0xa0, 0xa5, 2, 0, 2, 0, 2, 0,                      /* the header counts 2 */
+        0, 0, 0, 0, 0, 0, 0, 0,                            /* cell 1 is free */
+        0xa0, 0xa5, 0, 0, 0, 0, 0xbc, 2,                   /* cell 2 has 700 */
+        0xa0, 0xa5, 0, 0, 2, 0, 0, 2,                      /* cell 3 has 512, and no link leads to it */
+    };
+    static const uint8_t records[8] = {0};
+    for (size_t len = 2; len <= sizeof records; len += 2) {
+        uint32_t first = axle_insert_several_first_cell(formatted, 48, 0, 0, 3, records, len);
+        uint32_t last = axle_insert_several_last_cell(formatted, 48, 0, 0, 3, records, len);
+        uint32_t number = axle_insert_several_stores(formatted, 48, 0, 0, 3, records, len);
+        holds(first == (len < 8 ? AXLE_DONE + 3 : AXLE_FULL), "the first of cells 3, 1, 2", first, len);
+        holds(last == (len < 8 ? AXLE_DONE + (len == 2 ? 3 : len == 4 ? 1 : 2) : AXLE_FULL), "the last of them", last, len);
+        holds(number == (len < 8 ? AXLE_DONE + 7 * len / 2 : AXLE_FULL), "their stores", number, len);
+    }
+    holds(axle_recover_stores(formatted, 48) == AXLE_DONE, "no store of a sound store", 0, 0);
+    holds(axle_recover_stores(cut, 48) == AXLE_DONE + 3, "11 = 1, 20 = 0, 23 = 0", 0, 0);
+    holds(axle_insert_several_stores(cut, 48, 0, 0, 3, records, 2) == AXLE_UNSOUND, "an insert before recovery", 0, 0);
+    holds(axle_recover_stores(NULL, 0) == AXLE_SHORT, "no bytes", 0, 0);
+    holds(axle_insert_several_stores(formatted, 48, 0, 0, 3, NULL, 0) == AXLE_RECORD_SIZE, "no records", 0, 0);
+}
+
 /* The marked store with cell 2 worn: the records go past it, to cells 3 and 1, and recovery lets it be. */
 static void worn_nodes(void)
 {
@@ -519,8 +590,10 @@ static void nothing_remains(void)
             holds(answer == (n < 9 ? AXLE_STOPPED : AXLE_DONE) + n, "a delete of five words", answer, n);
             holds(n < 9 || !found(store, LEN, record[1], 10), "what is left after a delete", n, m);
             axle_recover(store, LEN, m);
+            uint32_t told = axle_recover_stores(store, LEN);
             answer = axle_recover(store, LEN, AXLE_WHOLE);
             holds(axle_is_done(answer) && axle_check(store, LEN) == 0, "recovery of a cut delete", answer, n);
+            holds(told == answer && axle_recover_stores(store, LEN) == AXLE_DONE, "what is told of it", told, answer);
             int there = n < AXLE_DELETE_CENTRAL;
             holds(there ? memcmp(store, full, LEN) == 0 : !found(store, LEN, record[1], 10), "what is left of it", n, m);
             holds(found(store, LEN, record[0], 10) && found(store, LEN, record[2], 10), "the other records", n, m);
@@ -538,6 +611,9 @@ static void wear_out(uint8_t *large, size_t len)
         holds(answer == AXLE_DONE + 1, "a mark in the largest store", answer, cell);
     }
     holds(axle_check(large, len) == 0 && axle_recover(large, len, 0) == AXLE_DONE, "nearly all nodes worn", 0, 0);
+    uint32_t told = axle_insert_several_first_cell(large, len, 4, 0, 8, record, sizeof record);
+    holds(told == AXLE_DONE + 2007 && told == axle_insert_several_last_cell(large, len, 4, 0, 8, record, sizeof record),
+          "the only cell", told, 0);
     uint32_t answer = axle_insert(large, len, 4, 0, 8, record, sizeof record, AXLE_WHOLE);
     holds(answer == AXLE_DONE + 19 && large[last] == 0xa4 && large[last + 1] == 0xa5, "an insert past them", answer, 0);
     answer = axle_mark_worn(large, len, 2007);
@@ -550,8 +626,15 @@ static void wear_out(uint8_t *large, size_t len)
     holds(answer == AXLE_FULL && axle_check(large, len) == 0, "all nodes worn", answer, 0);
 }
 
+/* The call as a figure is asked of it. */
+static struct arguments told_of(struct arguments a, enum call figure)
+{
+    a.call = figure;
+    return a;
+}
+
 /* Every call that opens a store. */
-static const size_t OPENING = 7;
+static const size_t OPENING = 11;
 static struct arguments opening(size_t i)
 {
     switch (i) {
@@ -561,7 +644,11 @@ static struct arguments opening(size_t i)
     case 3: return delete_of(0, 0);
     case 4: return several_of(0, 0, 1, 2, c1_words);
     case 5: return mark_of(1);
-    default: return plain(RECOVER);
+    case 6: return plain(RECOVER);
+    case 7: return plain(RECOVER_STORES);
+    case 8: return told_of(opening(4), FIRST_CELL);
+    case 9: return told_of(opening(4), LAST_CELL);
+    default: return told_of(opening(4), SEVERAL_STORES);
     }
 }
 
@@ -603,6 +690,14 @@ static void fill_at_once(uint8_t *large, size_t len)
     axle_format(large, len, 8, 2000, 13);
     uint32_t answer = axle_insert_several(large, len, 7, 0, 1000, records, records_len + AXLE_RECORD_BYTES(13), AXLE_WHOLE);
     holds(answer == AXLE_FULL, "one record too many", answer, 0);
+    answer = axle_insert_several_stores(large, len, 7, 0, 1000, records, records_len + AXLE_RECORD_BYTES(13));
+    holds(answer == AXLE_FULL, "that it is one too many", answer, 0);
+    answer = axle_insert_several_stores(large, len, 7, 0, 1000, records, records_len);
+    holds(answer == AXLE_DONE + 38000, "the stores of 2,000 records", answer, 0);
+    answer = axle_insert_several_first_cell(large, len, 7, 0, 1000, records, records_len);
+    holds(answer == AXLE_DONE + 1000, "the first of their cells", answer, 0);
+    answer = axle_insert_several_last_cell(large, len, 7, 0, 1000, records, records_len);
+    holds(answer == AXLE_DONE + 999, "the last of their cells", answer, 0);
     answer = axle_insert_several(large, len, 7, 0, 1000, records, records_len, (uint16_t)(whole - 1));
     holds(answer == AXLE_STOPPED + 37999, "2,000 records, cut before the last store", answer, 0);
     answer = axle_recover(large, len, AXLE_WHOLE);
@@ -676,8 +771,12 @@ static void formats(void)
         large[2 * AXLE_HEADER_WORD(list)] = large[2 * AXLE_HEADER_WORD(list) + 6] = 1; /* every header's identifier and count */
     memset(large + 2 * AXLE_NODE_WORD(8, 13, 8), 1, 2000 * 2 * (3 + 13)); /* every word of every node */
     uint16_t most = AXLE_RECOVER_STORES(8, 2000, 13);
+    answer = axle_recover_stores(large, len);
+    holds(answer == AXLE_DONE + 28016, "the most stores, told", answer, 0);
     answer = axle_recover(large, len, (uint16_t)(most - 1));
     holds(answer == AXLE_STOPPED + 28015, "the most stores, cut before the last", answer, 0);
+    answer = axle_recover_stores(large, len);
+    holds(answer == AXLE_DONE + 1, "the last of them, told", answer, 0);
     holds(axle_check(large, len) == AXLE_UNSOUND, "a word is left", 0, 0);
     answer = axle_recover(large, len, AXLE_WHOLE);
     holds(answer == AXLE_DONE + 1, "the most stores, the last", answer, 0);
@@ -791,6 +890,10 @@ static void all_seen(void)
         {0, 1, 1, 1, 1, 1, 1, 1, 0, 0, 0, 0, 0, 0, 1, 1},
         {0, 1, 1, 1, 1, 0, 0, 0, 0, 0, 0, 1, 1, 0, 1, 1},
         {0, 1, 1, 1, 1, 0, 1, 0, 1, 0, 0, 0, 0, 1, 1},
+        {0, 1, 1, 1, 1, 1, 1, 1, 1, 1, 1, 0, 0, 0, 1},
+        {0, 1, 1, 1, 1, 1, 1, 1, 1, 1, 1, 0, 0, 0, 1},
+        {0, 1, 1, 1, 1, 1, 1, 1, 1, 1, 1, 0, 0, 0, 1},
+        {0, 1, 1, 1, 1, 0, 0, 0, 0, 0, 0, 1, 1, 0, 1},
     };
     for (size_t call = 0; call < CALLS; call++)
         for (size_t i = 0; i < 16; i++)
@@ -802,6 +905,7 @@ int main(void)
     marked_store();
     wrong_counts();
     several_records();
+    told_beforehand();
     worn_nodes();
     older_stores();
     nothing_remains();

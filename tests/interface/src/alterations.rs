@@ -105,12 +105,15 @@ fn small_stores() -> BTreeSet<Vec<u16>> {
 }
 
 impl Tests {
-    /// Check answers so, and the model too.
+    /// Check answers so, and the model too. By one turn in 29 it is asked what a recovery needs.
     fn answered(&mut self, store: &mut Store, number: u16) {
         let (answer, model) = (Check.make(&mut store.bytes, &[], 0), check(&store.words));
         self.holds((answer, model) == (number.into(), number), || {
             format!("check: answer {answer}, the model's {model}, expected {number}; {:?}", store.words)
         });
+        if self.passed % 29 == 0 {
+            self.foretold(&store.bytes, &Recover);
+        }
     }
 
     /// Check answers so with these words altered, and the model too. They are put back.

@@ -2,10 +2,10 @@
 
 use interface::memory::Block;
 use interface::stores::{record, unworn};
-use interface::{read, Call, Call::*, DONE, ENOUGH};
+use interface::{read, words_of, Call, Call::*, DONE, ENOUGH, STOPPED};
 use model::random::Random;
 use model::samples::{deal, wear};
-use model::store::Shape;
+use model::store::{open, Shape};
 use std::collections::{BTreeMap, BTreeSet};
 
 /// At most so many failures are told.
@@ -14,11 +14,59 @@ const TOLD: usize = 20;
 /// Longer than the largest store.
 pub const MOST_BYTES: usize = 64_200;
 
+/// What was told of a call on a store.
+struct Told {
+    bytes: Vec<u8>,
+    call: Call,
+    figures: Vec<u32>,
+}
+
+impl Told {
+    fn nothing() -> Told {
+        Told { bytes: vec![], call: Check, figures: vec![] }
+    }
+
+    fn is_of(&self, bytes: &[u8], call: &Call) -> bool {
+        self.bytes == bytes && self.call == *call
+    }
+}
+
+/// The cell that holds the record at the position, by the forward links.
+fn cell_at(words: &[u16], list: u16, position: usize) -> u16 {
+    let shape = open(words).expect("a store");
+    (0..=position).fold(list, |cell, _| words[shape.cell(cell.into()) + 1])
+}
+
+/// The figures of a call that answered so and left these bytes: the number of its refusal, or where its records are and its stores.
+fn figures_of(call: &Call, answer: u32, left: &[u8]) -> Vec<u32> {
+    match *call {
+        InsertSeveral { list, position, ref records, .. } if answer >= DONE => {
+            let words = words_of(left);
+            let (first, number) = (usize::from(position), records.len() / 2 / usize::from(words[6]));
+            let cell = |position| DONE + u32::from(cell_at(&words, list, position));
+            vec![cell(first), cell(first + number - 1), answer]
+        }
+        _ => vec![answer; call.figures().len()],
+    }
+}
+
+/// An insert of some records, by the numbers at the front of the bytes.
+fn some_insert(bytes: &[u8], turn: usize) -> Call {
+    let number =
+        |at: usize, most: u16| bytes.get(at..at + 2).map_or(1, |word| u16::from_le_bytes([word[0], word[1]]).clamp(1, most));
+    let [lists, nodes, width] = [(8, 8), (10, 2000), (12, 13)].map(|(at, most)| usize::from(number(at, most)));
+    let (list, start) = ((turn % lists) as u16, (lists + turn % nodes) as u16);
+    InsertSeveral { list, position: 0, start, records: vec![7; (1 + turn % 3) * 2 * width] }
+}
+
 pub struct Tests {
     pub random: Random,
     store: Block,
     record: Block,
     turn: usize,
+    asks: usize,
+    /// What was told last of an insert of several records, and of a recovery.
+    told: [Told; 2],
     pub passed: usize,
     pub failed: usize,
     pub courses: usize,
@@ -33,6 +81,8 @@ impl Tests {
             store: Block::new(MOST_BYTES),
             record: Block::new(MOST_BYTES),
             turn: 0,
+            asks: 0,
+            told: [Told::nothing(), Told::nothing()],
             passed: 0,
             failed: 0,
             courses: 0,
@@ -56,8 +106,13 @@ impl Tests {
         self.call_leaves(bytes, call, allowance, &call.expected(bytes, allowance))
     }
 
-    /// Makes the call on these bytes and holds it against what it must answer and leave. Gives what it did.
+    /// Makes the call on these bytes and holds it against what it must answer and leave, and what is told of it and of a recovery beforehand.
+    /// Gives what it did.
     pub fn call_leaves(&mut self, bytes: &[u8], call: &Call, allowance: u16, expected: &(u32, Vec<u8>)) -> (u32, Vec<u8>) {
+        if let Some(several) = call.as_several() {
+            self.foretold(bytes, &several);
+        }
+        let needed = self.foretold(bytes, &Recover)[0];
         let record = call.records();
         self.turn += 1;
         self.store.put(bytes, self.turn);
@@ -70,7 +125,61 @@ impl Tests {
             let what = if intact { "the bytes left" } else { "canaries or record" };
             format!("{call:?} with {allowance}: answer {answer}, expected {}, or {what}; {bytes:?}", expected.0)
         });
+        if *call == Recover {
+            self.remains(needed, answer, &left);
+        }
         (answer, left)
+    }
+
+    /// What is told of an insert of several records on these bytes, or of a recovery: it is what the model tells, and what the call does on a
+    /// copy with enough allowance. Where a recovery is told of, so is an insert.
+    pub fn foretold(&mut self, bytes: &[u8], call: &Call) -> Vec<u32> {
+        let kind = usize::from(*call == Recover);
+        if self.told[kind].is_of(bytes, call) {
+            return self.told[kind].figures.clone();
+        }
+        if *call == Recover {
+            self.told_and_done(bytes, &some_insert(bytes, self.asks));
+        }
+        let (figures, model) = (self.told_and_done(bytes, call), call.expected_figures(bytes));
+        self.holds(figures == model, || format!("of {call:?} is told {figures:?}, by the model {model:?}; {bytes:?}"));
+        self.told[kind] = Told { bytes: bytes.to_vec(), call: call.clone(), figures: figures.clone() };
+        figures
+    }
+
+    /// What is told of it is what it does on a copy with enough allowance.
+    fn told_and_done(&mut self, bytes: &[u8], call: &Call) -> Vec<u32> {
+        let figures = self.asked(bytes, call);
+        let answer = call.make(self.store.lent(), self.record.lent(), ENOUGH);
+        let done = figures_of(call, answer, self.store.lent());
+        self.holds(figures == done, || format!("of {call:?} is told {figures:?}, and done is {done:?}; {bytes:?}"));
+        figures
+    }
+
+    /// What is told of it. The bytes and the records are put where nobody may write.
+    pub fn asked(&mut self, bytes: &[u8], call: &Call) -> Vec<u32> {
+        self.asks += 1;
+        self.store.put(bytes, self.asks);
+        self.record.put(call.records(), self.asks / 3);
+        let (store, record) = (self.store.sealed(), self.record.sealed());
+        let figures: Vec<u32> = call.figures().iter().map(|figure| figure.ask(call, store, record)).collect();
+        for (figure, &told) in call.figures().iter().zip(&figures) {
+            self.seen.entry(figure.name()).or_default().insert(told);
+        }
+        figures
+    }
+
+    /// A recovery that was cut has the other stores left of so many, one that is done none; one that is refused is refused again.
+    fn remains(&mut self, needed: u32, answer: u32, left: &[u8]) {
+        let expected = match answer {
+            STOPPED.. => needed.wrapping_sub(answer - STOPPED),
+            DONE.. => DONE,
+            number => number,
+        };
+        let told = self.asked(left, &Recover);
+        self.holds(told == [expected], || {
+            format!("a recovery of {needed}, answered {answer}, leaves {expected}, told {told:?}; {left:?}")
+        });
     }
 
     /// Reads on these words: the answer is this one, and the words and the bytes round them are as they were.

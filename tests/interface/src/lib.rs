@@ -1,8 +1,9 @@
 //! The calls of include/axle.h: how C makes them, and what the model says that they answer and leave. Beside them read, on words, of
 //! crate word_exports.
 //!
-//! `memory` lends bytes to them. `stores` has stores to try them on.
+//! `figures` has what is told of them beforehand. `memory` lends bytes to them. `stores` has stores to try them on.
 
+pub mod figures;
 pub mod memory;
 pub mod stores;
 
@@ -37,6 +38,34 @@ mod c {
         pub fn axle_delete(store: *mut u8, store_len: usize, list: u16, position: u16, allowance: u16) -> u32;
         pub fn axle_recover(store: *mut u8, store_len: usize, allowance: u16) -> u32;
         pub fn axle_mark_worn(store: *mut u8, store_len: usize, cell: u16) -> u32;
+        pub fn axle_insert_several_first_cell(
+            store: *const u8,
+            store_len: usize,
+            list: u16,
+            position: u16,
+            start: u16,
+            records: *const u8,
+            records_len: usize,
+        ) -> u32;
+        pub fn axle_insert_several_last_cell(
+            store: *const u8,
+            store_len: usize,
+            list: u16,
+            position: u16,
+            start: u16,
+            records: *const u8,
+            records_len: usize,
+        ) -> u32;
+        pub fn axle_insert_several_stores(
+            store: *const u8,
+            store_len: usize,
+            list: u16,
+            position: u16,
+            start: u16,
+            records: *const u8,
+            records_len: usize,
+        ) -> u32;
+        pub fn axle_recover_stores(store: *const u8, store_len: usize) -> u32;
         pub fn words_read(words: *const u16, len: usize, list: u16, position: u16) -> u32;
     }
 }
@@ -85,6 +114,15 @@ impl Call {
         }
     }
 
+    /// The words of its records. No record of a store is empty: records of no words are answered as those of an odd number of bytes.
+    fn record_words(&self) -> Vec<u16> {
+        if self.records().len() % 2 == 1 {
+            vec![]
+        } else {
+            words_of(self.records())
+        }
+    }
+
     /// The stores of an insert, a delete or a mark that is not refused.
     pub fn whole(&self, width: usize) -> u16 {
         let records = self.records().len() / 2 / width;
@@ -108,7 +146,7 @@ impl Call {
     pub fn make(&self, store: &mut [u8], records: &[u8], allowance: u16) -> u32 {
         let len = store.len();
         let at = if len == 0 { std::ptr::null_mut() } else { store.as_mut_ptr() };
-        let (from, size) = (if records.is_empty() { std::ptr::null() } else { records.as_ptr() }, records.len());
+        let (from, size) = lent(records);
         // Each pointer and length are those of a slice, or NULL and 0; the calls read and write nothing else.
         unsafe {
             match *self {
@@ -133,9 +171,7 @@ impl Call {
         if store.len() % 2 == 1 {
             return (4, store.to_vec());
         }
-        let mut words = words_of(store);
-        // No record of a store is empty: records of no words are answered as those of an odd number of bytes.
-        let records = if self.records().len() % 2 == 1 { vec![] } else { words_of(self.records()) };
+        let (mut words, records) = (words_of(store), self.record_words());
         let answer = match *self {
             Format { lists, nodes, width } => store::format(&mut words, lists, nodes, width).into(),
             Check => store::check(&words).into(),
@@ -152,6 +188,11 @@ impl Call {
         };
         (answer, bytes_of(&words))
     }
+}
+
+/// Where bytes lie that are lent, and how many they are. No bytes are lent as NULL.
+fn lent(bytes: &[u8]) -> (*const u8, usize) {
+    (if bytes.is_empty() { std::ptr::null() } else { bytes.as_ptr() }, bytes.len())
 }
 
 /// Read on words: 65,536 and the first word of the record, or 0 if it is refused.

@@ -1,7 +1,8 @@
 //! The archive held against the model: each call through C on many stores, at every allowance. A check is one call: its answer,
 //! every byte of the store, the bytes round it, the record and the bytes round that. In `alterations` it is mostly check's answer
-//! alone. In `positions` it may be an answer alone, or read's on words. In `counts`, `worn` and `wiped` it may be that what is said there
-//! holds of the stores or of the nodes.
+//! alone. In `positions` it may be an answer alone, or read's on words. In `counts`, `worn`, `wiped` and `foretold` it may be that what is
+//! said there holds of the stores or of the nodes. What is told beforehand of an insert and of a recovery, on each store that a call is made
+//! on, and of what a recovery leaves, is a check too.
 //! The last line is 'N passed, M failed'.
 
 mod alterations;
@@ -9,6 +10,7 @@ mod calls;
 mod checks;
 mod counts;
 mod courses;
+mod foretold;
 mod positions;
 mod wiped;
 mod worn;
@@ -18,7 +20,7 @@ use interface::{DONE, STOPPED};
 use std::time::Instant;
 
 /// The answers that each call can give: refusals, then whether it can be done, and stopped.
-const ANSWERS: [(&str, &[u32], bool, bool); 8] = [
+const ANSWERS: [(&str, &[u32], bool, bool); 12] = [
     ("format", &[0, 3, 4], false, false),
     ("check", &[0, 1, 2, 3, 4, 6], false, false),
     ("length", &[1, 2, 3, 4, 5, 6], true, false),
@@ -27,6 +29,10 @@ const ANSWERS: [(&str, &[u32], bool, bool); 8] = [
     ("delete", &[1, 2, 3, 4, 5, 6, 7], true, true),
     ("recover", &[1, 2, 3, 4, 11, 12], true, true),
     ("mark_worn", &[1, 2, 3, 4, 6, 8, 13], true, false),
+    ("insert_several_first_cell", &[1, 2, 3, 4, 5, 6, 7, 8, 9, 10], true, false),
+    ("insert_several_last_cell", &[1, 2, 3, 4, 5, 6, 7, 8, 9, 10], true, false),
+    ("insert_several_stores", &[1, 2, 3, 4, 5, 6, 7, 8, 9, 10], true, false),
+    ("recover_stores", &[1, 2, 3, 4, 11, 12], true, false),
 ];
 
 /// Every answer that a call can give was given, and no other.
@@ -58,7 +64,7 @@ type Part = (&'static str, fn(&mut Tests));
 
 fn main() {
     let mut t = Tests::new(1201);
-    let parts: [Part; 48] = [
+    let parts: [Part; 56] = [
         ("lengths", calls::lengths),
         ("heads", calls::heads),
         ("formats", calls::formats),
@@ -106,6 +112,14 @@ fn main() {
         ("courses of older stores", wiped::courses),
         ("most wipes", wiped::most_stores),
         ("runs from older stores", wiped::runs),
+        ("cells and stores told of small stores", foretold::small_stores),
+        ("told of scattered nodes", foretold::scattered),
+        ("told of the largest stores", foretold::largest),
+        ("refusals told of inserts", foretold::refusals),
+        ("refusals told of recoveries", foretold::refused_recoveries),
+        ("told of sound stores", foretold::sound_stores),
+        ("told of most stores, and after cuts", foretold::most_stores),
+        ("told store by store", foretold::one_by_one),
         ("answers", answers),
     ];
     for (name, part) in parts {

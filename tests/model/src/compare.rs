@@ -74,12 +74,12 @@ mod tests {
         lines.len() - compare(lines, output).passed.min(lines.len())
     }
 
-    /// The answers that the sample does not give are all that fails: 226 of 232.
+    /// The answers that the sample does not give are all that fails: 267 of 273.
     #[test]
     fn right_output() {
         let (lines, output) = sample();
         let report = compare(&lines, &output);
-        assert_eq!((report.passed, report.failed), (lines.len() + 6, 226));
+        assert_eq!((report.passed, report.failed), (lines.len() + 6, 267));
         assert!(report.text.contains(&"check: 1 lines, answers {0}".to_string()));
         assert!(report.text.contains(&"insert done: 1 lines, answers {7}".to_string()));
     }

@@ -27,6 +27,14 @@ impl Digest {
         words.iter().for_each(|&word| self.mix(word));
     }
 
+    /// What is told of a recovery: the number of its refusal, and that of its stores.
+    fn mix_needed(&mut self, plan: &Result<Vec<WordStore>, u16>) {
+        self.mix_all(&match plan {
+            Ok(stores) => [0, stores.len() as u16],
+            Err(number) => [*number, 0],
+        });
+    }
+
     fn mix_answer(&mut self, answer: Answer) {
         self.mix_all(&match answer {
             Answer::Done(n) => [1, n],
@@ -70,7 +78,7 @@ pub struct Courses {
     pub values: Vec<u16>,
 }
 
-/// What a run tells: the digest of all answers and final words, the number of courses, and how many of them must end as a course
+/// What a run tells: the digest of all answers, of what is told before recoveries and of final words, the number of courses, and how many of them must end as a course
 /// of calls does.
 #[derive(Default)]
 pub struct Told {
@@ -82,8 +90,14 @@ pub struct Told {
 /// The plans of recovery that were found so far.
 type Plans = HashMap<Vec<u16>, Result<Vec<WordStore>, u16>>;
 
-fn recover(plans: &mut Plans, words: &mut Vec<u16>, allowance: u16) -> Answer {
-    let plan = plans.entry(words.clone()).or_insert_with_key(|words| recover_plan(words));
+fn plan<'a>(plans: &'a mut Plans, words: &[u16]) -> &'a Result<Vec<WordStore>, u16> {
+    plans.entry(words.to_vec()).or_insert_with_key(|words| recover_plan(words))
+}
+
+/// A recovery, and what is told of it beforehand.
+fn recover(digest: &mut Digest, plans: &mut Plans, words: &mut Vec<u16>, allowance: u16) -> Answer {
+    let plan = plan(plans, words);
+    digest.mix_needed(plan);
     match plan {
         Err(number) => Answer::Refused(*number),
         Ok(stores) => {
@@ -161,16 +175,13 @@ impl Courses {
 
 /// Every cut of a first and of a second recovery, and a whole one.
 fn recoveries(told: &mut Told, plans: &mut Plans, found: &[u16], course: Option<Course>) {
-    let whole = match recover(plans, &mut found.to_vec(), ENOUGH) {
-        Answer::Done(n) => n,
-        _ => 0,
-    };
+    let whole = plan(plans, found).as_ref().map_or(0, |stores| stores.len() as u16);
     for first in 0..=whole {
         for second in 0..=whole - first {
             let mut words = found.to_vec();
             let mut course = course.clone();
             for allowance in [first, second, ENOUGH] {
-                let answer = recover(plans, &mut words, allowance);
+                let answer = recover(&mut told.digest, plans, &mut words, allowance);
                 told.digest.mix_answer(answer);
                 if let Some(course) = &mut course {
                     course.recovered(answer, allowance);

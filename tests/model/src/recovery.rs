@@ -1,4 +1,4 @@
-//! What recover answers and leaves, and how a course of calls that ends with it must end.
+//! What recover answers and leaves, what is told of it beforehand, and how a course of calls that ends with it must end.
 //!
 //! A sequence of different nodes fits a list if at most one word other than the count differs from what it asks of the header and of its
 //! members. If one alone fits it is chosen, whatever the count; of several the one whose length is the count. If one is chosen for each
@@ -112,6 +112,11 @@ pub fn recover(words: &mut [u16], allowance: u16) -> Answer {
     act(words, recover_plan(words), allowance)
 }
 
+/// The number of stores that a whole recover makes, or the number of its refusal. Nothing is stored.
+pub fn recover_stores(words: &[u16]) -> Result<u16, u16> {
+    recover_plan(words).map(|stores| stores.len() as u16)
+}
+
 /// The stores of an insert, of one record or several, that count as made if it is cut after so many: all of each record whose central
 /// store was made. Record i has the stores from i × (P + 6) on, and its central one is the fifth behind its P words.
 pub fn due_of_insert(width: usize, allowance: u16) -> u16 {
@@ -210,8 +215,10 @@ mod tests {
         words
     }
 
-    /// Recovery of the words at every allowance makes these stores in their order.
+    /// Recovery of the words at every allowance makes these stores in their order. Their number is told beforehand, and after a cut that of
+    /// the others.
     fn stores(words: &[u16], expected: &[WordStore]) {
+        assert_eq!(recover_stores(words), Ok(expected.len() as u16));
         for allowance in 0..expected.len() as u16 + 2 {
             let mut left = words.to_vec();
             let n = expected.len().min(allowance.into());
@@ -219,11 +226,13 @@ mod tests {
             let number = n as u16;
             assert_eq!(answer, if n < expected.len() { Answer::Stopped(number) } else { Answer::Done(number) });
             assert_eq!(left, with(words, &expected[..n]));
+            assert_eq!(recover_stores(&left), Ok((expected.len() - n) as u16));
         }
     }
 
-    /// Recovery of the words is refused with this number.
+    /// Recovery of the words is refused with this number, which is told beforehand.
     fn refused(words: &[u16], number: u16) {
+        assert_eq!(recover_stores(words), Err(number));
         for allowance in [0, 1, ENOUGH] {
             let mut left = words.to_vec();
             assert_eq!((recover(&mut left, allowance), &left[..]), (Answer::Refused(number), words));

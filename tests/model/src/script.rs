@@ -129,8 +129,9 @@ impl Operation {
                 vec![Line::ended(&DELETE, answer, allowance, call), words_line(words)]
             }
             Recover { allowance } => {
+                let told = Line::told(&NEEDED, recovery::recover_stores(words).map(|stores| [stores]));
                 let answer = recovery::recover(words, allowance);
-                vec![Line::ended(&RECOVER, answer, allowance, format!("recover {allowance}")), words_line(words)]
+                vec![told, Line::ended(&RECOVER, answer, allowance, format!("recover {allowance}")), words_line(words)]
             }
             AllCourses(_) if words.len() > courses::MOST_WORDS => vec![],
             AllCourses(ref courses) => {
@@ -140,9 +141,11 @@ impl Operation {
             }
             InsertSeveral { list, position, start, size, ref repeated, allowance } => {
                 let records: Vec<u16> = repeated.iter().copied().cycle().take(size.into()).collect();
+                let figures = store::insert_several_figures(words, list, position, start, &records);
+                let told = Line::told(&FIGURES, figures.map(|told| [told.first, told.last, told.stores]));
                 let answer = store::insert_several(words, list, position, start, &records, allowance);
                 let call = format!("insert_several {list} {position} {start} {size} {allowance}");
-                vec![Line::ended(&SEVERAL, answer, allowance, call), words_line(words)]
+                vec![told, Line::ended(&SEVERAL, answer, allowance, call), words_line(words)]
             }
             MarkWorn { cell } => {
                 let answer = store::mark_worn(words, cell);
@@ -192,6 +195,14 @@ impl Line {
         Line { text, answer: Some((call, number)), ..Line::default() }
     }
 
+    /// What is told of a call before it is made, the number of its stores last; the names are those of figures and of a refusal.
+    fn told<const N: usize>(names: &[&'static str; 2], figures: Result<[u16; N], u16>) -> Line {
+        match figures {
+            Ok(figures) => Line::answer(names[0], figures[N - 1], format!("told = 0{}", spaced(&figures))),
+            Err(number) => Line::answer(names[1], number, format!("told = {number}{}", spaced(&[0; N]))),
+        }
+    }
+
     /// Of a call that stores; the names are those of its ends.
     fn ended(names: &[&'static str; 4], answer: Answer, allowance: u16, call: String) -> Line {
         let (name, end, n) = match answer {
@@ -211,9 +222,13 @@ const SEVERAL: [&str; 4] =
 const RECOVER: [&str; 4] = ["recover done", "recover stopped", "recover refused with 0", "recover refused"];
 const MARK: [&str; 4] = ["mark_worn done", "mark_worn stopped", "mark_worn refused with 0", "mark_worn refused"];
 
-/// The answer numbers that each call can give; of the numbers of stores of recover and of an insert of several records, those of small
-/// stores and the most.
-pub const ANSWERS: [(&str, &[u16]); 23] = [
+/// What is told of recover and of an insert of several records beforehand: figures, or that it is refused.
+const NEEDED: [&str; 2] = ["recover told", "recover told refused"];
+const FIGURES: [&str; 2] = ["insert_several told", "insert_several told refused"];
+
+/// The answer numbers that each call can give; of the numbers of stores of recover and of an insert of several records, told or made, those
+/// of small stores and the most.
+pub const ANSWERS: [(&str, &[u16]); 27] = [
     ("format", &[0, 3, 4]),
     ("check", &[0, 1, 2, 3, 4, 6]),
     ("length", &[0, 1, 2, 3, 4, 5, 6]),
@@ -229,6 +244,8 @@ pub const ANSWERS: [(&str, &[u16]); 23] = [
     ),
     (SEVERAL[2], &[1, 2, 3, 4, 5, 6, 7, 8, 9, 10]),
     (SEVERAL[3], &[1, 2, 3, 4, 5, 6, 7, 8, 9, 10]),
+    (FIGURES[0], &[7, 8, 14, 16, 21, 24, 28, 32, 38, 38_000]),
+    (FIGURES[1], &[1, 2, 3, 4, 5, 6, 7, 8, 9, 10]),
     (DELETE[0], &[5, 6, 7, 8, 9, 10, 11, 12, 13, 14, 15, 16, 17]),
     (DELETE[1], &[0, 1, 2, 3, 4, 5, 6, 7, 8, 9, 10, 11, 12, 13, 14, 15, 16]),
     (DELETE[2], &[1, 2, 3, 4, 5, 6, 7]),
@@ -237,6 +254,8 @@ pub const ANSWERS: [(&str, &[u16]); 23] = [
     (RECOVER[1], &[0, 1, 2, 3, 4, 5, 6, 7, 8, 9, 10, 11, 12, 13, 14, 2015, 28_015]),
     (RECOVER[2], &[1, 2, 3, 4, 11, 12]),
     (RECOVER[3], &[1, 2, 3, 4, 11, 12]),
+    (NEEDED[0], &[0, 1, 2, 3, 4, 5, 6, 7, 8, 9, 14, 15, 16, 2016, 28_016]),
+    (NEEDED[1], &[1, 2, 3, 4, 11, 12]),
     (MARK[0], &[1]),
     (MARK[3], &[1, 2, 3, 4, 6, 8, 13]),
     ("courses", &[0]),
@@ -316,7 +335,8 @@ mod tests {
         let too_long = [&[8, 0, 0, 0, 65], &[7; 65][..], &[0]].concat();
         assert_eq!(texts(&bytes(&too_long)), ["bad script", "end"]);
         let several = |size, n| bytes(&[12, 0, 0, 0, size, n, 7, 7]);
-        assert_eq!(texts(&several(32_100, 1)), ["insert_several 0 0 0 32100 7 = refused 1", "words =", "end"]);
+        let refused = ["told = 1 0 0 0", "insert_several 0 0 0 32100 7 = refused 1", "words =", "end"];
+        assert_eq!(texts(&several(32_100, 1)), refused);
         for (size, n) in [(32_101, 1), (1, 0), (1, 2)] {
             assert_eq!(texts(&several(size, n)), ["bad script", "end"]);
         }
@@ -336,13 +356,24 @@ mod tests {
         assert_eq!(lines[8], "mark_worn 0 = refused 8");
     }
 
-    /// Two records of one word each are inserted: the words given are repeated.
+    /// Two records of one word each are inserted: the words given are repeated. It is told beforehand.
     #[test]
     fn repeated_words() {
-        let script = bytes(&[1, 20, 0, 4, 1, 2, 1, 12, 0, 0, 1, 2, 1, 9, 65_535, 7, 0, 0, 7, 0, 1]);
+        let script = bytes(&[1, 20, 0, 4, 1, 2, 1, 12, 0, 0, 2, 2, 1, 9, 65_535, 7, 0, 0, 7, 0, 1]);
         let lines = texts(&script);
-        assert_eq!(lines[2], "insert_several 0 0 1 2 65535 = done 14");
-        assert_eq!(lines[4..], ["read 0 0 = 0: 9", "read 0 1 = 0: 9", "end"]);
+        assert_eq!(lines[2..4], ["told = 0 2 1 14", "insert_several 0 0 2 2 65535 = done 14"]);
+        assert_eq!(lines[5..], ["read 0 0 = 0: 9", "read 0 1 = 0: 9", "end"]);
+    }
+
+    /// The stores of a recovery are told beforehand, and after a cut those that are left.
+    #[test]
+    fn told_recoveries() {
+        let script = bytes(&[1, 20, 0, 4, 1, 2, 1, 2, 11, 9, 2, 12, 7, 10, 1, 10, 9, 10, 0, 2, 9, 9, 2, 10, 9, 10, 0]);
+        let lines = texts(&script);
+        assert_eq!(lines[2..4], ["told = 0 2", "recover 1 = stopped 1"]);
+        assert_eq!(lines[5..7], ["told = 0 1", "recover 9 = done 1"]);
+        assert_eq!(lines[8..10], ["told = 0 0", "recover 0 = done 0"]);
+        assert_eq!(lines[11..13], ["told = 11 0", "recover 0 = refused 11"]);
     }
 
     #[test]

@@ -1,5 +1,6 @@
 //! A store is a slice of words. Here is what its words mean, when it is sound, and what format, check, length, read, insert,
-//! insert_several, delete and mark_worn answer and leave. What recover does is in `recovery`.
+//! insert_several, delete and mark_worn answer and leave, and what is told of insert_several beforehand. What recover does is in
+//! `recovery`.
 
 use std::collections::HashSet;
 use std::ops::Range;
@@ -422,11 +423,15 @@ fn width_of_several(words: &[u16], list: u16, position: u16, start: u16, records
     Ok(shape.width)
 }
 
-/// The cell after the one that holds the record at the position: cell L after the last.
+/// The cell after a node: cell L after the last.
+fn cell_after(shape: Shape, cell: usize) -> u16 {
+    (if cell + 1 < shape.node_cells().end { cell + 1 } else { shape.lists }) as u16
+}
+
+/// The cell after the one that holds the record at the position.
 fn next_cell(words: &[u16], list: u16, position: u16) -> u16 {
     let (shape, lists) = lists_of(words, list).expect("a sound store");
-    let cell = lists[usize::from(list)][usize::from(position)];
-    (if cell + 1 < shape.node_cells().end { cell + 1 } else { shape.lists }) as u16
+    cell_after(shape, lists[usize::from(list)][usize::from(position)])
 }
 
 /// Insert of several records: if no question refuses it, they are inserted one by one at consecutive positions, each next
@@ -446,6 +451,44 @@ pub fn insert_several(words: &mut [u16], list: u16, position: u16, start: u16, r
         start = next_cell(words, list, position);
     }
     Answer::Done(made)
+}
+
+/// The cells that an insert of several records uses, in order of use, and all its stores in their order, or the number of the refusal. Each
+/// record is planned on the words that those before it leave.
+fn several_plan(
+    words: &[u16],
+    list: u16,
+    position: u16,
+    start: u16,
+    records: &[u16],
+) -> Result<(Vec<usize>, Vec<WordStore>), u16> {
+    let width = width_of_several(words, list, position, start, records)?;
+    let shape = open(words)?;
+    let (mut words, mut start) = (words.to_vec(), start);
+    let (mut cells, mut stores) = (vec![], vec![]);
+    for (position, record) in (position..).zip(records.chunks(width)) {
+        let (cell, single) = insert_plan(&words, list, position, start, record).expect("no record of several is refused");
+        single.iter().for_each(|&(at, value)| words[at] = value);
+        start = cell_after(shape, cell);
+        cells.push(cell);
+        stores.extend(single);
+    }
+    Ok((cells, stores))
+}
+
+/// What is told of an insert of several records before it is made: the first and the last cell in order of use, and the number of stores.
+#[derive(Clone, Copy, Debug, PartialEq, Eq)]
+pub struct Figures {
+    pub first: u16,
+    pub last: u16,
+    pub stores: u16,
+}
+
+/// The figures of an insert of several records with full allowance, or the number of its refusal. Nothing is stored.
+pub fn insert_several_figures(words: &[u16], list: u16, position: u16, start: u16, records: &[u16]) -> Result<Figures, u16> {
+    let (cells, stores) = several_plan(words, list, position, start, records)?;
+    let (first, last) = (cells[0] as u16, cells[cells.len() - 1] as u16);
+    Ok(Figures { first, last, stores: stores.len() as u16 })
 }
 
 /// Delete. Done, it is held against the removal from a plain sequence, and the cell is free.
@@ -497,7 +540,7 @@ pub fn mark_worn(words: &mut [u16], cell: u16) -> Answer {
 mod tests {
     use super::*;
     use crate::random::Random;
-    use crate::samples::{deal, wear, with_worn};
+    use crate::samples::{all_lists_and_worn, deal, wear, with_worn};
 
     /// C1 to C3 of docs/FORMAT.md, word by word.
     #[test]
@@ -606,6 +649,12 @@ mod tests {
             assert_eq!(words, expected);
             assert_eq!(check(&words) == 0, [0, 7, 14, 21, 22, 23].contains(&allowance));
         }
+        let told = |start, records: &[u16]| insert_several_figures(&sound, 0, 1, start, records);
+        assert_eq!(told(4, &[11, 12, 13]), Ok(Figures { first: 4, last: 3, stores: 21 }));
+        assert_eq!(told(4, &[11, 12]), Ok(Figures { first: 4, last: 1, stores: 14 }));
+        assert_eq!(told(2, &[11, 12]), Ok(Figures { first: 3, last: 4, stores: 14 }));
+        assert_eq!(told(2, &[11]), Ok(Figures { first: 3, last: 3, stores: 7 }));
+        assert_eq!(told(2, &[11; 4]), Err(10));
     }
 
     /// Questions 9 and 10 of several records, each before the next and before the allowance; the others come first.
@@ -631,6 +680,7 @@ mod tests {
                 assert_eq!(answer, Answer::Refused(number));
                 assert_eq!(words, sound);
             }
+            assert_eq!(insert_several_figures(&sound, list, position, start, &vec![5; size]), Err(number));
         }
         let mut words = sound.clone();
         assert_eq!(insert_several(&mut words, 0, 1, 6, &[5; 6], 65_535), Answer::Done(18));
@@ -639,7 +689,7 @@ mod tests {
     }
 
     /// One record is inserted as by insert, at every allowance; several leave what single inserts leave, from the cells that are
-    /// counted up here by hand.
+    /// counted up here by hand. The plan has these stores, and the figures tell its cells and its length.
     #[test]
     fn several_are_inserts() {
         let mut random = Random::new(3);
@@ -674,10 +724,43 @@ mod tests {
             let whole = (number * (shape.width + 6)) as u16;
             assert_eq!(answer, if allowance < whole { Answer::Stopped(allowance) } else { Answer::Done(allowance - left) });
             assert_eq!(words, expected);
+            let (k, p, c) = (list as u16, position as u16, start as u16);
+            let (cells, stores) = several_plan(&sound, k, p, c, &records).expect("it is not refused");
+            assert_eq!(make(&sound, &stores, allowance), (answer, words.clone()));
+            let left = lists(&make(&sound, &stores, whole).1, shape).expect("a sound store");
+            assert_eq!(left[list][position..][..number], cells);
+            let (first, last) = (cells[0] as u16, cells[number - 1] as u16);
+            let told = insert_several_figures(&sound, k, p, c, &records);
+            assert_eq!(told, Ok(Figures { first, last, stores: whole }));
             if number == 1 {
                 let mut single = sound.clone();
                 assert_eq!(insert(&mut single, list as u16, position as u16, start as u16, &records, allowance), answer);
                 assert_eq!(single, words);
+            }
+        }
+    }
+
+    /// All lists and worn nodes of some small shapes, from every node on: the free nodes are counted up here by hand.
+    #[test]
+    fn figures_of_small_stores() {
+        for shape in [Shape::new(1, 1, 1), Shape::new(1, 4, 1), Shape::new(2, 3, 2)] {
+            for (lists, worn) in all_lists_and_worn(shape) {
+                let words = with_worn(store_of(shape, &lists, || 7), &worn);
+                let others = [lists.concat(), worn].concat();
+                for start in shape.node_cells() {
+                    let ring = (start..shape.node_cells().end).chain(shape.lists..start);
+                    let free: Vec<u16> = ring.filter(|cell| !others.contains(cell)).map(|cell| cell as u16).collect();
+                    for number in 0..=shape.nodes + 1 {
+                        let records = vec![5; number * shape.width];
+                        let stores = (number * (shape.width + 6)) as u16;
+                        let expected = match number {
+                            0 => Err(9),
+                            _ if number > free.len() => Err(10),
+                            _ => Ok(Figures { first: free[0], last: free[number - 1], stores }),
+                        };
+                        assert_eq!(insert_several_figures(&words, 0, 0, start as u16, &records), expected, "{words:?}");
+                    }
+                }
             }
         }
     }
