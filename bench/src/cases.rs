@@ -23,9 +23,31 @@ pub const FAULTS: &str = "recover, one fault in every list";
 pub const COUNTS: &str = "recover, count and identifier in every list";
 pub const OLDER: &str = "recover, an older store";
 
-/// All that is measured.
+/// All that is measured, but for what is told beforehand.
 pub const NAMES: [&str; 14] =
     [FORMAT, CHECK, LENGTH, EDIT, MARK, TWELVE, SINGLY, THOUSAND, NOTHING, BEFORE, AFTER, FAULTS, COUNTS, OLDER];
+
+pub const FIRST_CELL: &str = "first cell of an insert";
+pub const LAST_CELL: &str = "last cell of an insert";
+pub const STORES: &str = "stores of an insert";
+
+/// What is told beforehand, each beside a call: of an insert beside check, of a recovery beside itself.
+pub const TOLD: [(&str, &str); 9] = [
+    (FIRST_CELL, CHECK),
+    (LAST_CELL, CHECK),
+    (STORES, CHECK),
+    ("stores of recover, nothing to do", NOTHING),
+    ("stores of recover, insert cut before its central store", BEFORE),
+    ("stores of recover, insert cut after its central store", AFTER),
+    ("stores of recover, one fault in every list", FAULTS),
+    ("stores of recover, count and identifier in every list", COUNTS),
+    ("stores of recover, an older store", OLDER),
+];
+
+/// What is told of this recovery.
+fn told_of(recovery: &str) -> &'static str {
+    TOLD.into_iter().find(|&(_, beside)| beside == recovery).map(|(told, _)| told).expect("a recovery")
+}
 
 /// The calls of a turn: the sum of their answers.
 pub type Turn = dyn Fn(&Engine, &mut [u8]) -> u32;
@@ -54,15 +76,30 @@ impl Case {
         Case { name, shape: sample.shape, fill, bytes, answer, turn: Box::new(turn) }
     }
 
-    /// Recovery of the found store. The bytes that it changes are made wrong again before each turn.
-    fn recovery(name: &'static str, sample: &Sample, found: Vec<u8>, stores: usize) -> Case {
+    /// Recovery of the found store, and what is told of it. The bytes that it changes are made wrong again before each turn.
+    fn recovery(name: &'static str, sample: &Sample, found: Vec<u8>, stores: usize) -> [Case; 2] {
         let mut recovered = found.clone();
         plain::recover(&mut recovered, ENOUGH);
-        let wrong = changed(&found, &recovered);
-        Case::new(name, sample, found, DONE + stores as u32, move |engine, bytes| {
+        let (wrong, answer) = (changed(&found, &recovered), DONE + stores as u32);
+        let told = |engine: &Engine, bytes: &mut [u8]| (engine.recover_stores)(bytes);
+        let recovery = move |engine: &Engine, bytes: &mut [u8]| {
             put_back(bytes, &wrong);
             (engine.recover)(bytes, ENOUGH)
-        })
+        };
+        let told = Case::new(told_of(name), sample, found.clone(), answer, told);
+        [Case::new(name, sample, found, answer, recovery), told]
+    }
+
+    /// A figure told of an insert of as many records as nodes are free.
+    fn told(
+        name: &'static str,
+        sample: &Sample,
+        figure: usize,
+        ask: impl Fn(&Engine, &[u8], &[u8]) -> u32 + 'static,
+    ) -> Case {
+        let records = vec![0; sample.free() * 2 * sample.shape.width];
+        let turn = move |engine: &Engine, bytes: &mut [u8]| ask(engine, bytes, &records);
+        Case::new(name, sample, sample.bytes.clone(), DONE + figure as u32, turn)
     }
 
     /// So many records inserted by so many calls. Before each turn the bytes that it changes are put back.
@@ -128,12 +165,24 @@ pub fn cases(sample: &Sample) -> Vec<Case> {
         Case::new(EDIT, sample, sound(), DONE + inserted + DONE + deleted, move |engine, bytes| {
             (engine.insert)(bytes, list, position, start, &record, ENOUGH) + (engine.delete)(bytes, list, position, ENOUGH)
         }),
-        Case::recovery(NOTHING, sample, sound(), 0),
-        Case::recovery(BEFORE, sample, sample.cut(shape.width + 4), 2 + shape.width),
-        Case::recovery(AFTER, sample, sample.cut(shape.width + 5), 1),
-        Case::recovery(FAULTS, sample, sample.faulty(), shape.lists),
-        Case::recovery(COUNTS, sample, sample.miscounted(), 2 * shape.lists),
     ];
+    let (first, last) = sample.free_ends();
+    cases.extend([
+        Case::told(FIRST_CELL, sample, first, move |engine, bytes, records| {
+            (engine.first_cell)(bytes, list, position, start, records)
+        }),
+        Case::told(LAST_CELL, sample, last, move |engine, bytes, records| {
+            (engine.last_cell)(bytes, list, position, start, records)
+        }),
+        Case::told(STORES, sample, sample.free() * (shape.width + 6), move |engine, bytes, records| {
+            (engine.several_stores)(bytes, list, position, start, records)
+        }),
+    ]);
+    cases.extend(Case::recovery(NOTHING, sample, sound(), 0));
+    cases.extend(Case::recovery(BEFORE, sample, sample.cut(shape.width + 4), 2 + shape.width));
+    cases.extend(Case::recovery(AFTER, sample, sample.cut(shape.width + 5), 1));
+    cases.extend(Case::recovery(FAULTS, sample, sample.faulty(), shape.lists));
+    cases.extend(Case::recovery(COUNTS, sample, sample.miscounted(), 2 * shape.lists));
     let one_call = move |engine: &Engine, bytes: &mut [u8], records: &[u8]| {
         (engine.insert_several)(bytes, list, position, start, records, ENOUGH)
     };
@@ -142,7 +191,7 @@ pub fn cases(sample: &Sample) -> Vec<Case> {
         records.map(|(position, record)| (engine.insert)(bytes, list, position, start, record, ENOUGH)).sum()
     };
     if sample.fill == Fill::Half {
-        cases.push(Case::recovery(OLDER, sample, sample.older(), sample.free() * shape.width));
+        cases.extend(Case::recovery(OLDER, sample, sample.older(), sample.free() * shape.width));
         cases.push(Case::mark(sample));
     }
     if sample.free() >= 12 {

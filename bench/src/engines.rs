@@ -5,6 +5,9 @@ use bench::plain;
 /// List, position, starting cell, record or records, and allowance.
 type Insert = fn(&mut [u8], u16, u16, u16, &[u8], u16) -> u32;
 
+/// List, position, starting cell and records of an insert that is told of beforehand.
+type Told = fn(&[u8], u16, u16, u16, &[u8]) -> u32;
+
 pub struct Engine {
     pub format: fn(&mut [u8], u16, u16, u16) -> u32,
     pub check: fn(&[u8]) -> u32,
@@ -16,6 +19,10 @@ pub struct Engine {
     pub delete: fn(&mut [u8], u16, u16, u16) -> u32,
     pub mark_worn: fn(&mut [u8], u16) -> u32,
     pub recover: fn(&mut [u8], u16) -> u32,
+    pub first_cell: Told,
+    pub last_cell: Told,
+    pub several_stores: Told,
+    pub recover_stores: fn(&[u8]) -> u32,
 }
 
 pub static PLAIN: Engine = Engine {
@@ -32,6 +39,16 @@ pub static PLAIN: Engine = Engine {
     delete: |store, list, position, allowance| plain::delete(store, list, position, allowance),
     mark_worn: |store, cell| plain::mark_worn(store, cell),
     recover: |store, allowance| plain::recover(store, allowance),
+    first_cell: |store, list, position, start, records| {
+        plain::insert_several_first_cell(store, list, position, start, records)
+    },
+    last_cell: |store, list, position, start, records| {
+        plain::insert_several_last_cell(store, list, position, start, records)
+    },
+    several_stores: |store, list, position, start, records| {
+        plain::insert_several_stores(store, list, position, start, records)
+    },
+    recover_stores: |store| plain::recover_stores(store),
 };
 
 #[link(name = "axle", kind = "static")]
@@ -62,6 +79,34 @@ extern "C" {
     fn axle_delete(store: *mut u8, store_len: usize, list: u16, position: u16, allowance: u16) -> u32;
     fn axle_mark_worn(store: *mut u8, store_len: usize, cell: u16) -> u32;
     fn axle_recover(store: *mut u8, store_len: usize, allowance: u16) -> u32;
+    fn axle_insert_several_first_cell(
+        store: *const u8,
+        store_len: usize,
+        list: u16,
+        position: u16,
+        start: u16,
+        records: *const u8,
+        records_len: usize,
+    ) -> u32;
+    fn axle_insert_several_last_cell(
+        store: *const u8,
+        store_len: usize,
+        list: u16,
+        position: u16,
+        start: u16,
+        records: *const u8,
+        records_len: usize,
+    ) -> u32;
+    fn axle_insert_several_stores(
+        store: *const u8,
+        store_len: usize,
+        list: u16,
+        position: u16,
+        start: u16,
+        records: *const u8,
+        records_len: usize,
+    ) -> u32;
+    fn axle_recover_stores(store: *const u8, store_len: usize) -> u32;
 }
 
 // Read is not part of the C interface: crate word_exports exports it, on words.
@@ -93,4 +138,17 @@ pub static PROVED: Engine = Engine {
     },
     mark_worn: |store, cell| unsafe { axle_mark_worn(store.as_mut_ptr(), store.len(), cell) },
     recover: |store, allowance| unsafe { axle_recover(store.as_mut_ptr(), store.len(), allowance) },
+    first_cell: |store, list, position, start, records| unsafe {
+        let (at, records_length) = (records.as_ptr(), records.len());
+        axle_insert_several_first_cell(store.as_ptr(), store.len(), list, position, start, at, records_length)
+    },
+    last_cell: |store, list, position, start, records| unsafe {
+        let (at, records_length) = (records.as_ptr(), records.len());
+        axle_insert_several_last_cell(store.as_ptr(), store.len(), list, position, start, at, records_length)
+    },
+    several_stores: |store, list, position, start, records| unsafe {
+        let (at, records_length) = (records.as_ptr(), records.len());
+        axle_insert_several_stores(store.as_ptr(), store.len(), list, position, start, at, records_length)
+    },
+    recover_stores: |store| unsafe { axle_recover_stores(store.as_ptr(), store.len()) },
 };

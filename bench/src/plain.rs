@@ -1,4 +1,4 @@
-//! The eight calls and read in plain Rust, as a careful engineer writes them who wants them quick: the benchmark's baseline.
+//! The twelve calls and read in plain Rust, as a careful engineer writes them who wants them quick: the benchmark's baseline.
 //!
 //! Arguments and answers are those of the C interface, with slices; read, which it lacks, answers the record's bytes. A word
 //! is two bytes, low byte first. The cells are read once, in order, with the records of the free nodes, and all is decided on that copy
@@ -284,18 +284,35 @@ impl Survey<'_> {
         Ok(Site { before, cell, after: self.after(before), count })
     }
 
-    /// Questions 5 to 10 of an insert of several records. The first free cell is yet to be sought, from the site's cell on.
-    fn gaps(&self, list: usize, position: u16, start: usize, records: &[u8]) -> Result<Site, u32> {
-        let count = self.ask(list, position, start)?;
+    /// Question 9 of an insert of several records: their number.
+    fn number_of(&self, records: &[u8]) -> Result<usize, u32> {
         if records.is_empty() || records.len() % self.shape.record_size() != 0 {
             return Err(9);
         }
+        Ok(records.len() / self.shape.record_size())
+    }
+
+    /// Questions 5 to 10 of an insert of several records. The first free cell is yet to be sought, from the site's cell on.
+    fn gaps(&self, list: usize, position: u16, start: usize, records: &[u8]) -> Result<Site, u32> {
+        let count = self.ask(list, position, start)?;
+        let number = self.number_of(records)?;
         let free = self.cells[self.shape.lists..].iter().filter(|&cell| free(cell)).count();
-        if free < records.len() / self.shape.record_size() {
+        if free < number {
             return Err(10);
         }
         let before = self.before(list, position);
         Ok(Site { before, cell: start, after: self.after(before), count })
+    }
+
+    /// The same questions: the first and the last cell of the records, in order of use, and how many they are.
+    fn cells_of(&self, list: usize, position: u16, start: usize, records: &[u8]) -> Result<(usize, usize, usize), u32> {
+        self.ask(list, position, start)?;
+        let number = self.number_of(records)?;
+        let (low, high) = (self.shape.lists..start, start..self.shape.cells());
+        let mut free = high.chain(low).filter(|&cell| free(&self.cells[cell]));
+        let first = free.next().ok_or(10u32)?;
+        let last = if number > 1 { free.nth(number - 2).ok_or(10u32)? } else { first };
+        Ok((first, last, number))
     }
 
     /// Questions 5 to 7 of read and delete.
@@ -453,6 +470,33 @@ fn inserted_several(
         (before, cell, count) = (cell, shape.next_node(cell), count + 1);
     }
     Ok(answer(made, whole))
+}
+
+/// The first and the last cell of an insert of several records, and its stores.
+fn foretold(store: &[u8], list: usize, position: u16, start: usize, records: &[u8]) -> Result<[usize; 3], u32> {
+    let shape = open(store)?;
+    let told = with_room(shape, |room| load(store, shape, room).cells_of(list, position, start, records));
+    told.map(|(first, last, number)| [first, last, number * shape.insert_stores()])
+}
+
+/// A figure told as an answer.
+fn told(figure: Result<usize, u32>) -> u32 {
+    number(figure.map(|figure| DONE + figure as u32))
+}
+
+#[inline(never)]
+pub fn insert_several_first_cell(store: &[u8], list: u16, position: u16, start: u16, records: &[u8]) -> u32 {
+    told(foretold(store, list.into(), position, start.into(), records).map(|[first, ..]| first))
+}
+
+#[inline(never)]
+pub fn insert_several_last_cell(store: &[u8], list: u16, position: u16, start: u16, records: &[u8]) -> u32 {
+    told(foretold(store, list.into(), position, start.into(), records).map(|[_, last, _]| last))
+}
+
+#[inline(never)]
+pub fn insert_several_stores(store: &[u8], list: u16, position: u16, start: u16, records: &[u8]) -> u32 {
+    told(foretold(store, list.into(), position, start.into(), records).map(|[.., stores]| stores))
 }
 
 #[inline(never)]
@@ -628,6 +672,11 @@ fn mends(survey: &mut Survey) -> Result<Mends, u32> {
     Ok(Mends { chosen, number, orphans })
 }
 
+/// The words of a record that are not 0.
+fn remains(record: &[u8]) -> usize {
+    record.chunks_exact(2).filter(|&word| word != [0, 0]).count()
+}
+
 /// Wipes the free nodes, up to the allowance: the answer. So many stores were made before: the lists are mended and the orphans cleared, so
 /// no other node has identifier 0.
 fn wipe(store: &mut [u8], shape: Shape, mut made: usize, allowance: usize) -> u32 {
@@ -636,7 +685,7 @@ fn wipe(store: &mut [u8], shape: Shape, mut made: usize, allowance: usize) -> u3
         if word(links, 2 * IDENT) != FREE {
             continue;
         }
-        let remains = record.chunks_exact(2).filter(|&word| word != [0, 0]).count();
+        let remains = remains(record);
         if made + remains > allowance {
             let rest = record.chunks_exact_mut(2).filter(|word| **word != [0, 0]);
             rest.take(allowance - made).for_each(|word| word.fill(0));
@@ -667,4 +716,42 @@ fn recover_by(mut survey: Survey, store: &mut [u8], allowance: usize) -> Result<
         made += 1;
     }
     Ok(wipe(store, shape, made, allowance))
+}
+
+#[inline(never)]
+pub fn recover_stores(store: &[u8]) -> u32 {
+    told(needed(store))
+}
+
+fn needed(store: &[u8]) -> Result<usize, u32> {
+    let shape = open(store)?;
+    with_room(shape, |room| {
+        let mut survey = load(store, shape, room);
+        let mends = mends(&mut survey)?;
+        let outside = if mends.orphans || survey.remains { outside(&survey, store, &mends) } else { 0 };
+        Ok(mends.number + outside)
+    })
+}
+
+/// The stores to nodes in no list: each orphan's identifier, and what remains in the records of orphans and of free nodes. Members that have lost
+/// their identifiers to 0, one of a list at most, are no free nodes.
+fn outside(survey: &Survey, store: &[u8], mends: &Mends) -> usize {
+    let shape = survey.shape;
+    let record = |cell: usize| &store[shape.at(cell, RECORD)..][..shape.record_size()];
+    let lost = mends.chosen[..shape.lists].iter().map(|chosen| match chosen.wrong {
+        Wrong::One { cell, word: IDENT, .. } if shape.is_node(cell) && word(store, shape.at(cell, IDENT)) == FREE => {
+            remains(record(cell))
+        }
+        _ => 0,
+    });
+    let nodes = store[shape.nodes_at()..].chunks_exact(shape.node_size());
+    let stores = nodes.zip(&survey.cells[shape.lists..]).map(|(node, cell)| {
+        let orphan = mends.orphans && in_use(cell[IDENT]);
+        if orphan || word(node, 2 * IDENT) == FREE {
+            usize::from(orphan) + remains(&node[2 * RECORD..])
+        } else {
+            0
+        }
+    });
+    stores.sum::<usize>() - lost.sum::<usize>()
 }

@@ -1,6 +1,6 @@
 //! The results as text: docs/BENCHMARKS.md.
 
-use crate::cases::NAMES;
+use crate::cases::{CHECK, NAMES, TOLD};
 use crate::machine::Size;
 use crate::measure::Row;
 use crate::stores::Fill;
@@ -15,6 +15,8 @@ const STACK_GOAL: usize = 16_384;
 pub struct Results {
     pub machine: Vec<(&'static str, String)>,
     pub rows: Vec<Row>,
+    /// What is told beforehand.
+    pub told: Vec<Row>,
     pub walks: Vec<Walk>,
     /// The call, and the bytes that the proved and the plain one use.
     pub stack: Vec<(&'static str, usize, usize)>,
@@ -43,18 +45,22 @@ fn marked(text: String, beyond: bool) -> String {
     }
 }
 
+/// The columns that every row has.
+fn columns(row: &Row) -> String {
+    let shape = format!("{}, {}, {}", row.shape.lists, row.shape.nodes, row.shape.width);
+    let fill = row.fill.map_or("-", Fill::name);
+    let ratio = marked(format!("{:.2}", row.ratio()), row.ratio() > GOAL);
+    let (proved, plain) = (nanoseconds(row.proved), nanoseconds(row.plain));
+    format!("| {} | {shape} | {fill} | {proved} | {plain} | {ratio} |", row.name)
+}
+
 impl Results {
     /// One line for each row.
     pub fn table(&self) -> String {
         let mut text = String::from("| Calls | L, N, P | Filled | Proved, ns | Plain, ns | Ratio | Proved, ns per cell |\n");
         text += "|---|---|---|--:|--:|--:|--:|\n";
         for row in &self.rows {
-            let shape = format!("{}, {}, {}", row.shape.lists, row.shape.nodes, row.shape.width);
-            let fill = row.fill.map_or("-", Fill::name);
-            let ratio = marked(format!("{:.2}", row.ratio()), row.ratio() > GOAL);
-            let (proved, plain) = (nanoseconds(row.proved), nanoseconds(row.plain));
-            let per_cell = row.per_cell(row.proved);
-            let _ = writeln!(text, "| {} | {shape} | {fill} | {proved} | {plain} | {ratio} | {per_cell:.2} |", row.name);
+            let _ = writeln!(text, "{} {:.2} |", columns(row), row.per_cell(row.proved));
         }
         text
     }
@@ -64,6 +70,40 @@ impl Results {
         let beyond = self.rows.iter().filter(|row| row.ratio() > GOAL).count();
         let largest = self.rows.iter().map(Row::ratio).fold(0.0, f64::max);
         format!("{beyond} of {} ratios are above {GOAL}; the largest is {largest:.2}.", self.rows.len())
+    }
+
+    /// The row of the call that a figure is held against.
+    fn row_beside(&self, told: &Row) -> &Row {
+        let beside = TOLD.into_iter().find(|&(name, _)| name == told.name).map(|(_, beside)| beside);
+        let same = |row: &&Row| Some(row.name) == beside && row.shape == told.shape && row.fill == told.fill;
+        self.rows.iter().find(same).expect("a call beside it")
+    }
+
+    /// One line for each figure.
+    pub fn told(&self) -> String {
+        let mut text =
+            String::from("| Told | L, N, P | Filled | Proved, ns | Plain, ns | Ratio | Beside it, ns | Against it |\n");
+        text += "|---|---|---|--:|--:|--:|--:|--:|\n";
+        for row in &self.told {
+            let beside = self.row_beside(row).proved;
+            let _ = writeln!(text, "{} {} | {:.2} |", columns(row), nanoseconds(beside), row.proved / beside);
+        }
+        text
+    }
+
+    /// The most that a figure takes against the call beside it: of an insert above a check, for each node, and of a recovery.
+    pub fn beside(&self) -> String {
+        let beside: Vec<(&Row, &Row)> = self.told.iter().map(|row| (row, self.row_beside(row))).collect();
+        let (inserts, recoveries): (Vec<_>, Vec<_>) = beside.into_iter().partition(|(_, beside)| beside.name == CHECK);
+        let above = inserts.iter().map(|(row, check)| (row.proved - check.proved) / row.shape.nodes as f64);
+        let against = recoveries.iter().map(|(row, recovery)| row.proved / recovery.proved);
+        let (above, against) = (above.fold(f64::NEG_INFINITY, f64::max), against.fold(0.0, f64::max));
+        let beyond = self.told.iter().filter(|row| row.ratio() > GOAL).count();
+        format!(
+            "A figure of an insert takes at most {above:.2} ns for each node more than a check, the stores of a recovery at most \
+             {against:.2} of what the recovery takes. {beyond} of {} ratios are above {GOAL}.",
+            self.told.len()
+        )
     }
 
     /// One line for each call and position.
@@ -151,6 +191,15 @@ Some Intel processors are slow at jumps that cross or end at a 32-byte boundary.
 
 ![Ratios, and nanoseconds per cell](benchmarks.svg)
 
+## Told beforehand
+
+What is told of an insert of as many records as nodes are free, one in a full store: the search for the last cell goes as far round the nodes as
+it can. Beside it is check. What is told of a recovery of the same stores as above: beside it is that recovery, with its stores and with the
+bytes that are made wrong again before it. Nothing is written, so nothing is put back. Both gave the same answers.
+
+{told}
+{beside_it}
+
 ## Walks to a position
 
 Read and delete in one list of 2,000 records (1, 2000, 13), whose members lie in shuffled order. A walk starts at the header and goes the
@@ -194,6 +243,8 @@ The archive `libaxle.a` has {code} bytes of code and {constants} bytes of consta
             machine = self.machine(),
             table = self.table(),
             verdict = self.verdict(),
+            told = self.told(),
+            beside_it = self.beside(),
             walks = self.walks(),
             ends = self.ends(),
             growth = self.growth(),

@@ -73,8 +73,8 @@ fn used(mut job: impl FnMut() -> u32) -> usize {
     depth_of_job - depth(&mut || ())
 }
 
-/// The stack that each call uses on a sample; recover's is the most that it uses on a sound, a cut or a faulty store.
-pub fn of_calls(engine: &Engine, sample: &Sample) -> [(&'static str, usize); 8] {
+/// The stack that each call uses on a sample; recover's and recover_stores' is the most that they use on a sound, a cut or a faulty store.
+pub fn of_calls(engine: &Engine, sample: &Sample) -> [(&'static str, usize); 12] {
     let Sample { shape, list, position, start, .. } = *sample;
     let (lists, nodes, width) = (shape.lists as u16, shape.nodes as u16, shape.width as u16);
     let mut bytes = sample.bytes.clone();
@@ -85,7 +85,11 @@ pub fn of_calls(engine: &Engine, sample: &Sample) -> [(&'static str, usize); 8] 
     let mark = used(|| (engine.mark_worn)(&mut unmarked, cell));
     let cut = [sample.cut(shape.width + 4), sample.cut(shape.width + 5)];
     let found = [sample.bytes.clone(), sample.faulty(), sample.miscounted()].into_iter().chain(cut);
-    let recover = found.map(|mut bytes| used(|| (engine.recover)(&mut bytes, 65_535)));
+    let uses =
+        found.map(|mut bytes| [used(|| (engine.recover_stores)(&bytes)), used(|| (engine.recover)(&mut bytes, 65_535))]);
+    let [needed, recover] = uses.fold([0; 2], |most, [needed, recover]| [most[0].max(needed), most[1].max(recover)]);
+    let told = [engine.first_cell, engine.last_cell, engine.several_stores];
+    let told = told.map(|ask| used(|| ask(&sample.bytes, list, position, start, &sample.record)));
     [
         ("format", used(|| (engine.format)(&mut bytes, lists, nodes, width))),
         ("check", used(|| (engine.check)(&sample.bytes))),
@@ -94,6 +98,10 @@ pub fn of_calls(engine: &Engine, sample: &Sample) -> [(&'static str, usize); 8] 
         ("insert_several", several),
         ("delete", delete),
         ("mark_worn", mark),
-        ("recover", recover.fold(0, usize::max)),
+        ("recover", recover),
+        ("insert_several_first_cell", told[0]),
+        ("insert_several_last_cell", told[1]),
+        ("insert_several_stores", told[2]),
+        ("recover_stores", needed),
     ]
 }

@@ -88,6 +88,11 @@ impl Sample {
         self.free_cells().next().expect("a free node") as u16
     }
 
+    /// The first and the last of them.
+    pub fn free_ends(&self) -> (usize, usize) {
+        (self.free_cell().into(), self.free_cells().last().expect("a free node"))
+    }
+
     pub fn length(&self) -> usize {
         self.lists[usize::from(self.list)].len()
     }

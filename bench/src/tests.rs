@@ -94,6 +94,11 @@ impl Call {
     }
 }
 
+/// Figures as answers: each is added to 65,536, and a refusal's number is that of each.
+fn told<const N: usize>(figures: Result<[u16; N], u16>) -> [u32; N] {
+    figures.map_or_else(|number| [number.into(); N], |figures| figures.map(|figure| 65_536 + u32::from(figure)))
+}
+
 /// The answers seen: a refusal's number, or 65,536 for all that are done and 131,072 for all that are stopped.
 #[derive(Default)]
 struct Seen(BTreeMap<&'static str, BTreeSet<u32>>);
@@ -106,9 +111,42 @@ impl Seen {
         let answer = call.plain(bytes);
         assert_eq!(answer, call.model(&mut expected), "{call:?} on {found:?}");
         assert!(bytes == expected, "the bytes after {call:?} on {found:?}");
-        let kind = if answer < 65_536 { answer } else { answer >> 16 << 16 };
-        self.0.entry(call.name()).or_default().insert(kind);
+        self.note(call.name(), answer);
+        match call {
+            Call::InsertSeveral(k, p, s, records, ENOUGH) => self.foretold(&found, [*k, *p, *s], records, answer),
+            Call::Recover(ENOUGH) => self.needed(&found, answer),
+            _ => (),
+        }
         answer
+    }
+
+    fn note(&mut self, name: &'static str, answer: u32) {
+        let kind = if answer < 65_536 { answer } else { answer >> 16 << 16 };
+        self.0.entry(name).or_default().insert(kind);
+    }
+
+    /// What is told of an insert of several records that answers so: as by the model.
+    fn foretold(&mut self, bytes: &[u8], [list, position, start]: [u16; 3], records: &[u8], answer: u32) {
+        let found = [
+            plain::insert_several_first_cell(bytes, list, position, start, records),
+            plain::insert_several_last_cell(bytes, list, position, start, records),
+            plain::insert_several_stores(bytes, list, position, start, records),
+        ];
+        let words = if records.len() % 2 == 1 { vec![] } else { words_of(records) };
+        let figures = store::insert_several_figures(&words_of(bytes), list, position, start, &words);
+        let odd = bytes.len() % 2 == 1;
+        let expected = told(if odd { Err(4) } else { figures.map(|told| [told.first, told.last, told.stores]) });
+        assert_eq!((found, found[2]), (expected, answer), "told of {list} {position} {start} on {bytes:?}");
+        self.note("insert_several_figures", answer);
+    }
+
+    /// What is told of a recovery that answers so: as by the model.
+    fn needed(&mut self, bytes: &[u8], answer: u32) {
+        let stores = recovery::recover_stores(&words_of(bytes)).map(|stores| [stores]);
+        let [expected] = told(if bytes.len() % 2 == 1 { Err(4) } else { stores });
+        let found = plain::recover_stores(bytes);
+        assert_eq!((found, found), (expected, answer), "told of recover on {bytes:?}");
+        self.note("recover_stores", answer);
     }
 
     /// The call, made with an allowance, at every allowance up to two more than it needs.
@@ -245,6 +283,8 @@ fn many_stores() {
         ("delete", &[1, 2, 3, 4, 5, 6, 7, 65_536, 131_072]),
         ("mark_worn", &[1, 2, 3, 4, 6, 8, 13, 65_536]),
         ("recover", &[1, 2, 3, 4, 11, 12, 65_536, 131_072]),
+        ("insert_several_figures", &[1, 2, 3, 4, 5, 6, 7, 8, 9, 10, 65_536]),
+        ("recover_stores", &[1, 2, 3, 4, 11, 12, 65_536]),
     ]);
 }
 
