@@ -73,13 +73,16 @@ fn recover_none_left(bytes: &mut [u8], l: Layout, g: Grid, mends: Rows, allowanc
     byte_wipes::go_on(bytes, l, g, made, allowance)
 }
 
-// What is found of the store. The nodes are tallied first: that fetches the bytes in order.
-fn decide(bytes: &[u8], l: Layout, g: Grid) -> Found
-    requires { ⌜ Gridded l g × Laid l (wordsIn (now bytes)) ⌝ }
+// What is found of the store. The nodes are tallied first: that fetches the bytes in order. The grid is made here, and the bytes are handed on as a
+// part, which is the whole: what the caller has just written to memory is then not copied at once, for which the processor would wait.
+fn decide(bytes: &[u8], l: Layout) -> Found
+    requires { ⌜ Laid l (wordsIn (now bytes)) ⌝ }
     ensures { λ r. ⌜ FoundIn l (wordsIn (now (bytes .entry))) r ⌝ }
 {
-    let t = byte_walks::tally(bytes, l, g);
-    let mends = byte_mends::all_mends(bytes, l, g);
+    let g = Grid::of(l);
+    let part = &bytes[0..];
+    let t = byte_walks::tally(part, l, g);
+    let mends = byte_mends::all_mends(part, l, g);
     Found {
         mends,
         left: !mends.none_left(t.used),
@@ -93,19 +96,18 @@ pub fn recover_in(bytes: &mut [u8], l: Layout, allowance: u16) -> Answer
     ensures answer { λ r. ⌜ r ≡ answerOf (recoverOf l (wordsIn (now (bytes .entry)))) allowance ⌝ }
     ensures bytes { λ _. ⌜ now (bytes .exit) ≡ bytesAfter (recoverOf l (wordsIn (now (bytes .entry)))) allowance (now (bytes .entry)) ⌝ }
 {
-    let g = Grid::of(l);
-    let found = decide(bytes, l, g);
+    let found = decide(bytes, l);
     let m = found.mends;
     if m.refusal != 0 {
         return Answer::Refused(m.refusal);
     }
     if found.left {
         let mut idents = mending::column();
-        return recover_left(bytes, l, g, m, &mut idents, allowance);
+        return recover_left(bytes, l, Grid::of(l), m, &mut idents, allowance);
     }
     let mends = m.rows;
     if found.unwiped {
-        return recover_none_left(bytes, l, g, mends, allowance);
+        return recover_none_left(bytes, l, Grid::of(l), mends, allowance);
     }
     byte_form::run_rows(bytes, mends, allowance)
 }
@@ -133,20 +135,19 @@ pub fn stores_in(bytes: &[u8], l: Layout) -> Needed
     requires { ⌜ Laid l (wordsIn (now bytes)) ⌝ }
     ensures { λ r. ⌜ r ≡ neededOf (recoverOf l (wordsIn (now (bytes .entry)))) ⌝ }
 {
-    let g = Grid::of(l);
-    let found = decide(bytes, l, g);
+    let found = decide(bytes, l);
     let lists = found.mends;
     if lists.refusal != 0 {
         return Needed::Refused(lists.refusal);
     }
     if found.left {
         let mut idents = mending::column();
-        return stores_left(bytes, l, g, lists, &mut idents);
+        return stores_left(bytes, l, Grid::of(l), lists, &mut idents);
     }
     let rows = lists.rows;
     let mends = rows.len as u16;
     if !found.unwiped {
         return Needed::Stores(mends);
     }
-    Needed::Stores(mends + byte_counts::free_wipes(bytes, l, g))
+    Needed::Stores(mends + byte_counts::free_wipes(bytes, l, Grid::of(l)))
 }

@@ -22,8 +22,9 @@ pub struct Mend {
     pub number: usize,
 }
 
-// What is found of all lists: the mends, list 0 first; which lists go by their back links; how many members they have; the number of the first
-// that is refused, 0 for none; and whether each member is in use by its identifier. The larger fields stand first: so it is copied in whole words.
+// What is found of all lists: the mends, list 0 first; which lists go by their back links; how many members they have, and whether each
+// is in use by its identifier; and the number of the first that is refused, 0 for none. No gap is left between the fields: behind one, the rows
+// would be copied from an odd address, which is slow.
 pub struct Mends {
     pub rows: Rows,
     pub back: [bool; Layout::MAX_LISTS],

@@ -72,13 +72,16 @@ fn recover_none_left(words: &mut [u16], l: Layout, g: Grid, mends: Rows, allowan
     word_wipes::go_on(words, l, g, made, allowance)
 }
 
-// What is found of the store. The nodes are tallied first: that fetches the words in order.
-fn decide(words: &[u16], l: Layout, g: Grid) -> Found
-    requires { ⌜ Gridded l g × Laid l (now words) ⌝ }
+// What is found of the store. The nodes are tallied first: that fetches the words in order. The grid is made here, and the words are handed on as a
+// part, which is the whole: what the caller has just written to memory is then not copied at once, for which the processor would wait.
+fn decide(words: &[u16], l: Layout) -> Found
+    requires { ⌜ Laid l (now words) ⌝ }
     ensures { λ r. ⌜ FoundIn l (now (words .entry)) r ⌝ }
 {
-    let t = word_walks::tally(words, l, g);
-    let mends = word_mends::all_mends(words, l, g);
+    let g = Grid::of(l);
+    let part = &words[0..];
+    let t = word_walks::tally(part, l, g);
+    let mends = word_mends::all_mends(part, l, g);
     Found {
         mends,
         left: !mends.none_left(t.used),
@@ -92,19 +95,18 @@ pub fn recover_in(words: &mut [u16], l: Layout, allowance: u16) -> Answer
     ensures answer { λ r. ⌜ r ≡ answerOf (recoverOf l (now (words .entry))) allowance ⌝ }
     ensures words { λ _. ⌜ now (words .exit) ≡ wordsAfter (recoverOf l (now (words .entry))) allowance (now (words .entry)) ⌝ }
 {
-    let g = Grid::of(l);
-    let found = decide(words, l, g);
+    let found = decide(words, l);
     let m = found.mends;
     if m.refusal != 0 {
         return Answer::Refused(m.refusal);
     }
     if found.left {
         let mut idents = mending::column();
-        return recover_left(words, l, g, m, &mut idents, allowance);
+        return recover_left(words, l, Grid::of(l), m, &mut idents, allowance);
     }
     let mends = m.rows;
     if found.unwiped {
-        return recover_none_left(words, l, g, mends, allowance);
+        return recover_none_left(words, l, Grid::of(l), mends, allowance);
     }
     stores::run_rows(words, mends, allowance)
 }
@@ -132,20 +134,19 @@ pub fn stores_in(words: &[u16], l: Layout) -> Needed
     requires { ⌜ Laid l (now words) ⌝ }
     ensures { λ r. ⌜ r ≡ neededOf (recoverOf l (now (words .entry))) ⌝ }
 {
-    let g = Grid::of(l);
-    let found = decide(words, l, g);
+    let found = decide(words, l);
     let lists = found.mends;
     if lists.refusal != 0 {
         return Needed::Refused(lists.refusal);
     }
     if found.left {
         let mut idents = mending::column();
-        return stores_left(words, l, g, lists, &mut idents);
+        return stores_left(words, l, Grid::of(l), lists, &mut idents);
     }
     let rows = lists.rows;
     let mends = rows.len as u16;
     if !found.unwiped {
         return Needed::Stores(mends);
     }
-    Needed::Stores(mends + word_counts::free_wipes(words, l, g))
+    Needed::Stores(mends + word_counts::free_wipes(words, l, Grid::of(l)))
 }

@@ -12,13 +12,10 @@ use Rattle.byte_mending.proofs.recover_in.Tie as tie
 
 -- the start, by the place where it is known what is found; that place, by the one where the mends are known
 abbrev start : tie.After-decide → tie.Start
-start c = c .before .before .before .before
+start c = c .before .before .before
 
 abbrev decided : tie.After-mends → tie.After-decide
 decided c = c .before .before .before .before .before
-
-of-requires : tie.Need-of-requires
-of-requires c κs = search needs
 
 decide-requires : tie.Need-decide-requires
 decide-requires c κs = search needs
@@ -38,6 +35,9 @@ returns c =
 column-requires : tie.Need-column-requires
 column-requires c κs = search needs
 
+of-requires : tie.Need-of-requires
+of-requires c κs = search needs
+
 recover-left-requires : tie.Need-recover-left-requires
 recover-left-requires c κs = search needs
 
@@ -46,6 +46,9 @@ same-length-2 c = search needs
 
 returns-2 : tie.Need-returns-2
 returns-2 c = search needs
+
+of-requires-2 : tie.Need-of-requires-2
+of-requires-2 c κs = search needs
 
 recover-none-left-requires : tie.Need-recover-none-left-requires
 recover-none-left-requires c κs = search needs
@@ -56,7 +59,7 @@ same-length-3 c = search needs
 returns-3 : tie.Need-returns-3
 returns-3 c =
     let r = c .before .before in
-    let x = r .before .before .before in
+    let x = r .before .before .before .before in
     let d = decided x in
     let f = d .decide .result in
     let s = start d in
@@ -96,14 +99,15 @@ pub recover-in-spec : {M : Type 1} → statement M
 recover-in-spec =
     tie.close
     (tie.spec
-    of-requires
     decide-requires
     same-length
     returns
     column-requires
+    of-requires
     recover-left-requires
     same-length-2
     returns-2
+    of-requires-2
     recover-none-left-requires
     same-length-3
     returns-3

@@ -15,13 +15,10 @@ use Rattle.byte_mending.proofs.stores_in.Tie as tie
 
 -- the start, by the place where it is known what is found; that place, by the one where the mends are known
 abbrev start : tie.After-decide → tie.Start
-start c = c .before .before .before
+start c = c .before .before
 
 abbrev decided : tie.After-rows → tie.After-decide
 decided c = c .before .before .before .before .before
-
-of-requires : tie.Need-of-requires
-of-requires c κs = search needs
 
 decide-requires : tie.Need-decide-requires
 decide-requires c κs = search needs
@@ -34,6 +31,9 @@ returns c =
 
 column-requires : tie.Need-column-requires
 column-requires c κs = search needs
+
+of-requires : tie.Need-of-requires
+of-requires c κs = search needs
 
 stores-left-requires : tie.Need-stores-left-requires
 stores-left-requires c κs = search needs
@@ -56,15 +56,18 @@ returns-3 c =
     ap N.Stores (d .decide .ensures .mends .held .len)
     ∙ sym (needed-mends (a .l) (wordsIn (a .bytes .now)) (f .mends) (d .decide .ensures .mends) (x .before .before .if1 .left) (s .pre .exact) (s .pre .inRange) n b)
 
+of-requires-2 : tie.Need-of-requires-2
+of-requires-2 c κs = search needs
+
 free-wipes-requires : tie.Need-free-wipes-requires
 free-wipes-requires c κs = search needs
 
 -- the place where the mends are known, by that where the wipes are counted
 abbrev known : tie.After-free-wipes → tie.After-rows
-known c = c .before .before .before .before
+known c = c .before .before .before .before .before
 
-add-t13 : tie.Need-add-t13
-add-t13 c =
+add-t14 : tie.Need-add-t14
+add-t14 c =
     let d = decided (known c) in
     let s = start d in
     let a = s .args in
@@ -85,14 +88,15 @@ pub stores-in-spec : {M : Type 1} → statement M
 stores-in-spec =
     tie.close
     (tie.spec
-    of-requires
     decide-requires
     returns
     column-requires
+    of-requires
     stores-left-requires
     returns-2
     cast-mends
     returns-3
+    of-requires-2
     free-wipes-requires
-    add-t13
+    add-t14
     returns-4)
