@@ -3,7 +3,8 @@
 -- From C each figure is a call of its own, answered 65,536 plus it. The figures are those of the call on the same words with full allowance; where
 -- it would refuse, its number is given."
 --
--- All is said of the calls: of what they answer, plan and leave. The figures are shared words' alone, so nothing is written.
+-- All is said of the calls: of what they answer, plan and leave. "Nothing is written": the calls that tell a figure are lent the words, or the bytes,
+-- to be read alone, so no contract has to say what they leave.
 use Prim.Native.Nat.{ℕ, _+_, _-_, _*_, _<_, _≤_}
 use mathlib.Core.Path.{_≡_}
 use mathlib.Core.List.{List}
