@@ -163,28 +163,32 @@ impl Results {
         format!(
             "# Benchmarks
 
-Each exported call of the proved library against a plain, careful Rust implementation of the same call (bench/src/plain.rs), on the same
-bytes, in the same run, in alternating batches. Written by
+Each exported call of the proved library against a plain, careful Rust implementation of the same
+call (bench/src/plain.rs), on the same bytes, in the same run, in alternating batches. Written by
 
     make archives && cd bench && cargo run --release --offline
 
 {machine}
 ## Times
 
-A time is that of the batch that was disturbed least, divided by its turns. The lists of a store are equally long, and their members
-lie in shuffled order. A full store has one free node; in a half full one every second node is free. Insert + delete is two calls: a record
-is inserted in the middle of a list and deleted again; the search for a free node starts at the first. 12 records are inserted in the
-middle of a list by one call and by 12; 1,000 records fill the half full store of 2,000 nodes. Mark worn is one call, on the first free
-node of a half full store. An older store has a record in every free node, which recovery wipes: in a half full one as many words as the
-members' records have. Before each of these turns the bytes that it changes are put back, and before each recovery the bytes that
-it changes are made wrong again, which is counted for both; in an older store that is a copy of half the store. Both gave the same answers
-and left the same bytes before they were measured. (!) marks a ratio above {GOAL}.
+A time is that of the batch that was disturbed least, divided by its turns. The lists of a store are
+equally long, and their members lie in shuffled order. A full store has one free node; in a half
+full one every second node is free. Insert + delete is two calls: a record is inserted in the middle
+of a list and deleted again; the search for a free node starts at the first. 12 records are inserted
+in the middle of a list by one call and by 12; 1,000 records fill the half full store of 2,000
+nodes. Mark worn is one call, on the first free node of a half full store. An older store has a
+record in every free node, which recovery wipes: in a half full one as many words as the members'
+records have. Before each of these turns the bytes that it changes are put back, and before each
+recovery the bytes that it changes are made wrong again, which is counted for both; in an older
+store that is a copy of half the store. Both gave the same answers and left the same bytes before
+they were measured. (!) marks a ratio above {GOAL}.
 
-A call that asks whether the store is sound reads the records of the free nodes too: in a half full store half of all records, in a full
-one a single record. Recovery reads them as well.
+A call that asks whether the store is sound reads the records of the free nodes too: in a half full
+store half of all records, in a full one a single record. Recovery reads them as well.
 
-Some Intel processors are slow at jumps that cross or end at a 32-byte boundary. The plain implementation is compiled without such jumps
-(bench/.cargo/config.toml), so that its times do not depend on where it comes to lie; the archive is linked as it is.
+Some Intel processors are slow at jumps that cross or end at a 32-byte boundary. The plain
+implementation is compiled without such jumps (bench/.cargo/config.toml), so that its times do not
+depend on where it comes to lie; the archive is linked as it is.
 
 {table}
 {verdict}
@@ -193,36 +197,41 @@ Some Intel processors are slow at jumps that cross or end at a 32-byte boundary.
 
 ## Told beforehand
 
-What is told of an insert of as many records as nodes are free, one in a full store: the search for the last cell goes as far round the nodes as
-it can. Beside it is check. What is told of a recovery of the same stores as above: beside it is that recovery, with its stores and with the
-bytes that are made wrong again before it. Nothing is written, so nothing is put back. Both gave the same answers.
+What is told of an insert of as many records as nodes are free, one in a full store: the search for
+the last cell goes as far round the nodes as it can. Beside it is check. What is told of a recovery
+of the same stores as above: beside it is that recovery, with its stores and with the bytes that are
+made wrong again before it. Nothing is written, so nothing is put back. Both gave the same answers.
 
 {told}
 {beside_it}
 
 ## Walks to a position
 
-Read and delete in one list of 2,000 records (1, 2000, 13), whose members lie in shuffled order. A walk starts at the header and goes the
-shorter way round: to position p of n records it should take min(p + 1, n - p) steps, each of which follows one link. Of all positions
-999 and 1,000 take the most; 999 is measured.
+Read and delete in one list of 2,000 records (1, 2000, 13), whose members lie in shuffled order. A
+walk starts at the header and goes the shorter way round: to position p of n records it should take
+min(p + 1, n - p) steps, each of which follows one link. Of all positions 999 and 1,000 take the
+most; 999 is measured.
 
-The steps are counted in the machine code of the archives: valgrind's tool lackey lists what a call reads, and a step is a cell whose link is
-read. The cells that the check reads are those of the same call at position 2,000, which is refused once the store is checked; they are
-subtracted, and with delete the cell that it takes out, whose own links name its neighbours. The walk's time is the time above the refused
-call's; with delete it includes the stores, four and one for each of the 13 words of the record. With read at both ends that is a few
-nanoseconds, about what two measurements of one call differ by, and can come out below 0.
+The steps are counted in the machine code of the archives: valgrind's tool lackey lists what a call
+reads, and a step is a cell whose link is read. The cells that the check reads are those of the same
+call at position 2,000, which is refused once the store is checked; they are subtracted, and with
+delete the cell that it takes out, whose own links name its neighbours. The walk's time is the time
+above the refused call's; with delete it includes the stores, four and one for each of the 13 words
+of the record. With read at both ends that is a few nanoseconds, about what two measurements of one
+call differ by, and can come out below 0.
 
-The C interface has no read: it is called on words, in an archive of its own (`make archives` builds it), and the plain one reads the
-same bytes. Before each delete the bytes that it changes are put back, which is counted for both. The plain one walks forward to every
-position.
+The C interface has no read: it is called on words, in an archive of its own (`make archives` builds
+it), and the plain one reads the same bytes. Before each delete the bytes that it changes are put
+back, which is counted for both. The plain one walks forward to every position.
 
 {walks}
 {ends}
 
 ## Cost per cell as stores grow
 
-The proved calls on full stores, in nanoseconds per cell (L + N cells). The largest store has 64,080 bytes, more than a first-level cache
-holds, and its cells have 32 bytes where those of the middle one have 22.
+The proved calls on full stores, in nanoseconds per cell (L + N cells). The largest store has 64,080
+bytes, more than a first-level cache holds, and its cells have 32 bytes where those of the middle
+one have 22.
 
 {growth}
 ## What limits each row
@@ -231,7 +240,8 @@ holds, and its cells have 32 bytes where those of the middle one have 22.
 
 ## Stack
 
-What each call uses of a stack of its own, on the largest store (8, 2000, 13), full. (!) marks more than {STACK_GOAL} bytes.
+What each call uses of a stack of its own, on the largest store (8, 2000, 13), full. (!) marks more
+than {STACK_GOAL} bytes.
 
 {stack}
 ## Code size
