@@ -4,6 +4,7 @@
 # make install    puts header, archive, pkg-config file and listing program below PREFIX; DESTDIR stands before it
 # make uninstall  takes them away
 # make clean      removes what was built here
+# make twins      makes the crates that crates.txt marks '# made' from those that they are twins of
 #
 # The archive and the listing program are made again if a source of any crate is newer. What was proved and has not changed is not
 # proved again. LIB=.. and LISTING=.. name others, which are taken as they are.
@@ -66,4 +67,7 @@ uninstall:
 clean:
 	rm -rf target/example target/c target/staticlib target/bin/listing
 
-.PHONY: all archives example install uninstall clean
+twins:
+	tools/twins
+
+.PHONY: all archives example install uninstall clean twins

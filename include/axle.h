@@ -174,7 +174,7 @@ extern "C" {
 /* The version of the library: in numbers, and as text "MAJOR.MINOR.PATCH". */
 #define AXLE_VERSION_MAJOR 1
 #define AXLE_VERSION_MINOR 7
-#define AXLE_VERSION_PATCH 0
+#define AXLE_VERSION_PATCH 1
 #define AXLE_VERSION AXLE_DOTTED(AXLE_VERSION_MAJOR, AXLE_VERSION_MINOR, AXLE_VERSION_PATCH)
 #define AXLE_DOTTED(a, b, c) AXLE_QUOTED(a) "." AXLE_QUOTED(b) "." AXLE_QUOTED(c)
 #define AXLE_QUOTED(a) #a

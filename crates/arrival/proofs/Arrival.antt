@@ -25,9 +25,9 @@ use Rattle.edits.specs.Edits.{insertWrites, chain, deleteWrites, freeFrom}
 use Rattle.edits.specs.Edited.{recordIn}
 use Rattle.edits.proofs.Done.{gap-facts}
 use Rattle.edits.proofs.Gaps.{gaps-looked}
-use Rattle.axle_store.specs.Calls.{readWords, insertPlan, severalPlan, deletePlan}
-use Rattle.axle_store.proofs.Cases.{insert-refused, insert-at, several-refused, several-at, delete-at}
-use Rattle.axle_store.proofs.Calls.{sound-opened, sound-decided, sound-read}
+use Rattle.calls.specs.Calls.{readWords, insertPlan, severalPlan, deletePlan}
+use Rattle.calls.proofs.Cases.{insert-refused, insert-at, several-refused, several-at, delete-at}
+use Rattle.calls.proofs.Calls.{sound-opened, sound-decided, sound-read}
 use Rattle.arrival.specs.Arrival.{linksIn, Walks, Arrival}
 
 module _ (w : List ℕ) (s : Sound w) (k : ℕ) (hk : k < layoutOf w .lists) where

@@ -1,7 +1,7 @@
 -- "However read and delete find their cell now, from here on a step follows one link, from the nearer end, and is run with a budget. Show
 -- that a budget of half the list's length, rounded up, always arrives. Read and delete give what they gave."
 --
--- What they gave is said where it was (axle_store/specs/Calls.antt). Here stands where the walk arrives: at the cell whose record read
+-- What they gave is said where it was (calls/specs/Calls.antt). Here stands where the walk arrives: at the cell whose record read
 -- gives, at the one that delete takes out, and at the one behind which insert puts its records.
 use Prim.Native.Nat.{ℕ, _+_, _<_, _≤_}
 use mathlib.Core.Path.{_≡_}
@@ -15,7 +15,7 @@ use Rattle.seeks.specs.declared.Sought.the-variants as S
 use Rattle.seeks.specs.Seeks.{nearer, runWith, half, Reached}
 use Rattle.edits.specs.Edits.{insertWrites, chain, deleteWrites}
 use Rattle.edits.specs.Edited.{recordIn}
-use Rattle.axle_store.specs.Calls.{readWords, insertPlan, severalPlan, deletePlan}
+use Rattle.calls.specs.Calls.{readWords, insertPlan, severalPlan, deletePlan}
 
 -- the links of the cells of a store
 abbrev pub linksIn : List ℕ → View

@@ -1,19 +1,17 @@
-// The C interface (include/axle.h): the calls on a store in byte form. Each asks and answers as the call of crate axle_store does on the
-// words of the bytes; the stores are made in the lent bytes, in the same order.
-use edits::Foretold;
-use layout::Layout;
-use requests::Looked;
-use requests::Request;
-use stores::Answer;
-use stores::Needed;
+// The C interface (include/axle.h): the calls on a store in byte form, of crate byte_calls, each with its answer as one number.
+use calls::Answer;
+use calls::Counted;
+use calls::Foretold;
+use calls::Needed;
 ghost use mathlib.Core.Path.{_≡_};
-ghost use Prim.Native.Nat.{_+_, _/_, _%_};
-ghost use Rattle.stores.specs.Stores.{answerOf};
+ghost use Prim.Native.Nat.{_+_, _/_};
+ghost use Rattle.calls.specs.Answers.{answerOf, foretoldUnworn};
 ghost use Rattle.byte_form.specs.Bytes.{wordsIn, bytesAfter};
 ghost use Rattle.layout.specs.Words.{layoutFor, layoutOf};
 ghost use Rattle.lists.specs.Lists.{KeepsWorn};
-ghost use Rattle.edits.specs.Edits.{markStores, foretoldUnworn};
-ghost use Rattle.axle.specs.Interface.{codeOf, firstCode, lastCode, storesCode, neededCode, checkCode, lengthCode, wholeCode, wholeBytes, byteFormat, byteInsert, byteSeveral, byteFigures, byteDelete, byteMark, byteRecover, byteNeeded};
+ghost use Rattle.edits.specs.Edits.{markStores};
+ghost use Rattle.byte_calls.specs.Plans.{wholeBytes, byteFormat, byteInsert, byteSeveral, byteFigures, byteDelete, byteMark, byteRecover, byteNeeded};
+ghost use Rattle.axle.specs.Interface.{codeOf, countedCode, firstCode, lastCode, storesCode, neededCode, checkCode, lengthCode, wholeCode};
 
 // What stands in front of the number of stores done or of a length, and of the number where stopped.
 const DONE: u32 = 65536;
@@ -28,6 +26,16 @@ fn code(answer: Answer) -> u32
         Answer::Done(n) => DONE + n as u32,
         Answer::Stopped(n) => STOPPED + n as u32,
         Answer::Refused(n) => n as u32,
+    }
+}
+
+// The number of a length.
+fn counted_code(counted: Counted) -> u32
+    ensures { λ r. ⌜ r ≡ countedCode counted ⌝ }
+{
+    match counted {
+        Counted::Length(n) => DONE + n as u32,
+        Counted::Refused(n) => n as u32,
     }
 }
 
@@ -74,23 +82,7 @@ pub extern "C" fn axle_format(store: &mut [u8], lists: u16, nodes: u16, record_w
     ensures answer { λ r. ⌜ r ≡ wholeCode (byteFormat (layoutFor lists nodes record_words) (now (store .entry))) ⌝ }
     ensures bytes { λ _. ⌜ now (store .exit) ≡ wholeBytes (byteFormat (layoutFor lists nodes record_words) (now (store .entry))) (now (store .entry)) ⌝ }
 {
-    if store.len() % 2 != 0 {
-        return 4;
-    }
-    let l = Layout {
-        version: Layout::NEWEST,
-        lists,
-        nodes,
-        width: record_words,
-    };
-    if !l.in_range() {
-        return 3;
-    }
-    if store.len() / 2 != l.size() {
-        return 4;
-    }
-    byte_format::fill(store, l);
-    0
+    byte_calls::format(store, lists, nodes, record_words).number() as u32
 }
 
 // Is the store sound?
@@ -98,13 +90,7 @@ pub extern "C" fn axle_format(store: &mut [u8], lists: u16, nodes: u16, record_w
 pub extern "C" fn axle_check(store: &[u8]) -> u32
     ensures { λ r. ⌜ r ≡ checkCode (now (store .entry)) ⌝ }
 {
-    if store.len() % 2 != 0 {
-        return 4;
-    }
-    match byte_requests::look(store, Request::Check) {
-        Looked::Refused(n) => n as u32,
-        Looked::At(_, _) => 0,
-    }
+    byte_calls::check(store).number() as u32
 }
 
 // How many records has the list?
@@ -112,13 +98,7 @@ pub extern "C" fn axle_check(store: &[u8]) -> u32
 pub extern "C" fn axle_length(store: &[u8], list: u16) -> u32
     ensures { λ r. ⌜ r ≡ lengthCode (now (store .entry)) list ⌝ }
 {
-    if store.len() % 2 != 0 {
-        return 4;
-    }
-    match byte_requests::look(store, Request::Whole(list)) {
-        Looked::Refused(n) => n as u32,
-        Looked::At(_, t) => DONE + t.count as u32,
-    }
+    counted_code(byte_calls::length(store, list))
 }
 
 // Inserts a record into the list at the position, in the first free cell from the starting cell on. Worn nodes are passed over.
@@ -135,9 +115,6 @@ pub extern "C" fn axle_insert(
     ensures bytes { λ _. ⌜ now (store .exit) ≡ bytesAfter (byteInsert (now (store .entry)) list position start (now (rec .entry))) allowance (now (store .entry)) ⌝ }
     ensures worn { λ _. ⌜ KeepsWorn (layoutOf (wordsIn (now (store .entry)))) (wordsIn (now (store .entry))) (wordsIn (now (store .exit))) ⌝ }
 {
-    if store.len() % 2 != 0 {
-        return 4;
-    }
     code(byte_calls::insert(store, list, position, start, rec, allowance))
 }
 
@@ -155,9 +132,6 @@ pub extern "C" fn axle_insert_several(
     ensures bytes { λ _. ⌜ now (store .exit) ≡ bytesAfter (byteSeveral (now (store .entry)) list position start (now (records .entry))) allowance (now (store .entry)) ⌝ }
     ensures worn { λ _. ⌜ KeepsWorn (layoutOf (wordsIn (now (store .entry)))) (wordsIn (now (store .entry))) (wordsIn (now (store .exit))) ⌝ }
 {
-    if store.len() % 2 != 0 {
-        return 4;
-    }
     code(byte_calls::insert_several(store, list, position, start, records, allowance))
 }
 
@@ -173,9 +147,6 @@ pub extern "C" fn axle_insert_several_first_cell(
     ensures answer { λ r. ⌜ r ≡ firstCode (byteFigures (now (store .entry)) list position start (now (records .entry))) ⌝ }
     ensures worn { λ _. ⌜ foretoldUnworn (layoutOf (wordsIn (now (store .entry)))) (wordsIn (now (store .entry))) (byteFigures (now (store .entry)) list position start (now (records .entry))) ⌝ }
 {
-    if store.len() % 2 != 0 {
-        return 4;
-    }
     first_code(byte_calls::insert_several_figures(store, list, position, start, records))
 }
 
@@ -191,9 +162,6 @@ pub extern "C" fn axle_insert_several_last_cell(
     ensures answer { λ r. ⌜ r ≡ lastCode (byteFigures (now (store .entry)) list position start (now (records .entry))) ⌝ }
     ensures worn { λ _. ⌜ foretoldUnworn (layoutOf (wordsIn (now (store .entry)))) (wordsIn (now (store .entry))) (byteFigures (now (store .entry)) list position start (now (records .entry))) ⌝ }
 {
-    if store.len() % 2 != 0 {
-        return 4;
-    }
     last_code(byte_calls::insert_several_figures(store, list, position, start, records))
 }
 
@@ -209,9 +177,6 @@ pub extern "C" fn axle_insert_several_stores(
     ensures answer { λ r. ⌜ r ≡ storesCode (byteFigures (now (store .entry)) list position start (now (records .entry))) ⌝ }
     ensures worn { λ _. ⌜ foretoldUnworn (layoutOf (wordsIn (now (store .entry)))) (wordsIn (now (store .entry))) (byteFigures (now (store .entry)) list position start (now (records .entry))) ⌝ }
 {
-    if store.len() % 2 != 0 {
-        return 4;
-    }
     stores_code(byte_calls::insert_several_figures(store, list, position, start, records))
 }
 
@@ -221,9 +186,6 @@ pub extern "C" fn axle_delete(store: &mut [u8], list: u16, position: u16, allowa
     ensures answer { λ r. ⌜ r ≡ codeOf (answerOf (byteDelete (now (store .entry)) list position) allowance) ⌝ }
     ensures bytes { λ _. ⌜ now (store .exit) ≡ bytesAfter (byteDelete (now (store .entry)) list position) allowance (now (store .entry)) ⌝ }
 {
-    if store.len() % 2 != 0 {
-        return 4;
-    }
     code(byte_calls::delete(store, list, position, allowance))
 }
 
@@ -233,9 +195,6 @@ pub extern "C" fn axle_mark_worn(store: &mut [u8], cell: u16) -> u32
     ensures answer { λ r. ⌜ r ≡ codeOf (answerOf (byteMark (now (store .entry)) cell) markStores) ⌝ }
     ensures bytes { λ _. ⌜ now (store .exit) ≡ bytesAfter (byteMark (now (store .entry)) cell) markStores (now (store .entry)) ⌝ }
 {
-    if store.len() % 2 != 0 {
-        return 4;
-    }
     code(byte_calls::mark_worn(store, cell))
 }
 
@@ -246,9 +205,6 @@ pub extern "C" fn axle_recover(store: &mut [u8], allowance: u16) -> u32
     ensures answer { λ r. ⌜ r ≡ codeOf (answerOf (byteRecover (now (store .entry))) allowance) ⌝ }
     ensures bytes { λ _. ⌜ now (store .exit) ≡ bytesAfter (byteRecover (now (store .entry))) allowance (now (store .entry)) ⌝ }
 {
-    if store.len() % 2 != 0 {
-        return 4;
-    }
     code(byte_calls::recover(store, allowance))
 }
 
@@ -257,8 +213,5 @@ pub extern "C" fn axle_recover(store: &mut [u8], allowance: u16) -> u32
 pub extern "C" fn axle_recover_stores(store: &[u8]) -> u32
     ensures { λ r. ⌜ r ≡ neededCode (byteNeeded (now (store .entry))) ⌝ }
 {
-    if store.len() % 2 != 0 {
-        return 4;
-    }
     needed_code(byte_calls::recover_stores(store))
 }

@@ -7,23 +7,25 @@ use native.Mathlib.Omega.{arith}
 use native.Mathlib.Nat.{mul-le-mul}
 use lib.Dec.{eqb}
 use lib.ListN.{length, length-drop}
-use Rattle.stores.specs.declared.Needed.{Needed}
-use Rattle.stores.specs.declared.Needed.the-variants as N
-use Rattle.stores.specs.Stores.{Write, Plan, refuse, stores, answerOf, wordsAfter, planNumber, neededOf, neededStores}
-use Rattle.stores.proofs.Laws.{applied-all, answer-done}
+use Rattle.calls.specs.declared.Needed.{Needed}
+use Rattle.calls.specs.declared.Needed.the-variants as N
+use Rattle.calls.specs.Answers.{answerOf, neededOf, neededStores}
+use Rattle.stores.specs.Stores.{Write, Plan, refuse, stores, wordsAfter, planNumber}
+use Rattle.calls.proofs.Answers.{answer-done}
+use Rattle.stores.proofs.Laws.{applied-all}
 use Rattle.byte_form.specs.Bytes.{wordsIn, bytesAfter}
 use Rattle.byte_form.proofs.Laws.{words-after}
 use Rattle.layout.specs.declared.Layout.{Layout}
 use Rattle.layout.specs.Words.{ask, InRange, tailWords, layoutOf}
 use Rattle.layout.proofs.Laws.{opened-open}
-use Rattle.edits.specs.declared.Foretold.{Foretold}
-use Rattle.edits.specs.declared.Foretold.the-variants as T
+use Rattle.calls.specs.declared.Foretold.{Foretold}
+use Rattle.calls.specs.declared.Foretold.the-variants as T
 use Rattle.recovery.specs.Plan.{mostStores, fittingOf, recoverPlan, differing}
 use Rattle.recovery.proofs.Count.{plan-differs}
-use Rattle.axle_store.specs.Calls.{severalPlan, severalFigures, recoverNeeded}
+use Rattle.calls.specs.Calls.{severalPlan, severalFigures, recoverNeeded}
 use Rattle.courses.proofs.Single.{planned, sound-recover}
-use Rattle.byte_calls.specs.Records.{recordWords}
-use Rattle.axle.specs.Interface.{codeOf, firstCode, lastCode, storesCode, neededCode, byteSeveral, byteFigures, byteRecover, byteNeeded}
+use Rattle.byte_calls.specs.Plans.{recordWords, byteSeveral, byteFigures, byteRecover, byteNeeded}
+use Rattle.axle.specs.Interface.{codeOf, firstCode, lastCode, storesCode, neededCode}
 use Rattle.counting.proofs.Counting.{counting}
 use Rattle.beforehand.specs.Beforehand.{full, answerBy, neededBy, Uses, Beforehand}
 use Rattle.beforehand.proofs.Cells.{answer-told, told-refused, told-stored, uses-told}

@@ -6,9 +6,10 @@ use native.Mathlib.Omega.{arith}
 use native.Mathlib.Nat.{zero-mul, suc-mul, mul-div-left}
 use lib.ListN.{length, getD, take, drop}
 use lib.Seq.{length-take-le, getD-append-add}
-use Rattle.stores.specs.declared.Answer.the-variants as A
-use Rattle.stores.specs.Stores.{Write, write, inRow, Plan, refuse, stores, answerOf, wordsAfter, planNumber}
-use Rattle.stores.proofs.Laws.{answer-done}
+use Rattle.calls.specs.declared.Answer.the-variants as A
+use Rattle.calls.specs.Answers.{answerOf, figuresOf, foretoldFirst, foretoldLast, foretoldStores}
+use Rattle.stores.specs.Stores.{Write, write, inRow, Plan, refuse, stores, wordsAfter, planNumber}
+use Rattle.calls.proofs.Answers.{answer-done}
 use Rattle.layout.specs.declared.Layout.{Layout}
 use Rattle.layout.specs.declared.Opened.the-variants as O
 use Rattle.layout.specs.Words.{tailWords, layoutOf, recordAt, opened}
@@ -24,15 +25,15 @@ use Rattle.requests.specs.declared.Request.the-variants.{Gaps}
 use Rattle.requests.specs.Requests.{siteOf, lookOf, withLook}
 use Rattle.requests.proofs.Search.{free-few}
 use Rattle.requests.proofs.Sites.{some-whole}
-use Rattle.edits.specs.declared.Foretold.{Foretold}
-use Rattle.edits.specs.declared.Foretold.the-variants as T
-use Rattle.edits.specs.Edits.{insertLinks, insertWrites, insertStores, chain, freeFrom, figuresOf, foretoldFirst, foretoldLast, foretoldStores}
+use Rattle.calls.specs.declared.Foretold.{Foretold}
+use Rattle.calls.specs.declared.Foretold.the-variants as T
+use Rattle.edits.specs.Edits.{insertLinks, insertWrites, insertStores, chain, freeFrom}
 use Rattle.edits.specs.Edited.{spliceAt, recordsOf}
 use Rattle.edits.proofs.Done.{looked}
 use Rattle.edits.proofs.Several.{insert-length, first-words, other-words, chain-length, stores-few}
 use Rattle.edits.proofs.Gaps.{GapsLooked, gaps-looked, gaps-cells, gaps-number, gaps-words}
-use Rattle.axle_store.specs.Calls.{severalPlan, severalFigures}
-use Rattle.axle_store.proofs.Calls.{decided-sound}
+use Rattle.calls.specs.Calls.{severalPlan, severalFigures}
+use Rattle.calls.proofs.Calls.{decided-sound}
 use Rattle.demands.specs.Demand2.{recordsIn, Leaves}
 use Rattle.demands.proofs.Demand2.{demand2}
 use Rattle.beforehand.specs.Beforehand.{full, answerBy, neededBy, Uses}

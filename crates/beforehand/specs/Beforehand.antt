@@ -9,22 +9,23 @@ use Prim.Native.Nat.{ℕ, _+_, _-_, _*_, _<_, _≤_}
 use mathlib.Core.Path.{_≡_}
 use mathlib.Core.List.{List}
 use lib.ListN.{length, getD}
-use Rattle.stores.specs.declared.Answer.{Answer}
-use Rattle.stores.specs.declared.Answer.the-variants as A
-use Rattle.stores.specs.declared.Needed.{Needed}
-use Rattle.stores.specs.declared.Needed.the-variants as N
-use Rattle.stores.specs.Stores.{Write, write, refuse, stores, answerOf, wordsAfter}
+use Rattle.calls.specs.declared.Answer.{Answer}
+use Rattle.calls.specs.declared.Answer.the-variants as A
+use Rattle.calls.specs.declared.Needed.{Needed}
+use Rattle.calls.specs.declared.Needed.the-variants as N
+use Rattle.calls.specs.Answers.{answerOf}
+use Rattle.stores.specs.Stores.{Write, write, refuse, stores, wordsAfter}
 use Rattle.byte_form.specs.Bytes.{wordsIn, bytesAfter}
 use Rattle.layout.specs.Words.{tailWords, layoutOf, recordAt}
 use Rattle.lists.specs.Lists.{Sound}
-use Rattle.edits.specs.declared.Foretold.{Foretold}
-use Rattle.edits.specs.declared.Foretold.the-variants as T
+use Rattle.calls.specs.declared.Foretold.{Foretold}
+use Rattle.calls.specs.declared.Foretold.the-variants as T
 use Rattle.edits.specs.Edited.{spliceAt, FreeNodes, recordsOf}
 use Rattle.recovery.specs.Plan.{mostStores, recoverPlan, differing}
-use Rattle.axle_store.specs.Calls.{severalPlan, severalFigures, recoverNeeded}
+use Rattle.calls.specs.Calls.{severalPlan, severalFigures, recoverNeeded}
 use Rattle.demands.specs.Demand2.{recordsIn, Leaves}
-use Rattle.byte_calls.specs.Records.{recordWords}
-use Rattle.axle.specs.Interface.{codeOf, firstCode, lastCode, storesCode, neededCode, byteSeveral, byteFigures, byteRecover, byteNeeded}
+use Rattle.byte_calls.specs.Plans.{recordWords, byteSeveral, byteFigures, byteRecover, byteNeeded}
+use Rattle.axle.specs.Interface.{codeOf, firstCode, lastCode, storesCode, neededCode}
 
 -- "an allowance, 0 to 65,535": the full one
 abbrev pub full : ℕ

@@ -1,23 +1,24 @@
-// Insert, delete, mark and recover on lent bytes: what the calls of crate axle_store are on words. That the bytes are even is asked above, in crate axle.
-use edits::Foretold;
+// The calls on lent bytes. Each asks its questions, and answers and stores what crate calls says; what it stores, it stores in the lent bytes.
+use calls::Answer;
+use calls::Checked;
+use calls::Counted;
+use calls::Foretold;
+use calls::Formatted;
+use calls::Needed;
 use layout::Layout;
 use layout::Opened;
 use requests::Ends;
 use requests::Looked;
 use requests::Request;
-use stores::Answer;
-use stores::Needed;
 ghost use mathlib.Core.Path.{_≡_};
-ghost use Prim.Native.Nat.{_%_, _≤_};
+ghost use Prim.Native.Nat.{_≤_};
 ghost use lib.ListN.{length};
-ghost use Rattle.stores.specs.Stores.{answerOf};
 ghost use Rattle.byte_form.specs.Bytes.{wordsIn, bytesAfter};
-ghost use Rattle.layout.specs.Words.{headWords, layoutOf};
+ghost use Rattle.layout.specs.Words.{headWords, layoutFor, layoutOf};
 ghost use Rattle.lists.specs.Lists.{KeepsWorn};
-ghost use Rattle.edits.specs.Edits.{markStores, foretoldUnworn};
-ghost use Rattle.recovery.specs.Plan.{recoverPlan};
-ghost use Rattle.axle_store.specs.Calls.{insertPlan, severalPlan, severalFigures, deletePlan, markPlan, recoverNeeded};
-ghost use Rattle.byte_calls.specs.Records.{recordWords};
+ghost use Rattle.edits.specs.Edits.{markStores};
+ghost use Rattle.calls.specs.Answers.{formattedOf, answerOf, foretoldUnworn};
+ghost use Rattle.byte_calls.specs.Plans.{recordWords, byteFormat, wholeBytes, byteCheck, byteLength, byteInsert, byteSeveral, byteFigures, byteDelete, byteMark, byteRecover, byteNeeded};
 
 // The layout of a store that is open. It is read again by the calls that store: that is quicker than to hand it on with the site.
 fn layout_of(bytes: &[u8]) -> Layout
@@ -32,14 +33,58 @@ fn layout_of(bytes: &[u8]) -> Layout
     }
 }
 
-// The number of a record's words, 0 if its bytes are odd.
+// The number of a record's words, 0 if its bytes are not whole words.
 fn record_size(rec: &[u8]) -> usize
     ensures { λ r. ⌜ r ≡ length (recordWords (now (rec .entry))) ⌝ }
 {
-    if rec.len() % 2 != 0 {
+    if !byte_form::is_whole(rec) {
         return 0;
     }
-    rec.len() / 2
+    byte_form::size(rec)
+}
+
+// Writes a store of empty lists.
+pub fn format(bytes: &mut [u8], lists: u16, nodes: u16, width: u16) -> Formatted
+    ensures answer { λ r. ⌜ r ≡ formattedOf (byteFormat (layoutFor lists nodes width) (now (bytes .entry))) ⌝ }
+    ensures bytes { λ _. ⌜ now (bytes .exit) ≡ wholeBytes (byteFormat (layoutFor lists nodes width) (now (bytes .entry))) (now (bytes .entry)) ⌝ }
+{
+    if !byte_form::is_whole(bytes) {
+        return Formatted::Refused(4);
+    }
+    let l = Layout {
+        version: Layout::NEWEST,
+        lists,
+        nodes,
+        width,
+    };
+    if !l.in_range() {
+        return Formatted::Refused(3);
+    }
+    if byte_form::size(bytes) != l.size() {
+        return Formatted::Refused(4);
+    }
+    byte_format::fill(bytes, l);
+    Formatted::Done
+}
+
+// Is the store sound?
+pub fn check(bytes: &[u8]) -> Checked
+    ensures { λ r. ⌜ r ≡ byteCheck (now (bytes .entry)) ⌝ }
+{
+    match byte_requests::look(bytes, Request::Check) {
+        Looked::Refused(n) => Checked::Refused(n),
+        Looked::At(_, _) => Checked::Sound,
+    }
+}
+
+// How many records has the list?
+pub fn length(bytes: &[u8], list: u16) -> Counted
+    ensures { λ r. ⌜ r ≡ byteLength (now (bytes .entry)) list ⌝ }
+{
+    match byte_requests::look(bytes, Request::Whole(list)) {
+        Looked::Refused(n) => Counted::Refused(n),
+        Looked::At(_, t) => Counted::Length(t.count),
+    }
 }
 
 // Inserts a record. Worn nodes are passed over.
@@ -51,8 +96,8 @@ pub fn insert(
     rec: &[u8],
     allowance: u16,
 ) -> Answer
-    ensures answer { λ r. ⌜ r ≡ answerOf (insertPlan (wordsIn (now (bytes .entry))) list position start (recordWords (now (rec .entry)))) allowance ⌝ }
-    ensures bytes { λ _. ⌜ now (bytes .exit) ≡ bytesAfter (insertPlan (wordsIn (now (bytes .entry))) list position start (recordWords (now (rec .entry)))) allowance (now (bytes .entry)) ⌝ }
+    ensures answer { λ r. ⌜ r ≡ answerOf (byteInsert (now (bytes .entry)) list position start (now (rec .entry))) allowance ⌝ }
+    ensures bytes { λ _. ⌜ now (bytes .exit) ≡ bytesAfter (byteInsert (now (bytes .entry)) list position start (now (rec .entry))) allowance (now (bytes .entry)) ⌝ }
     ensures worn { λ _. ⌜ KeepsWorn (layoutOf (wordsIn (now (bytes .entry)))) (wordsIn (now (bytes .entry))) (wordsIn (now (bytes .exit))) ⌝ }
 {
     let n = record_size(rec);
@@ -71,8 +116,8 @@ pub fn insert_several(
     records: &[u8],
     allowance: u16,
 ) -> Answer
-    ensures answer { λ r. ⌜ r ≡ answerOf (severalPlan (wordsIn (now (bytes .entry))) list position start (recordWords (now (records .entry)))) allowance ⌝ }
-    ensures bytes { λ _. ⌜ now (bytes .exit) ≡ bytesAfter (severalPlan (wordsIn (now (bytes .entry))) list position start (recordWords (now (records .entry)))) allowance (now (bytes .entry)) ⌝ }
+    ensures answer { λ r. ⌜ r ≡ answerOf (byteSeveral (now (bytes .entry)) list position start (now (records .entry))) allowance ⌝ }
+    ensures bytes { λ _. ⌜ now (bytes .exit) ≡ bytesAfter (byteSeveral (now (bytes .entry)) list position start (now (records .entry))) allowance (now (bytes .entry)) ⌝ }
     ensures worn { λ _. ⌜ KeepsWorn (layoutOf (wordsIn (now (bytes .entry)))) (wordsIn (now (bytes .entry))) (wordsIn (now (bytes .exit))) ⌝ }
 {
     let n = record_size(records);
@@ -97,7 +142,7 @@ pub fn insert_several_figures(
     start: u16,
     records: &[u8],
 ) -> Foretold
-    ensures figures { λ r. ⌜ r ≡ severalFigures (wordsIn (now (bytes .entry))) list position start (recordWords (now (records .entry))) ⌝ }
+    ensures figures { λ r. ⌜ r ≡ byteFigures (now (bytes .entry)) list position start (now (records .entry)) ⌝ }
     ensures worn { λ r. ⌜ foretoldUnworn (layoutOf (wordsIn (now (bytes .entry)))) (wordsIn (now (bytes .entry))) r ⌝ }
 {
     let size = record_size(records);
@@ -114,8 +159,8 @@ pub fn insert_several_figures(
 
 // Deletes a record.
 pub fn delete(bytes: &mut [u8], list: u16, position: u16, allowance: u16) -> Answer
-    ensures answer { λ r. ⌜ r ≡ answerOf (deletePlan (wordsIn (now (bytes .entry))) list position) allowance ⌝ }
-    ensures bytes { λ _. ⌜ now (bytes .exit) ≡ bytesAfter (deletePlan (wordsIn (now (bytes .entry))) list position) allowance (now (bytes .entry)) ⌝ }
+    ensures answer { λ r. ⌜ r ≡ answerOf (byteDelete (now (bytes .entry)) list position) allowance ⌝ }
+    ensures bytes { λ _. ⌜ now (bytes .exit) ≡ bytesAfter (byteDelete (now (bytes .entry)) list position) allowance (now (bytes .entry)) ⌝ }
 {
     match byte_requests::look(bytes, Request::Member(list, position)) {
         Looked::Refused(n) => Answer::Refused(n),
@@ -125,8 +170,8 @@ pub fn delete(bytes: &mut [u8], list: u16, position: u16, allowance: u16) -> Ans
 
 // Marks a free node as worn.
 pub fn mark_worn(bytes: &mut [u8], cell: u16) -> Answer
-    ensures answer { λ r. ⌜ r ≡ answerOf (markPlan (wordsIn (now (bytes .entry))) cell) markStores ⌝ }
-    ensures bytes { λ _. ⌜ now (bytes .exit) ≡ bytesAfter (markPlan (wordsIn (now (bytes .entry))) cell) markStores (now (bytes .entry)) ⌝ }
+    ensures answer { λ r. ⌜ r ≡ answerOf (byteMark (now (bytes .entry)) cell) markStores ⌝ }
+    ensures bytes { λ _. ⌜ now (bytes .exit) ≡ bytesAfter (byteMark (now (bytes .entry)) cell) markStores (now (bytes .entry)) ⌝ }
 {
     match byte_requests::look(bytes, Request::Mark(cell)) {
         Looked::Refused(n) => Answer::Refused(n),
@@ -137,10 +182,10 @@ pub fn mark_worn(bytes: &mut [u8], cell: u16) -> Answer
     }
 }
 
-// Recovers any store.
+// Recovers the store by correction.
 pub fn recover(bytes: &mut [u8], allowance: u16) -> Answer
-    ensures answer { λ r. ⌜ r ≡ answerOf (recoverPlan (wordsIn (now (bytes .entry)))) allowance ⌝ }
-    ensures bytes { λ _. ⌜ now (bytes .exit) ≡ bytesAfter (recoverPlan (wordsIn (now (bytes .entry)))) allowance (now (bytes .entry)) ⌝ }
+    ensures answer { λ r. ⌜ r ≡ answerOf (byteRecover (now (bytes .entry))) allowance ⌝ }
+    ensures bytes { λ _. ⌜ now (bytes .exit) ≡ bytesAfter (byteRecover (now (bytes .entry))) allowance (now (bytes .entry)) ⌝ }
 {
     match byte_requests::open(bytes) {
         Opened::Refused(n) => Answer::Refused(n),
@@ -148,9 +193,9 @@ pub fn recover(bytes: &mut [u8], allowance: u16) -> Answer
     }
 }
 
-// How many stores recovery of any store will make.
+// How many stores a recovery will make.
 pub fn recover_stores(bytes: &[u8]) -> Needed
-    ensures { λ r. ⌜ r ≡ recoverNeeded (wordsIn (now (bytes .entry))) ⌝ }
+    ensures { λ r. ⌜ r ≡ byteNeeded (now (bytes .entry)) ⌝ }
 {
     match byte_requests::open(bytes) {
         Opened::Refused(n) => Needed::Refused(n),

@@ -1,18 +1,19 @@
 // Nodes in no list, found and cleared in the lent bytes: the identifiers are read into a column, the members erased there, and those left that
 // say in use cleared.
+use calls::Answer;
+use layout::Grid;
 use layout::Layout;
-use spans::Grid;
-use stores::Answer;
 ghost use mathlib.Core.Path.{_≡_};
 ghost use Prim.Native.Nat.{ℕ, _+_, _<_};
 ghost use mathlib.Core.List.{[], _∷_};
 ghost use mathlib.Core.Bool.{false};
 ghost use lib.ListN.{length, getD};
-ghost use Rattle.stores.specs.Stores.{write, run, stores, answerOf};
+ghost use Rattle.calls.specs.Answers.{answerOf};
+ghost use Rattle.stores.specs.Stores.{write, run, stores};
 ghost use Rattle.byte_form.specs.Bytes.{wordsIn, byteWrites, appliedBytes};
 ghost use Rattle.layout.specs.Words.{mostCells, Laid, Node, identAt};
 ghost use Rattle.lists.specs.Decide.{viewOf};
-ghost use Rattle.spans.specs.Spans.{Gridded};
+ghost use Rattle.layout.specs.Cells.{Gridded};
 ghost use Rattle.fitting.specs.Fitting.{membersBy};
 ghost use Rattle.mending.specs.Mending.{erased, erasedAlong, erasedFrom, clears};
 

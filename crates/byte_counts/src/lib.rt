@@ -1,7 +1,7 @@
 // Recovery's stores to nodes outside all lists, counted in the lent bytes; none is made. A node's record words are asked together whether all are
 // 0; only where they are not, those that are not are counted.
+use layout::Grid;
 use layout::Layout;
-use spans::Grid;
 ghost use mathlib.Core.Path.{_≡_};
 ghost use Prim.Native.Nat.{_+_, _≤_};
 ghost use lib.ListN.{length, replicate};
@@ -9,7 +9,7 @@ ghost use Rattle.stores.specs.Stores.{inRow};
 ghost use Rattle.byte_form.specs.Bytes.{wordsIn};
 ghost use Rattle.layout.specs.Words.{firstNode, Laid, Node};
 ghost use Rattle.lists.specs.Lists.{blankAsked};
-ghost use Rattle.spans.specs.Spans.{Gridded};
+ghost use Rattle.layout.specs.Cells.{Gridded};
 ghost use Rattle.recovery.specs.Fits.{wrong};
 ghost use Rattle.mending.specs.Mending.{wipesOf, wipes, outsideOf, outsideFrom};
 

@@ -5,9 +5,10 @@ use mathlib.Core.List.{List, [], _∷_, _++_, map}
 use lib.ListN.{length}
 use borrow.Author.Tests.{eq-eqb}
 use Rattle.sequences.specs.Sequence.{All}
-use Rattle.stores.specs.declared.Answer.{Answer}
-use Rattle.stores.specs.declared.Answer.the-variants as A
-use Rattle.stores.specs.Stores.{Write, Plan, run, answerOf, wordsAfter, madeBy}
+use Rattle.calls.specs.declared.Answer.{Answer}
+use Rattle.calls.specs.declared.Answer.the-variants as A
+use Rattle.calls.specs.Answers.{answerOf}
+use Rattle.stores.specs.Stores.{Write, Plan, run, wordsAfter, madeBy}
 use Rattle.stores.proofs.Laws.{run-append}
 use Rattle.byte_form.specs.Bytes.{wordsIn, byteWrites, bytesAfter}
 use Rattle.byte_form.proofs.Laws.{words-after, length-after, byte-append, bytes-made}
@@ -17,7 +18,8 @@ use Rattle.recovery.specs.Plan.{recoverPlan}
 use Rattle.courses.specs.Course.{Edit, insert, several, delete, named, editPlan, allStores, needed, dueWords, Alteration, AllowedBut, alteredBelow, found, wordsThrough, answersThrough, storesThrough, NotRefused}
 use Rattle.courses.specs.Demand3.{Course}
 use Rattle.courses.proofs.Demand3.{demand3}
-use Rattle.axle.specs.Interface.{codeOf, byteInsert, byteSeveral, byteDelete, byteRecover}
+use Rattle.byte_calls.specs.Plans.{byteInsert, byteSeveral, byteDelete, byteRecover}
+use Rattle.axle.specs.Interface.{codeOf}
 use Rattle.byte_courses.specs.ByteCourse.{byteEdit, inWords, Found, bytesThrough, codesThrough}
 use Rattle.byte_courses.specs.ByteDemand3.{NotRefusal, ByteCourse, ByteDemand3}
 

@@ -3,12 +3,13 @@ use Prim.Native.Nat.{ℕ, _%_}
 use mathlib.Core.Path.{_≡_}
 use mathlib.Core.List.{List, [], _∷_}
 use lib.ListN.{length}
-use Rattle.stores.specs.Stores.{Plan, answerOf}
+use Rattle.calls.specs.Answers.{answerOf}
+use Rattle.stores.specs.Stores.{Plan}
 use Rattle.byte_form.specs.Bytes.{wordsIn, bytesAfter}
 use Rattle.layout.specs.Words.{layoutOf}
 use Rattle.courses.specs.Course.{Edit, insert, several, delete, named, Alteration, alteredBelow}
-use Rattle.byte_calls.specs.Records.{recordWords}
-use Rattle.axle.specs.Interface.{codeOf, byteInsert, byteSeveral, byteDelete, byteRecover}
+use Rattle.byte_calls.specs.Plans.{recordWords, byteInsert, byteSeveral, byteDelete, byteRecover}
+use Rattle.axle.specs.Interface.{codeOf}
 
 -- an insert or delete whose record, or records, are in bytes, and what it is in words
 abbrev pub byteEdit : List ℕ → Edit → Plan

@@ -4,15 +4,17 @@ use mathlib.Core.Path.{_≡_}
 use mathlib.Core.List.{List, [], _∷_, _++_, map}
 use lib.ListN.{length}
 use Rattle.sequences.specs.Sequence.{All}
-use Rattle.stores.specs.declared.Answer.{Answer}
-use Rattle.stores.specs.declared.Answer.the-variants as A
-use Rattle.stores.specs.Stores.{run, answerOf}
+use Rattle.calls.specs.declared.Answer.{Answer}
+use Rattle.calls.specs.declared.Answer.the-variants as A
+use Rattle.calls.specs.Answers.{answerOf}
+use Rattle.stores.specs.Stores.{run}
 use Rattle.byte_form.specs.Bytes.{wordsIn, byteWrites}
 use Rattle.layout.specs.Words.{layoutOf}
 use Rattle.lists.specs.Lists.{Ordered}
 use Rattle.courses.specs.Course.{Edit, named, allStores, needed, dueWords, Alteration, AllowedBut, answersThrough, NotRefused}
 use Rattle.courses.specs.Demand3.{Course}
-use Rattle.axle.specs.Interface.{codeOf, byteRecover}
+use Rattle.byte_calls.specs.Plans.{byteRecover}
+use Rattle.axle.specs.Interface.{codeOf}
 use Rattle.byte_courses.specs.ByteCourse.{inWords, Found, bytesThrough, codesThrough}
 
 -- the number of an answer that is not a refusal

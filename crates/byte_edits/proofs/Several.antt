@@ -1,9 +1,9 @@
--- The loop over several records (edits/proofs/Underway.antt) in bytes: the words of a part of the bytes, and what the stores leave.
-use Prim.Native.Nat.{ℕ, zero, suc, _+_, _*_, _-_, _≤_, _<_}
-use mathlib.Core.Path.{_≡_, refl, ap, ap₂, _∙_, sym}
-use mathlib.Core.List.{List, [], _∷_, _++_}
+-- The loop over several records (edits/proofs/Underway.antt) in bytes: what the stores leave.
+use Prim.Native.Nat.{ℕ, _-_, _≤_, _<_}
+use mathlib.Core.Path.{_≡_, ap, ap₂, _∙_, sym}
+use mathlib.Core.List.{List, _++_}
 use native.Mathlib.Omega.{arith}
-use lib.ListN.{length, take, drop}
+use lib.ListN.{length, take}
 use Rattle.stores.specs.Stores.{Write, run}
 use Rattle.stores.proofs.Laws.{run-append}
 use Rattle.byte_form.specs.Bytes.{wordsIn, byteWrites, appliedBytes}
@@ -13,25 +13,6 @@ use Rattle.layout.specs.declared.Layout.{Layout}
 use Rattle.requests.specs.declared.Site.{Site}
 use Rattle.edits.specs.Edits.{insertWrites}
 use Rattle.edits.proofs.Underway.{Underway, underway-parts, underway-last}
-
--- the words of a part of the bytes
-pub words-take : (n : ℕ) (b : List ℕ) → wordsIn (take (2 * n) b) ≡ take n (wordsIn b)
-unfolding wordsIn
-words-take zero b = refl
-words-take (suc n) [] = let e : 2 * suc n ≡ suc (suc (2 * n)) = omega arith in ap (λ (m : ℕ). wordsIn (take m [])) e
-words-take (suc n) (x ∷ []) = let e : 2 * suc n ≡ suc (suc (2 * n)) = omega arith in ap (λ (m : ℕ). wordsIn (take m (x ∷ []))) e
-words-take (suc n) (x ∷ y ∷ b) =
-    let e : 2 * suc n ≡ suc (suc (2 * n)) = omega arith in
-    ap (λ (m : ℕ). wordsIn (take m (x ∷ y ∷ b))) e ∙ ap (λ (t : List ℕ). (x + 256 * y) ∷ t) (words-take n b)
-
-pub words-drop : (n : ℕ) (b : List ℕ) → wordsIn (drop (2 * n) b) ≡ drop n (wordsIn b)
-unfolding wordsIn
-words-drop zero b = refl
-words-drop (suc n) [] = let e : 2 * suc n ≡ suc (suc (2 * n)) = omega arith in ap (λ (m : ℕ). wordsIn (drop m [])) e
-words-drop (suc n) (x ∷ []) = let e : 2 * suc n ≡ suc (suc (2 * n)) = omega arith in ap (λ (m : ℕ). wordsIn (drop m (x ∷ []))) e
-words-drop (suc n) (x ∷ y ∷ b) =
-    let e : 2 * suc n ≡ suc (suc (2 * n)) = omega arith in
-    ap (λ (m : ℕ). wordsIn (drop m (x ∷ y ∷ b))) e ∙ words-drop n b
 
 -- with allowance m, of which n is used, in bytes b made from b₀
 module _ {l : Layout} {k : ℕ} {ps made : List Write} {w : List ℕ} {t : Site} {ws : List ℕ} (u : Underway l k ps made w t ws)

@@ -1,19 +1,21 @@
-// Which sequences are chosen for the lists of a store, decided in the lent bytes as they are in lent words: a cell's words are read from
-// its bytes, and all else is the same.
+// Which sequences are chosen for the lists of a store, decided in the lent bytes. Lists that hold are told at once, from both ends; others
+// are walked by their forward links, and by their back links if that does not decide. Two lists are walked in one loop: neither waits for
+// the other.
 use fitting::Fits;
 use fitting::Fitted;
 use fitting::Trail;
 use fitting::Walk;
 use fitting::Walked;
+use layout::Grid;
 use layout::Layout;
-use spans::Grid;
 ghost use mathlib.Core.Path.{_≡_};
 ghost use Prim.Native.Nat.{_<_};
 ghost use mathlib.Core.Bool.{true};
 ghost use Rattle.byte_form.specs.Bytes.{wordsIn};
 ghost use Rattle.layout.specs.Words.{Laid};
 ghost use Rattle.lists.specs.Decide.{viewOf, countIn};
-ghost use Rattle.spans.specs.Spans.{Gridded, cellIn};
+ghost use Rattle.layout.specs.Cells.{Gridded};
+ghost use Rattle.spans.specs.Spans.{cellIn};
 ghost use Rattle.fitting.specs.Fitting.{isOpen, nextTrail, wayOf, fitIn, Trailing};
 
 // One step of a walk through list k.

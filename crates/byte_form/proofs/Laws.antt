@@ -5,11 +5,11 @@ use mathlib.Core.List.{List, [], _∷_, _++_}
 use native.Mathlib.Omega.{arith}
 use native.Mathlib.Nat.{div-add-mod'}
 use native.Mathlib.Numerals.{add-one}
-use lib.ListN.{length, getD, set, take, drop, take-append-drop}
+use lib.ListN.{length, getD, set, take, drop, replicate, take-append-drop}
 use lib.Seq.{take-suc, take-all, take-take, drop-nil}
 use Rattle.stores.specs.Stores.{Write, write, run, Plan, refuse, stores, wordsAfter, madeBy}
 use Rattle.stores.proofs.Laws.{run-append, length-run}
-use Rattle.byte_form.specs.Bytes.{wordsIn, byteWrites, appliedBytes, bytesAfter}
+use Rattle.byte_form.specs.Bytes.{wordSize, wordsIn, byteWrites, appliedBytes, bytesAfter}
 
 -- where word i stands
 pub word-inside : (b : List ℕ) (i : ℕ) → i < length (wordsIn b) → 2 * i + 1 < length b
@@ -30,7 +30,7 @@ word-at (x ∷ y ∷ b) (suc i) h =
     ap₂ (λ (m n : ℕ). getD (x ∷ y ∷ b) m 0 + 256 * getD (x ∷ y ∷ b) n 0) e f ∙ word-at b i (omega arith)
 
 -- as many words as the bytes have pairs
-pub length-words : (b : List ℕ) → length (wordsIn b) ≡ length b / 2
+pub length-words : (b : List ℕ) → length (wordsIn b) ≡ length b / wordSize
 unfolding wordsIn
 length-words [] = refl
 length-words (x ∷ []) = refl
@@ -82,6 +82,10 @@ byte-append [] qs = refl
 byte-append (p ∷ ps) qs =
     ap (λ (t : List Write). write (2 * p .at) (p .value % 256) ∷ write (2 * p .at + 1) (p .value / 256) ∷ t) (byte-append ps qs)
 
+pub bytes-nil : (b : List ℕ) → run (byteWrites []) b ≡ b
+unfolding run byteWrites
+bytes-nil b = refl
+
 pub bytes-none : (ps : List Write) (b : List ℕ) → appliedBytes ps 0 b ≡ b
 unfolding run byteWrites
 bytes-none [] b = refl
@@ -113,3 +117,30 @@ bytes-through (stores ps) m n b h =
     ∙ ap (λ (qs : List Write). run qs b) (byte-append (take m (take n ps)) (drop m (take n ps)))
     ∙ run-append (byteWrites (take m (take n ps))) (byteWrites (drop m (take n ps))) b
     ∙ ap (λ (qs : List Write). run (byteWrites (drop m (take n ps))) (run (byteWrites qs) b)) (take-take m n ps h)
+
+-- the words of a part of the bytes
+pub words-take : (n : ℕ) (b : List ℕ) → wordsIn (take (wordSize * n) b) ≡ take n (wordsIn b)
+unfolding wordsIn
+words-take zero b = refl
+words-take (suc n) [] = let e : 2 * suc n ≡ suc (suc (2 * n)) = omega arith in ap (λ (m : ℕ). wordsIn (take m [])) e
+words-take (suc n) (x ∷ []) = let e : 2 * suc n ≡ suc (suc (2 * n)) = omega arith in ap (λ (m : ℕ). wordsIn (take m (x ∷ []))) e
+words-take (suc n) (x ∷ y ∷ b) =
+    let e : 2 * suc n ≡ suc (suc (2 * n)) = omega arith in
+    ap (λ (m : ℕ). wordsIn (take m (x ∷ y ∷ b))) e ∙ ap (λ (t : List ℕ). (x + 256 * y) ∷ t) (words-take n b)
+
+pub words-drop : (n : ℕ) (b : List ℕ) → wordsIn (drop (wordSize * n) b) ≡ drop n (wordsIn b)
+unfolding wordsIn
+words-drop zero b = refl
+words-drop (suc n) [] = let e : 2 * suc n ≡ suc (suc (2 * n)) = omega arith in ap (λ (m : ℕ). wordsIn (drop m [])) e
+words-drop (suc n) (x ∷ []) = let e : 2 * suc n ≡ suc (suc (2 * n)) = omega arith in ap (λ (m : ℕ). wordsIn (drop m (x ∷ []))) e
+words-drop (suc n) (x ∷ y ∷ b) =
+    let e : 2 * suc n ≡ suc (suc (2 * n)) = omega arith in
+    ap (λ (m : ℕ). wordsIn (drop m (x ∷ y ∷ b))) e ∙ words-drop n b
+
+-- the words of zero bytes are zeros
+pub words-zeros : (n : ℕ) → wordsIn (replicate (wordSize * n) 0) ≡ replicate n 0
+unfolding wordsIn
+words-zeros zero = refl
+words-zeros (suc n) =
+    let e : 2 * suc n ≡ suc (suc (2 * n)) = omega arith in
+    ap (λ (m : ℕ). wordsIn (replicate m 0)) e ∙ ap (λ (t : List ℕ). 0 ∷ t) (words-zeros n)

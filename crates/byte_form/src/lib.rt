@@ -1,13 +1,29 @@
 // The byte form of a store: a word is two bytes, low byte first. A word is read as its two bytes, and a word store is made as two
-// byte stores, low byte before high, in the order of the words' stores.
-use stores::Answer;
-use stores::Rows;
+// byte stores, low byte before high. Crate word_form has the same functions, definitions and laws for lent words as they are, so what is
+// written over one form is proved over both.
 ghost use mathlib.Core.Path.{_≡_};
 ghost use Prim.Native.Nat.{_+_, _*_, _<_, _≤_};
 ghost use mathlib.Core.List.{[], _∷_};
-ghost use lib.ListN.{length, getD};
-ghost use Rattle.stores.specs.Stores.{write, stores, answerOf, run, writesOf, inRow, writesIn, Planned, Held};
-ghost use Rattle.byte_form.specs.Bytes.{wordsIn, byteWrites, appliedBytes};
+ghost use lib.ListN.{length, getD, take, drop};
+ghost use Rattle.stores.specs.Stores.{write, run};
+ghost use Rattle.byte_form.specs.Bytes.{wordsIn, whole, byteWrites};
+
+// The bytes of a word.
+pub const WORD: usize = 2;
+
+// How many words there are.
+pub fn size(bytes: &[u8]) -> usize
+    ensures { λ r. ⌜ r ≡ length (wordsIn (now (bytes .entry))) ⌝ }
+{
+    bytes.len() / WORD
+}
+
+// Are the bytes whole words?
+pub fn is_whole(bytes: &[u8]) -> bool
+    ensures { λ r. ⌜ r ≡ whole (now (bytes .entry)) ⌝ }
+{
+    bytes.len() % WORD == 0
+}
 
 // The word of two bytes.
 fn joined(low: u8, high: u8) -> u16
@@ -33,58 +49,21 @@ pub fn put(bytes: &mut [u8], i: usize, v: u16)
     bytes[2 * i + 1] = (v / 256) as u8;
 }
 
-// Makes store i of the plan, and nothing else.
-fn step(bytes: &mut [u8], at: &[u16], values: &[u16], i: usize)
-    requires { ⌜ Planned (length (wordsIn (now bytes))) (now at) (now values) × (i < length (now at)) ⌝ }
-    ensures { λ _. ⌜ now (bytes .exit) ≡ run (byteWrites (getD (writesOf (now (at .entry)) (now (values .entry))) i (write 0 0) ∷ [])) (now (bytes .entry)) ⌝ }
+// The words from word a on, as a part.
+pub fn from(bytes: &[u8], a: usize) -> &[u8]
+    requires { ⌜ a ≤ length (wordsIn (now bytes)) ⌝ }
+    ensures { λ r. ⌜ wordsIn (now r) ≡ drop a (wordsIn (now (bytes .entry))) ⌝ }
 {
-    put(bytes, at[i] as usize, values[i]);
+    let at = WORD * a;
+    &bytes[at..]
 }
 
-// Makes the stores of the plan, up to the allowance.
-pub fn run(bytes: &mut [u8], at: &[u16], values: &[u16], allowance: u16) -> Answer
-    requires { ⌜ Planned (length (wordsIn (now bytes))) (now at) (now values) × (length (now at) < 65536) ⌝ }
-    ensures answer { λ r. ⌜ r ≡ answerOf (stores (writesOf (now (at .entry)) (now (values .entry)))) allowance ⌝ }
-    ensures bytes { λ _. ⌜ now (bytes .exit) ≡ appliedBytes (writesOf (now (at .entry)) (now (values .entry))) allowance (now (bytes .entry)) ⌝ }
+// The n words from word a on, as a part.
+pub fn part(bytes: &[u8], a: usize, n: usize) -> &[u8]
+    requires { ⌜ a + n ≤ length (wordsIn (now bytes)) ⌝ }
+    ensures { λ r. ⌜ wordsIn (now r) ≡ take n (drop a (wordsIn (now (bytes .entry)))) ⌝ }
 {
-    let whole = at.len() as u16;
-    let mut i: u16 = 0;
-    while i < whole {
-        if i == allowance {
-            return Answer::Stopped(i);
-        }
-        step(bytes, at, values, i as usize);
-        i += 1;
-    }
-    Answer::Done(i)
-}
-
-// Stores the words of the values in a row from word a on, up to the allowance.
-pub fn put_row(bytes: &mut [u8], a: usize, values: &[u8], allowance: u16) -> Answer
-    requires { ⌜ (a + length (wordsIn (now values)) ≤ length (wordsIn (now bytes))) × (length (wordsIn (now values)) < 65536) ⌝ }
-    ensures answer { λ r. ⌜ r ≡ answerOf (stores (inRow a (wordsIn (now (values .entry))))) allowance ⌝ }
-    ensures bytes { λ _. ⌜ now (bytes .exit) ≡ appliedBytes (inRow a (wordsIn (now (values .entry)))) allowance (now (bytes .entry)) ⌝ }
-{
-    let whole = (values.len() / 2) as u16;
-    let mut n: u16 = 0;
-    while n < whole {
-        if n == allowance {
-            return Answer::Stopped(n);
-        }
-        put(bytes, a + n as usize, word(values, n as usize));
-        n += 1;
-    }
-    Answer::Done(n)
-}
-
-// Makes the stores of the rows, up to the allowance.
-pub fn run_rows(bytes: &mut [u8], rows: Rows, allowance: u16) -> Answer
-    requires { ⌜ Held (length (wordsIn (now bytes))) rows (writesIn rows) ⌝ }
-    ensures answer { λ r. ⌜ r ≡ answerOf (stores (writesIn rows)) allowance ⌝ }
-    ensures bytes { λ _. ⌜ now (bytes .exit) ≡ appliedBytes (writesIn rows) allowance (now (bytes .entry)) ⌝ }
-{
-    let n = rows.len;
-    let at = rows.at;
-    let values = rows.values;
-    run(bytes, &at[..n], &values[..n], allowance)
+    let at = WORD * a;
+    let e = at + WORD * n;
+    &bytes[at..e]
 }

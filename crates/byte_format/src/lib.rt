@@ -1,4 +1,4 @@
-// What format stores, made in the lent bytes as it is in lent words.
+// What format stores, made in the lent bytes: the head, the headers, then 0.
 use layout::Layout;
 ghost use mathlib.Core.Path.{_≡_};
 ghost use Prim.Native.Nat.{_+_, _≤_, _<_};

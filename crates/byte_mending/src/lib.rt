@@ -1,23 +1,24 @@
-// Recovery of a store in byte form, decided in the lent bytes: each list is walked there, and the mends are kept in short rows. Only if
+// Recovery of a store, decided in the lent bytes: each list is walked there, and the mends are kept in short rows. Only if
 // a node in no list may be in use by its identifier, the identifiers are read into a column and the members erased there. The wipes need no
 // column: once the mends and the clears are made, the nodes to be wiped are the free ones. What is found also tells,
 // without a store, how many there will be.
+use calls::Answer;
+use calls::Needed;
+use layout::Grid;
 use layout::Layout;
 use mending::Found;
 use mending::Mends;
-use spans::Grid;
-use stores::Answer;
-use stores::Needed;
 use stores::Rows;
 ghost use mathlib.Core.Path.{_≡_};
 ghost use Prim.Native.Nat.{_+_};
 ghost use mathlib.Core.List.{_++_};
 ghost use lib.ListN.{length};
-ghost use Rattle.stores.specs.Stores.{run, stores, answerOf, neededOf, writesIn, Held};
+ghost use Rattle.calls.specs.Answers.{answerOf, neededOf};
+ghost use Rattle.stores.specs.Stores.{run, stores, writesIn, Held};
 ghost use Rattle.byte_form.specs.Bytes.{wordsIn, appliedBytes, bytesAfter};
 ghost use Rattle.layout.specs.Words.{mostCells, Laid, sizeOf};
 ghost use Rattle.lists.specs.Decide.{viewOf, countIn};
-ghost use Rattle.spans.specs.Spans.{Gridded};
+ghost use Rattle.layout.specs.Cells.{Gridded};
 ghost use Rattle.recovery.specs.Plan.{recoverOf};
 ghost use Rattle.mending.specs.Mending.{clears, wipes, MendsOf, FoundIn};
 
@@ -33,7 +34,7 @@ fn make(
     ensures answer { λ r. ⌜ r ≡ answerOf (stores (writesIn mends ++ clears l (now (idents .entry)))) allowance ⌝ }
     ensures bytes { λ _. ⌜ now (bytes .exit) ≡ appliedBytes (writesIn mends ++ clears l (now (idents .entry))) allowance (now (bytes .entry)) ⌝ }
 {
-    let Answer::Done(n) = byte_form::run_rows(bytes, mends, allowance) else {
+    let Answer::Done(n) = byte_runs::run_rows(bytes, mends, allowance) else {
         return Answer::Stopped(allowance);
     };
     let Answer::Done(m) = byte_clears::clear(bytes, idents, l, allowance - n) else {
@@ -69,7 +70,7 @@ fn recover_none_left(bytes: &mut [u8], l: Layout, g: Grid, mends: Rows, allowanc
     ensures answer { λ r. ⌜ r ≡ answerOf (stores (writesIn mends ++ wipes l (run (writesIn mends) (wordsIn (now (bytes .entry)))))) allowance ⌝ }
     ensures bytes { λ _. ⌜ now (bytes .exit) ≡ appliedBytes (writesIn mends ++ wipes l (run (writesIn mends) (wordsIn (now (bytes .entry))))) allowance (now (bytes .entry)) ⌝ }
 {
-    let made = byte_form::run_rows(bytes, mends, allowance);
+    let made = byte_runs::run_rows(bytes, mends, allowance);
     byte_wipes::go_on(bytes, l, g, made, allowance)
 }
 
@@ -109,7 +110,7 @@ pub fn recover_in(bytes: &mut [u8], l: Layout, allowance: u16) -> Answer
     if found.unwiped {
         return recover_none_left(bytes, l, Grid::of(l), mends, allowance);
     }
-    byte_form::run_rows(bytes, mends, allowance)
+    byte_runs::run_rows(bytes, mends, allowance)
 }
 
 // How many stores recovery will make of a store where a node in no list may be in use by its identifier.

@@ -3,9 +3,9 @@
 use fitting::Faults;
 use fitting::Fits;
 use fitting::Fitted;
+use layout::Grid;
 use layout::Layout;
 use mending::Mends;
-use spans::Grid;
 use stores::Rows;
 ghost use mathlib.Core.Path.{_≡_};
 ghost use Prim.Native.Nat.{_+_, _<_};
@@ -13,7 +13,7 @@ ghost use mathlib.Core.Bool.{true, false};
 ghost use Rattle.byte_form.specs.Bytes.{wordsIn};
 ghost use Rattle.layout.specs.Words.{Laid};
 ghost use Rattle.lists.specs.Decide.{viewOf, countIn};
-ghost use Rattle.spans.specs.Spans.{Gridded};
+ghost use Rattle.layout.specs.Cells.{Gridded};
 ghost use Rattle.fitting.specs.Fitting.{fitIn, carries, FaultFits};
 ghost use Rattle.mending.specs.Mending.{MendsOf};
 

@@ -1,5 +1,6 @@
-// Questions 1 to 10 and 13, put to a store in byte form as crate word_requests puts them to lent words: a cell's words are read from its bytes, and
-// all else is the same.
+// Questions 1 to 10 and 13, put to the lent bytes. A position is found by links, from the nearer end of its list; a free cell by a search of
+// the identifiers. Nothing is copied.
+use layout::Grid;
 use layout::Layout;
 use layout::Opened;
 use requests::Ends;
@@ -8,16 +9,16 @@ use requests::Looked;
 use requests::Request;
 use requests::Site;
 use requests::Sited;
-use spans::Grid;
 ghost use mathlib.Core.Path.{_≡_};
 ghost use Prim.Native.Nat.{ℕ, _≤_};
 ghost use lib.ListN.{length};
 ghost use Rattle.byte_form.specs.Bytes.{wordsIn};
-ghost use Rattle.layout.specs.Words.{headWords, Laid, Node, openedBy, opened, wornIdent};
+ghost use Rattle.layout.specs.Words.{headWords, Laid, Node, openedBy, wornIdent};
 ghost use Rattle.lists.specs.Decide.{viewOf, sequenceOf, HeldList};
-ghost use Rattle.spans.specs.Spans.{Gridded};
-ghost use Rattle.requests.specs.Requests.{around, nth, freeCells, memberAt, freeGap, gapAt, gapsAt, endsAt, markAt, siteOf, lookOf, foundUnworn, endsUnworn, sitedUnworn, lookedUnworn};
+ghost use Rattle.layout.specs.Cells.{Gridded};
+ghost use Rattle.requests.specs.Requests.{around, nth, freeCells, memberAt, freeGap, gapAt, gapsAt, endsAt, markAt, siteOf, foundUnworn, endsUnworn, sitedUnworn, lookedUnworn};
 ghost use Rattle.requests.specs.Sites.{gapSite, nextSite};
+ghost use Rattle.byte_requests.specs.Looks.{openedIn, lookIn};
 
 // The first eight words.
 fn head(bytes: &[u8]) -> [u16; Layout::HEAD_WORDS]
@@ -36,11 +37,14 @@ fn head(bytes: &[u8]) -> [u16; Layout::HEAD_WORDS]
     ]
 }
 
-// Questions 1 to 4.
+// Are the bytes whole words? Then questions 1 to 4.
 pub fn open(bytes: &[u8]) -> Opened
-    ensures { λ r. ⌜ r ≡ opened (wordsIn (now (bytes .entry))) ⌝ }
+    ensures { λ r. ⌜ r ≡ openedIn (now (bytes .entry)) ⌝ }
 {
-    let n = bytes.len() / 2;
+    if !byte_form::is_whole(bytes) {
+        return Opened::Refused(4);
+    }
+    let n = byte_form::size(bytes);
     if n < Layout::HEAD_WORDS {
         return Opened::Refused(1);
     }
@@ -241,7 +245,7 @@ fn site_of(bytes: &[u8], l: Layout, q: Request) -> Sited
 
 // All questions of a call.
 pub fn look(bytes: &[u8], q: Request) -> Looked
-    ensures outcome { λ r. ⌜ r ≡ lookOf (wordsIn (now (bytes .entry))) q ⌝ }
+    ensures outcome { λ r. ⌜ r ≡ lookIn (now (bytes .entry)) q ⌝ }
     ensures worn { λ r. ⌜ lookedUnworn (wordsIn (now (bytes .entry))) r ⌝ }
 {
     match open(bytes) {

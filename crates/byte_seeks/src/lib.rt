@@ -1,9 +1,9 @@
 // A walk to a cell of a list in lent bytes: run with a budget, and with the one that always arrives.
+use layout::Cell;
+use layout::Grid;
 use layout::Layout;
 use seeks::Seek;
 use seeks::Sought;
-use spans::Cell;
-use spans::Grid;
 ghost use mathlib.Core.Path.{_≡_};
 ghost use Prim.Native.Nat.{_≤_};
 ghost use mathlib.Core.List.{_∷_};
@@ -11,7 +11,8 @@ ghost use lib.ListN.{getD};
 ghost use Rattle.byte_form.specs.Bytes.{wordsIn};
 ghost use Rattle.layout.specs.Words.{Laid};
 ghost use Rattle.lists.specs.Decide.{viewOf, sequenceOf, HeldList};
-ghost use Rattle.spans.specs.Spans.{Gridded, cellIn};
+ghost use Rattle.layout.specs.Cells.{Gridded};
+ghost use Rattle.spans.specs.Spans.{cellIn};
 ghost use Rattle.seeks.specs.declared.Sought.the-variants.{At};
 ghost use Rattle.seeks.specs.Seeks.{nearer, stepped, runWith, half, Inside};
 

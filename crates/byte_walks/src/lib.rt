@@ -1,8 +1,9 @@
-// The lists of a store, decided in the lent bytes as they are in lent words: a cell's words are read from its bytes, and all else
-// is the same.
+// The lists of a store, decided in the lent bytes. The nodes in use are counted in one pass, which fetches the words in order, and
+// compared with the sum of the counts; the same pass reads the records of the free nodes, four words at a time. Then each list is walked
+// from both ends at once, and two lists in one loop: four chains of links, of which none waits for another.
+use layout::Cell;
+use layout::Grid;
 use layout::Layout;
-use spans::Cell;
-use spans::Grid;
 use spans::Round;
 use spans::Span;
 use spans::Tally;
@@ -12,7 +13,8 @@ ghost use lib.ListN.{length, getD};
 ghost use Rattle.byte_form.specs.Bytes.{wordsIn};
 ghost use Rattle.layout.specs.Words.{mostWidth, Laid, Node, firstNode, cellCount, linkWords, identOf};
 ghost use Rattle.lists.specs.Decide.{blankFrom, viewOf, countIn, soundOf};
-ghost use Rattle.spans.specs.Spans.{Gridded, FewIn, tallied, tallyOf, Decides, Held, countSum, cellOf, cellIn, wholeSpan, Spanned, Led, rounded};
+ghost use Rattle.layout.specs.Cells.{Gridded, cellOf};
+ghost use Rattle.spans.specs.Spans.{FewIn, tallied, tallyOf, Decides, Held, countSum, cellIn, wholeSpan, Spanned, Led, rounded};
 
 // The cell that the word at a names.
 fn link(bytes: &[u8], a: usize) -> usize
@@ -22,16 +24,24 @@ fn link(bytes: &[u8], a: usize) -> usize
     byte_form::word(bytes, a) as usize
 }
 
-// The cell whose words begin at a.
+// The cell that the part begins with: its identifier and links.
+fn links_of(part: &[u8]) -> Cell
+    requires { ⌜ linkWords ≤ length (wordsIn (now part)) ⌝ }
+    ensures { λ r. ⌜ r ≡ cellOf (wordsIn (now (part .entry))) 0 ⌝ }
+{
+    Cell {
+        ident: byte_form::word(part, Layout::IDENTIFIER),
+        forward: link(part, Layout::FORWARD),
+        back: link(part, Layout::BACK),
+    }
+}
+
+// The cell whose words begin at a: those from its first word onward, as a part.
 fn cell_at(bytes: &[u8], a: usize) -> Cell
     requires { ⌜ a + linkWords ≤ length (wordsIn (now bytes)) ⌝ }
     ensures { λ r. ⌜ r ≡ cellOf (wordsIn (now (bytes .entry))) a ⌝ }
 {
-    Cell {
-        ident: byte_form::word(bytes, a),
-        forward: link(bytes, a + Layout::FORWARD),
-        back: link(bytes, a + Layout::BACK),
-    }
+    links_of(byte_form::from(bytes, a))
 }
 
 // Node y.

@@ -1,4 +1,4 @@
--- Stores of a list made segment by segment, in bytes: what holds of the words (mending/proofs/Making.antt) holds of the bytes.
+-- Stores of a list made segment by segment (mending/proofs/Making.antt), in the lent bytes.
 use Prim.Native.Nat.{ℕ, _+_, _-_, _≤_, _<_}
 use mathlib.Core.Path.{_≡_, refl, ap, ap₂, _∙_, sym}
 use mathlib.Core.List.{List, [], _++_}
@@ -7,12 +7,14 @@ use native.Mathlib.Omega.{arith}
 use lib.Dec.{ltb}
 use lib.ListN.{length, take}
 use borrow.Author.Tests.{ltb-true, ltb-false}
-use Rattle.stores.specs.declared.Answer.{Answer}
-use Rattle.stores.specs.declared.Answer.the-variants as A
-use Rattle.stores.specs.Stores.{Write, run, stores, answerOf}
-use Rattle.stores.proofs.Laws.{run-append, answer-stopped, answer-done}
+use Rattle.calls.specs.declared.Answer.{Answer}
+use Rattle.calls.specs.declared.Answer.the-variants as A
+use Rattle.calls.specs.Answers.{answerOf}
+use Rattle.stores.specs.Stores.{Write, run, stores}
+use Rattle.calls.proofs.Answers.{answer-stopped, answer-done}
+use Rattle.stores.proofs.Laws.{run-append}
 use Rattle.byte_form.specs.Bytes.{wordsIn, byteWrites, appliedBytes}
-use Rattle.byte_form.proofs.Laws.{words-run, byte-append, bytes-all}
+use Rattle.byte_form.proofs.Laws.{words-run, byte-append, bytes-nil, bytes-all}
 use Rattle.byte_form.proofs.Segments.{bytes-append, bytes-first}
 use Rattle.mending.specs.Mending.{answerOn}
 use Rattle.mending.proofs.Making.{Making, making-part, on-answer}
@@ -20,10 +22,9 @@ use Rattle.byte_wipes.specs.Wiping.{bytesOn}
 
 -- no store is to be made
 pub none-made : (ps : List Write) (m : ℕ) (b : List ℕ) → ps ≡ [] → (A.Done 0 ≡ answerOf (stores ps) m) × (b ≡ appliedBytes ps m b)
-unfolding run byteWrites
 none-made ps m b e = (
   answer-done [] m (omega arith) ∙ ap (λ (qs : List Write). answerOf (stores qs) m) (sym e),
-  sym (ap (λ (qs : List Write). appliedBytes qs m b) e ∙ bytes-all [] m b (omega arith)),
+  sym (ap (λ (qs : List Write). appliedBytes qs m b) e ∙ bytes-all [] m b (omega arith) ∙ bytes-nil b),
 )
 
 -- a segment goes on where the first n stores end

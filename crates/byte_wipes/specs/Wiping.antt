@@ -1,8 +1,8 @@
 -- Stores that follow on others, in bytes.
 use Prim.Native.Nat.{ℕ, _-_}
 use mathlib.Core.List.{List}
-use Rattle.stores.specs.declared.Answer.{Answer}
-use Rattle.stores.specs.declared.Answer.the-variants as A
+use Rattle.calls.specs.declared.Answer.{Answer}
+use Rattle.calls.specs.declared.Answer.the-variants as A
 use Rattle.stores.specs.Stores.{Write}
 use Rattle.byte_form.specs.Bytes.{appliedBytes}
 

@@ -1,15 +1,16 @@
 // Free nodes wiped in the lent bytes. A node's record words are asked together whether all are 0; only where they are not, each that is not is
 // stored to.
+use calls::Answer;
+use layout::Grid;
 use layout::Layout;
-use spans::Grid;
-use stores::Answer;
 ghost use mathlib.Core.Path.{_≡_};
 ghost use Prim.Native.Nat.{_+_, _≤_};
 ghost use lib.ListN.{length, replicate};
-ghost use Rattle.stores.specs.Stores.{inRow, stores, answerOf, answerStores};
+ghost use Rattle.calls.specs.Answers.{answerOf, answerStores};
+ghost use Rattle.stores.specs.Stores.{inRow, stores};
 ghost use Rattle.byte_form.specs.Bytes.{wordsIn, appliedBytes};
 ghost use Rattle.layout.specs.Words.{Laid, Node};
-ghost use Rattle.spans.specs.Spans.{Gridded};
+ghost use Rattle.layout.specs.Cells.{Gridded};
 ghost use Rattle.recovery.specs.Fits.{wrong};
 ghost use Rattle.mending.specs.Mending.{wipesOf, wipes, answerOn};
 ghost use Rattle.byte_wipes.specs.Wiping.{bytesOn};

@@ -29,10 +29,10 @@
 // What is told is told of the call with full allowance, before it is made. An ANSWER is 'done', 'stopped' or 'refused' and its number. Words
 // outside the store are not stored. An unknown operation, an entry that is cut short, a record or records that are too long end the run with
 // the line 'bad script'. The last line is 'end'.
-use edits::Foretold;
+use calls::Answer;
+use calls::Foretold;
 use libc::STDIN_FILENO;
 use libc::STDOUT_FILENO;
-use stores::Answer;
 ghost use mathlib.Core.Path.{_≡_};
 ghost use Prim.Native.Nat.{_≤_, _<_};
 ghost use lib.ListN.{length};

@@ -5,8 +5,9 @@ use mathlib.Core.List.{List, [], _∷_}
 use lib.ListN.{drop}
 use borrow.Author.Tests.{le-ltb}
 use Rattle.sequences.specs.Sequence.{steps, trail, range, filter}
-use Rattle.stores.specs.declared.Answer.the-variants as A
-use Rattle.stores.specs.Stores.{Write, write, run, Plan, stores, applied, inRow, answerOf, wordsAfter}
+use Rattle.calls.specs.declared.Answer.the-variants as A
+use Rattle.calls.specs.Answers.{answerOf}
+use Rattle.stores.specs.Stores.{Write, write, run, Plan, stores, applied, inRow, wordsAfter}
 use Rattle.stores.proofs.Laws.{applied-all}
 use Rattle.byte_form.specs.Bytes.{wordsIn}
 use Rattle.layout.specs.Words.{isNode, checkWords, nodeAt, cellAt, sizeOf, marked, inRange, openedBy, layoutOf}
@@ -17,9 +18,9 @@ use Rattle.requests.specs.Requests.{siteIn, lookOf}
 use Rattle.recovery.specs.Fits.{wrong, fewWrong, same, hasCount, fitOf}
 use Rattle.recovery.specs.Plan.{joined, isIn, blanksAsked, recoverStores, fittingOf, refusalFrom, recoverOf, recoverPlan, differing}
 use Rattle.recovery.proofs.Whole.{accepted-plan}
-use Rattle.axle_store.specs.declared.Checked.the-variants as C
-use Rattle.axle_store.specs.Calls.{checkAnswer}
-use Rattle.axle_store.proofs.Calls.{check-sound}
+use Rattle.calls.specs.declared.Checked.the-variants as C
+use Rattle.calls.specs.Calls.{checkAnswer}
+use Rattle.calls.proofs.Calls.{check-sound}
 use Rattle.courses.proofs.Single.{planned, recover-few}
 use Rattle.courses.proofs.Standing.{Standing, standing-plan, standing-after}
 use Rattle.axle.specs.Interface.{codeOf}

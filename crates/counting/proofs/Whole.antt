@@ -9,9 +9,11 @@ use lib.ListN.{length, getD, set, length-set}
 use lib.Seq.{getD-set-other}
 use Rattle.sequences.specs.Sequence.{_∈_}
 use Rattle.sequences.proofs.Members.{all-in}
-use Rattle.stores.specs.declared.Answer.the-variants as A
-use Rattle.stores.specs.Stores.{Write, write, run, Plan, answerOf, wordsAfter}
-use Rattle.stores.proofs.Laws.{run-word, length-run, applied-all, answer-done}
+use Rattle.calls.specs.declared.Answer.the-variants as A
+use Rattle.calls.specs.Answers.{answerOf}
+use Rattle.stores.specs.Stores.{Write, write, run, Plan, wordsAfter}
+use Rattle.calls.proofs.Answers.{answer-done}
+use Rattle.stores.proofs.Laws.{run-word, length-run, applied-all}
 use Rattle.layout.specs.declared.Layout.{Layout}
 use Rattle.layout.specs.declared.Opened.the-variants as O
 use Rattle.layout.specs.Words.{linkWords, countWord, firstNode, cellAt, identAt, countAt, isWorn, layoutOf, opened}

@@ -11,8 +11,9 @@ use mathlib.Core.List.{List, [], _∷_}
 use mathlib.Core.Logic.{_⊎_}
 use lib.ListN.{length, drop, set}
 use Rattle.sequences.specs.Sequence.{_∈_, All, Different}
-use Rattle.stores.specs.declared.Answer.the-variants as A
-use Rattle.stores.specs.Stores.{Write, refuse, stores, applied, answerOf, wordsAfter}
+use Rattle.calls.specs.declared.Answer.the-variants as A
+use Rattle.calls.specs.Answers.{answerOf}
+use Rattle.stores.specs.Stores.{Write, refuse, stores, applied, wordsAfter}
 use Rattle.byte_form.specs.Bytes.{wordsIn, bytesAfter}
 use Rattle.layout.specs.declared.Layout.{Layout}
 use Rattle.layout.specs.declared.Opened.the-variants as O
@@ -21,7 +22,8 @@ use Rattle.lists.specs.Lists.{asked, Sound}
 use Rattle.recovery.specs.Fits.{wrong, Fits, Chosen, Two, Undecided}
 use Rattle.recovery.specs.Plan.{recoverStores, mostStores, recoverPlan, Accepted, differing}
 use Rattle.courses.specs.Course.{both, alter}
-use Rattle.axle.specs.Interface.{codeOf, byteRecover}
+use Rattle.byte_calls.specs.Plans.{byteRecover}
+use Rattle.axle.specs.Interface.{codeOf}
 
 -- Why recovery refuses the words w of layout l with number n: list k is the first for which no sequence is chosen. "does a sequence fit?" if
 -- not, 11; "several fit and the count is the length of none or of more than one": 12.

@@ -19,7 +19,7 @@ use Rattle.requests.proofs.Turn.{around-nodes}
 use Rattle.edits.specs.Edits.{insertWrites, chain, deleteWrites, freeFrom}
 use Rattle.edits.proofs.Done.{gap-facts, member-facts, its-layout, its-site, its-sequence}
 use Rattle.edits.proofs.Gaps.{gaps-looked, gaps-position, gaps-cells, gaps-number, gaps-words, gaps-chain}
-use Rattle.axle_store.proofs.Cases.{insert-refused, insert-at, several-refused, several-at, delete-refused, delete-at}
+use Rattle.calls.proofs.Cases.{insert-refused, insert-at, several-refused, several-at, delete-refused, delete-at}
 use Rattle.courses.specs.Course.{Edit, insert, several, delete, named, editPlan, due, dueOfSeveral, allStores}
 use Rattle.courses.specs.Left.{gapOf, memberOf, Left, nothing, inserts, insertsAll, deletes}
 

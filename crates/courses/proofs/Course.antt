@@ -8,7 +8,8 @@ use native.Mathlib.Omega.{arith}
 use lib.ListN.{length, getD}
 use Rattle.sequences.specs.Sequence.{_∈_, All}
 use Rattle.sequences.proofs.Members.{all-in}
-use Rattle.stores.specs.Stores.{Write, Plan, run, answerOf}
+use Rattle.calls.specs.Answers.{answerOf}
+use Rattle.stores.specs.Stores.{Write, Plan, run}
 use Rattle.stores.proofs.Laws.{length-run}
 use Rattle.layout.specs.declared.Layout.{Layout}
 use Rattle.layout.specs.Words.{Node, cellAt, cellWords, identAt, wornIdent, worn, layoutOf}

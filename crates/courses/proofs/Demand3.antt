@@ -4,7 +4,8 @@ use mathlib.Core.Path.{_≡_, refl, ap, _∙_, sym, subst}
 use mathlib.Core.List.{List, [], _∷_, _++_}
 use native.Mathlib.Omega.{arith}
 use lib.Seq.{take-nil}
-use Rattle.stores.specs.Stores.{Write, Plan, refuse, stores, run, applied, answerOf, wordsAfter}
+use Rattle.calls.specs.Answers.{answerOf}
+use Rattle.stores.specs.Stores.{Write, Plan, refuse, stores, run, applied, wordsAfter}
 use Rattle.layout.specs.Words.{layoutOf}
 use Rattle.lists.specs.Lists.{Ordered, KeepsWorn}
 use Rattle.edits.proofs.Worn.{gap-keeps, chain-keeps, member-keeps}

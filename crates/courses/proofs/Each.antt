@@ -5,8 +5,9 @@ use mathlib.Core.List.{List, [], _∷_, _++_}
 use native.Mathlib.Numerals.{add-one}
 use lib.ListN.{length, getD, take}
 use lib.Seq.{take-suc, take-all}
-use Rattle.stores.specs.declared.Answer.{Answer}
-use Rattle.stores.specs.Stores.{answerOf, wordsAfter}
+use Rattle.calls.specs.declared.Answer.{Answer}
+use Rattle.calls.specs.Answers.{answerOf}
+use Rattle.stores.specs.Stores.{wordsAfter}
 use Rattle.recovery.specs.Plan.{recoverPlan}
 use Rattle.courses.specs.Course.{wordsThrough}
 use Rattle.courses.specs.Demand3.{Demanded}

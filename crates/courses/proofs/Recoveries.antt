@@ -10,9 +10,11 @@ use lib.ListN.{length, take, drop, length-append, take-append-drop}
 use lib.Seq.{length-take-le, take-all}
 use borrow.Author.Tests.{ltb-true, ltb-false}
 use Rattle.sequences.specs.Sequence.{All}
-use Rattle.stores.specs.declared.Answer.the-variants as A
-use Rattle.stores.specs.Stores.{Write, run, applied, Plan, refuse, stores, answerOf, wordsAfter, madeBy, answerStores}
-use Rattle.stores.proofs.Laws.{run-append, answer-done}
+use Rattle.calls.specs.declared.Answer.the-variants as A
+use Rattle.calls.specs.Answers.{answerOf, answerStores}
+use Rattle.stores.specs.Stores.{Write, run, applied, Plan, refuse, stores, wordsAfter, madeBy}
+use Rattle.calls.proofs.Answers.{answer-done}
+use Rattle.stores.proofs.Laws.{run-append}
 use Rattle.recovery.specs.Plan.{recoverPlan}
 use Rattle.courses.specs.Course.{needed, wordsThrough, answersThrough, storesThrough, NotRefused, total}
 

@@ -8,14 +8,15 @@ use mathlib.Core.Logic.{_⊎_}
 use lib.Dec.{eqb, ltb}
 use lib.ListN.{length, set}
 use Rattle.sequences.specs.Sequence.{_∈_}
-use Rattle.stores.specs.declared.Answer.{Answer}
-use Rattle.stores.specs.declared.Answer.the-variants as A
-use Rattle.stores.specs.Stores.{Write, applied, Plan, refuse, stores, answerOf, wordsAfter, madeBy, answerStores}
+use Rattle.calls.specs.declared.Answer.{Answer}
+use Rattle.calls.specs.declared.Answer.the-variants as A
+use Rattle.calls.specs.Answers.{answerOf, answerStores}
+use Rattle.stores.specs.Stores.{Write, applied, Plan, refuse, stores, wordsAfter, madeBy}
 use Rattle.layout.specs.declared.Layout.{Layout}
 use Rattle.layout.specs.Words.{headerWords, linkWords, tailWords, cellAt, identAt, countAt, layoutOf}
 use Rattle.edits.specs.Edits.{insertCentral, deleteCentral}
 use Rattle.recovery.specs.Plan.{recoverPlan}
-use Rattle.axle_store.specs.Calls.{insertPlan, severalPlan, deletePlan}
+use Rattle.calls.specs.Calls.{insertPlan, severalPlan, deletePlan}
 
 -- insert with a list, a position, a starting cell and a record, or the words of several; delete with a list and a position
 pub data Edit : Type 0 where

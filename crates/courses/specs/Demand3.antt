@@ -5,9 +5,10 @@ use mathlib.Core.List.{List, [], _∷_, _++_}
 use mathlib.Core.Bool.{cond}
 use lib.ListN.{getD}
 use Rattle.sequences.specs.Sequence.{_∈_, All}
-use Rattle.stores.specs.declared.Answer.{Answer}
-use Rattle.stores.specs.declared.Answer.the-variants as A
-use Rattle.stores.specs.Stores.{run, answerOf, answerStores}
+use Rattle.calls.specs.declared.Answer.{Answer}
+use Rattle.calls.specs.declared.Answer.the-variants as A
+use Rattle.calls.specs.Answers.{answerOf, answerStores}
+use Rattle.stores.specs.Stores.{run}
 use Rattle.layout.specs.Words.{headWords, linkWords, tailWords, Node, cellAt, identAt, recordAt, wornIdent, isWorn, layoutOf}
 use Rattle.lists.specs.Lists.{Ordered, Sound, IsList, SameCells, KeepsWorn}
 use Rattle.edits.specs.Edited.{replaced}

@@ -3,7 +3,8 @@ use Prim.Native.Nat.{ℕ, _+_, _*_, _<_, _≤_}
 use mathlib.Core.Path.{_≡_}
 use mathlib.Core.List.{List, [], _∷_, _++_}
 use lib.ListN.{length, getD}
-use Rattle.stores.specs.Stores.{Write, applied, answerOf}
+use Rattle.calls.specs.Answers.{answerOf}
+use Rattle.stores.specs.Stores.{Write, applied}
 use Rattle.layout.specs.Words.{tailWords, Node, identAt, layoutOf}
 use Rattle.lists.specs.Lists.{Ordered}
 use Rattle.requests.specs.declared.Site.{Site}

@@ -1,8 +1,8 @@
 // A course of calls: a sound store, one cut insert or delete, altered words, and recoveries.
-use stores::Answer;
+use calls::Answer;
 ghost use mathlib.Core.Path.{_≡_};
 ghost use mathlib.Core.List.{[], _∷_, _++_};
-ghost use Rattle.stores.specs.Stores.{answerOf};
+ghost use Rattle.calls.specs.Answers.{answerOf};
 ghost use Rattle.recovery.specs.Plan.{recoverPlan};
 ghost use Rattle.courses.specs.Course.{wordsThrough};
 ghost use Rattle.courses.specs.Demand3.{Demanded};

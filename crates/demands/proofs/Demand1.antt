@@ -10,8 +10,8 @@ use lib.Seq.{length-take-le}
 use borrow.Author.Tests.{eqb-true, eqb-false}
 use Rattle.sequences.specs.Sequence.{_∈_, All}
 use Rattle.sequences.proofs.Members.{all-in, in-all, all-take}
-use Rattle.stores.specs.declared.Answer.the-variants as A
-use Rattle.stores.specs.Stores.{Write, refuse, stores, answerOf}
+use Rattle.calls.specs.declared.Answer.the-variants as A
+use Rattle.stores.specs.Stores.{Write, refuse, stores}
 use Rattle.stores.proofs.Laws.{length-run}
 use Rattle.layout.specs.declared.Layout.{Layout}
 use Rattle.layout.specs.declared.Opened.{Opened}
@@ -37,13 +37,13 @@ use Rattle.edits.proofs.Gaps.{gaps-looked, gaps-chain, gaps-inside}
 use Rattle.recovery.specs.Fits.{Fit, none, only, several, fitOf}
 use Rattle.recovery.specs.Plan.{recoverStores, fittingOf, fitNumber, refusalFrom, recoverOf, recoverPlan}
 use Rattle.recovery.proofs.Whole.{number-accepted, stores-inside}
-use Rattle.axle_store.specs.declared.Formatted.{Formatted}
-use Rattle.axle_store.specs.declared.Formatted.the-variants as F
-use Rattle.axle_store.specs.declared.Checked.the-variants as C
-use Rattle.axle_store.specs.declared.Counted.the-variants as L
-use Rattle.axle_store.specs.Answers.{formattedWords}
-use Rattle.axle_store.specs.Calls.{formatAnswer, formatWords, checkAnswer, lengthAnswer, readNumber, readWords, readStart, insertPlan, severalPlan, deletePlan, markPlan}
-use Rattle.axle_store.proofs.Sites.{member-placed, gap-placed, record-fits, mark-placed}
+use Rattle.calls.specs.declared.Formatted.{Formatted}
+use Rattle.calls.specs.declared.Formatted.the-variants as F
+use Rattle.calls.specs.declared.Checked.the-variants as C
+use Rattle.calls.specs.declared.Counted.the-variants as L
+use Rattle.calls.specs.Answers.{formattedWords, answerOf}
+use Rattle.calls.specs.Calls.{formatAnswer, formatWords, checkAnswer, lengthAnswer, readNumber, readWords, readStart, insertPlan, severalPlan, deletePlan, markPlan}
+use Rattle.calls.proofs.Sites.{member-placed, gap-placed, record-fits, mark-placed}
 use Rattle.demands.specs.Demand1.{Refuses, Reads, Demand1}
 
 -- what holds of a question's refusal and of what follows holds of its outcome

@@ -7,11 +7,11 @@ use native.Mathlib.Omega.{arith}
 use native.Mathlib.Nat.{zero-mul, mul-div-left, mul-mod-left}
 use lib.Dec.{eqb, ltb}
 use lib.ListN.{length, getD, replicate, drop, take-append-drop, length-replicate}
-use borrow.Author.Tests.{ltb-true, ltb-false, eqb-true, eqb-false, lt-ltb, le-leb, eq-eqb}
+use borrow.Author.Tests.{ltb-true, ltb-false, lt-ltb, le-leb, eq-eqb}
 use Rattle.sequences.specs.Sequence.{_∈_}
 use Rattle.sequences.proofs.Members.{all-in, at-in}
-use Rattle.stores.specs.declared.Answer.the-variants as A
-use Rattle.stores.specs.Stores.{Write, stores, run, applied, answerOf}
+use Rattle.calls.specs.declared.Answer.the-variants as A
+use Rattle.stores.specs.Stores.{Write, stores, run, applied}
 use Rattle.stores.proofs.Laws.{applied-all, length-row}
 use Rattle.layout.specs.declared.Layout.{Layout}
 use Rattle.layout.specs.Words.{tailWords, Node, ask, inRange, sizeOf, recordAt, layoutOf, free}
@@ -40,12 +40,12 @@ use Rattle.edits.proofs.Delete.{delete-member}
 use Rattle.edits.proofs.Done.{gap-facts, member-facts, insert-done, delete-done, insert-full}
 use Rattle.edits.proofs.Several.{insert-length, chain-length, several-inserted}
 use Rattle.edits.proofs.Gaps.{gaps-looked, free-most, gaps-full, gaps-position, gaps-cells, gaps-number, gaps-words, gaps-chain}
-use Rattle.axle_store.specs.declared.Formatted.the-variants as F
-use Rattle.axle_store.specs.declared.Counted.the-variants as L
-use Rattle.axle_store.specs.Answers.{formattedNumber}
-use Rattle.axle_store.specs.Calls.{formatAnswer, formatWords, lengthAnswer, readNumber, readWords, insertPlan, severalPlan, deletePlan}
-use Rattle.axle_store.proofs.Cases.{format-range, format-exact, format-done, insert-refused, insert-at, several-refused, several-at, delete-refused, delete-at}
-use Rattle.axle_store.proofs.Calls.{check-decides, sound-opened, sound-decided, sound-length}
+use Rattle.calls.specs.declared.Formatted.the-variants as F
+use Rattle.calls.specs.declared.Counted.the-variants as L
+use Rattle.calls.specs.Answers.{formattedNumber, formattedWords, answerOf}
+use Rattle.calls.specs.Calls.{formatAnswer, formatWords, lengthAnswer, readNumber, readWords, insertPlan, severalPlan, deletePlan}
+use Rattle.calls.proofs.Cases.{insert-refused, insert-at, several-refused, several-at, delete-refused, delete-at}
+use Rattle.calls.proofs.Calls.{check-decides, sound-opened, sound-decided, sound-length}
 use Rattle.demands.specs.Demand2.{recordsIn, Leaves, FreeNode, Inserts, OneByOne, Severals, Deletes, Demand2}
 use Rattle.demands.proofs.Uninterpreted.{uninterpreted}
 use Rattle.demands.proofs.OneByOne.{one-by-one}
@@ -54,13 +54,14 @@ use Rattle.demands.proofs.Plain.{map-insert, map-splice, map-delete, ma
 -- format, done: not refused with 3 or 4
 formats : (l : Layout) (w : List ℕ) → formatAnswer l w ≡ F.Done
     → (s : Sound (formatWords l w)) × (layoutOf (formatWords l w) ≡ l) × ((k : ℕ) → s .ordered .lists .sequence k ≡ [])
-formats l w = by (inRange l) (eqb (length w) (sizeOf l)) refl refl
+unfolding formatAnswer
+formats l w = by (inRange l) (eqb (length w) (sizeOf l)) refl
   where
-    by : (b d : Bool) → inRange l ≡ b → eqb (length w) (sizeOf l) ≡ d → formatAnswer l w ≡ F.Done
-        → (s : Sound (formatWords l w)) × (layoutOf (formatWords l w) ≡ l) × ((k : ℕ) → s .ordered .lists .sequence k ≡ [])
-    by false d e q a = absurd (omega (arith, ap formattedNumber (format-range l w e .0 ∙ a)))
-    by true false e q a = absurd (omega (arith, ap formattedNumber (format-exact l w e (eqb-false _ _ q) .0 ∙ a)))
-    by true true e q a = rw (← (format-done l w e (eqb-true _ _ q) .1)) (formatted-empty l (in-range l e))
+    by : (b d : Bool) → inRange l ≡ b → let a = ask b (F.Refused 3) (ask d (F.Refused 4) F.Done) in a ≡ F.Done
+        → (s : Sound (formattedWords l w a)) × (layoutOf (formattedWords l w a) ≡ l) × ((k : ℕ) → s .ordered .lists .sequence k ≡ [])
+    by false d e a = absurd (omega (arith, ap formattedNumber a))
+    by true false e a = absurd (omega (arith, ap formattedNumber a))
+    by true true e a = formatted-empty l (in-range l e)
 
 -- length and read of list k of a sound store: questions 1 to 4 and 6 are answered yes
 module _ (w : List ℕ) (s : Sound w) (k : ℕ) where

@@ -16,7 +16,7 @@ use Rattle.edits.specs.Edited.{FreeNodes, recordsOf}
 use Rattle.requests.proofs.Search.{first-free}
 use Rattle.edits.proofs.Several as S
 use Rattle.edits.proofs.OneByOne as E
-use Rattle.axle_store.proofs.Cases.{insert-at}
+use Rattle.calls.proofs.Cases.{insert-at}
 use Rattle.demands.specs.Demand2.{OneByOne, none, next}
 
 pub one-by-one

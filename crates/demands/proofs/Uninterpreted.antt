@@ -44,9 +44,9 @@ use Rattle.recovery.proofs.Required.{wrong-append, wrong-same}
 use Rattle.recovery.proofs.Joined.{out-is}
 use Rattle.recovery.proofs.Count.{in-lists, in-clears}
 use Rattle.recovery.proofs.Whole.{plan-same}
-use Rattle.axle_store.specs.Calls.{formatAnswer, checkAnswer, lengthAnswer, readNumber, readStart, insertPlan, severalPlan, deletePlan, markPlan}
-use Rattle.axle_store.proofs.Cases.{insert-refused, insert-at, several-refused, several-at}
-use Rattle.axle_store.proofs.Sites.{gap-placed}
+use Rattle.calls.specs.Calls.{formatAnswer, checkAnswer, lengthAnswer, readNumber, readStart, insertPlan, severalPlan, deletePlan, markPlan}
+use Rattle.calls.proofs.Cases.{insert-refused, insert-at, several-refused, several-at}
+use Rattle.calls.proofs.Sites.{gap-placed}
 use Rattle.demands.specs.Records.{RecordWord, SameButRecords, Outside, SameRecovery, neither, both, SameCalls, SameWrites, none, next, SameStores, refused, stored, Uninterpreted}
 use Rattle.demands.proofs.Views.{blank-same, withBlank, site-with}
 

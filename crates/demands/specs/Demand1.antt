@@ -8,15 +8,16 @@ use mathlib.Core.Path.{_≡_}
 use mathlib.Core.List.{List, [], _∷_}
 use lib.ListN.{length, take, drop}
 use Rattle.sequences.specs.Sequence.{_∈_, All}
-use Rattle.stores.specs.declared.Answer.the-variants as A
-use Rattle.stores.specs.Stores.{Write, Plan, answerOf, wordsAfter, madeBy}
+use Rattle.calls.specs.declared.Answer.the-variants as A
+use Rattle.calls.specs.Answers.{answerOf}
+use Rattle.stores.specs.Stores.{Write, Plan, wordsAfter, madeBy}
 use Rattle.layout.specs.declared.Layout.{Layout}
 use Rattle.layout.specs.Words.{layoutOf}
 use Rattle.recovery.specs.Plan.{recoverPlan}
-use Rattle.axle_store.specs.declared.Formatted.the-variants as F
-use Rattle.axle_store.specs.declared.Checked.the-variants as C
-use Rattle.axle_store.specs.declared.Counted.the-variants as L
-use Rattle.axle_store.specs.Calls.{formatAnswer, formatWords, checkAnswer, lengthAnswer, readNumber, readWords, readStart, insertPlan, severalPlan, deletePlan, markPlan}
+use Rattle.calls.specs.declared.Formatted.the-variants as F
+use Rattle.calls.specs.declared.Checked.the-variants as C
+use Rattle.calls.specs.declared.Counted.the-variants as L
+use Rattle.calls.specs.Calls.{formatAnswer, formatWords, checkAnswer, lengthAnswer, readNumber, readWords, readStart, insertPlan, severalPlan, deletePlan, markPlan}
 
 -- a call that stores, on the words w, whose questions have these numbers
 pub record Refuses (numbers : List ℕ) (plan : Plan) (w : List ℕ) : Type 0 where

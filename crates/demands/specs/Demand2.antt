@@ -9,18 +9,19 @@ use mathlib.Core.List.{List, [], _∷_, _++_, map}
 use mathlib.Core.Logic.{_↔_}
 use lib.Dec.{ltb}
 use lib.ListN.{length, getD, take}
-use Rattle.stores.specs.declared.Answer.the-variants as A
-use Rattle.stores.specs.Stores.{Write, Plan, refuse, stores, run, answerOf, wordsAfter}
+use Rattle.calls.specs.declared.Answer.the-variants as A
+use Rattle.calls.specs.Answers.{answerOf}
+use Rattle.stores.specs.Stores.{Write, Plan, refuse, stores, run, wordsAfter}
 use Rattle.layout.specs.declared.Layout.{Layout}
 use Rattle.layout.specs.Words.{tailWords, Node, ask, identAt, layoutOf}
 use Rattle.lists.specs.Lists.{Sound, Blank, SameCells}
 use Rattle.lists.specs.Decide.{viewOf}
 use Rattle.requests.specs.Requests.{nextCell, around, freeCells, FirstFree}
 use Rattle.edits.specs.Edited.{insertAt, spliceAt, deleteAt, replaced, FreeNodes, recordIn, recordsOf}
-use Rattle.axle_store.specs.declared.Formatted.the-variants as F
-use Rattle.axle_store.specs.declared.Checked.the-variants as C
-use Rattle.axle_store.specs.declared.Counted.the-variants as L
-use Rattle.axle_store.specs.Calls.{formatAnswer, formatWords, checkAnswer, lengthAnswer, readNumber, readWords, insertPlan, severalPlan, deletePlan}
+use Rattle.calls.specs.declared.Formatted.the-variants as F
+use Rattle.calls.specs.declared.Checked.the-variants as C
+use Rattle.calls.specs.declared.Counted.the-variants as L
+use Rattle.calls.specs.Calls.{formatAnswer, formatWords, checkAnswer, lengthAnswer, readNumber, readWords, insertPlan, severalPlan, deletePlan}
 use Rattle.demands.specs.Records.{Uninterpreted}
 
 -- the records of list k, in order

@@ -13,7 +13,7 @@ use Rattle.requests.specs.declared.Request.{Request}
 use Rattle.requests.specs.Requests.{lookOf}
 use Rattle.recovery.specs.Fits.{wrong}
 use Rattle.recovery.specs.Plan.{joined, blanksAsked, fittingOf, recoverPlan}
-use Rattle.axle_store.specs.Calls.{formatAnswer, checkAnswer, lengthAnswer, readNumber, readStart, insertPlan, severalPlan, deletePlan, markPlan}
+use Rattle.calls.specs.Calls.{formatAnswer, checkAnswer, lengthAnswer, readNumber, readStart, insertPlan, severalPlan, deletePlan, markPlan}
 
 -- word a of the words w belongs to the record of a node that is not free
 pub record RecordWord (l : Layout) (w : List ℕ) (a : ℕ) : Type 0 where

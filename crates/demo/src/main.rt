@@ -1,8 +1,8 @@
 // A day at the bench on a small store: a bus's axles go in, one of them is measured again, the power is cut twice in the middle
 // of an insert, and the store is recovered, checked and read back.
-use axle_store::Checked;
-use axle_store::Counted;
-use stores::Answer;
+use calls::Answer;
+use calls::Checked;
+use calls::Counted;
 ghost use mathlib.Core.Path.{_≡_};
 ghost use lib.ListN.{length};
 

@@ -9,18 +9,19 @@ use lib.ListN.{length, getD, set}
 use lib.Seq.{getD-set-other}
 use borrow.Author.Tests.{eq-eqb}
 use Rattle.sequences.specs.Sequence.{trail, range, filter}
-use Rattle.stores.specs.Stores.{run, Plan, refuse, stores, answerOf}
+use Rattle.stores.specs.Stores.{run, Plan, refuse, stores}
 use Rattle.byte_form.specs.Bytes.{wordsIn, byteWrites, bytesAfter}
 use Rattle.layout.specs.Words.{isNode, checkWords, nodeAt, cellAt, identAt, wornIdent, sizeOf, marked, layoutOf, layoutFor, inRange, openedBy, emptyHeaders, formatted}
 use Rattle.lists.specs.Lists.{Sound}
 use Rattle.lists.specs.Decide.{turn, holds, allHold, members, blankFrom, orderedIn, soundIn}
 use Rattle.requests.specs.Requests.{siteIn, lookOf}
 use Rattle.recovery.specs.Plan.{recoverPlan, differing}
-use Rattle.axle_store.specs.declared.Checked.the-variants as C
-use Rattle.axle_store.specs.Answers.{checkedNumber}
-use Rattle.axle_store.specs.Calls.{checkAnswer}
-use Rattle.axle_store.proofs.Calls.{check-sound}
-use Rattle.axle.specs.Interface.{codeOf, checkCode, byteRecover}
+use Rattle.calls.specs.declared.Checked.the-variants as C
+use Rattle.calls.specs.Answers.{checkedNumber, answerOf}
+use Rattle.calls.specs.Calls.{checkAnswer}
+use Rattle.calls.proofs.Calls.{check-sound}
+use Rattle.byte_calls.specs.Plans.{byteCheck, byteRecover}
+use Rattle.axle.specs.Interface.{codeOf, checkCode}
 use Rattle.byte_courses.proofs.ByteCourse.{recover-plan, recover-words}
 use Rattle.distance.specs.Distance.{Place, header, identifier, Changed, PutBack, BytesPutBack, Distance}
 use Rattle.distance.proofs.Noticed.{noticed}
@@ -83,7 +84,7 @@ no-store (stores ps) b = refl
 
 module _ (b : List ℕ) (s : Sound (wordsIn b)) (b′ : List ℕ) (even : length b′ % 2 ≡ 0) (c : Changed (wordsIn b) s (wordsIn b′)) where
   bytes-noticed : 1 ≤ differing (wordsIn b) (wordsIn b′) → differing (wordsIn b) (wordsIn b′) ≤ 3 → checkCode b′ ≡ 6
-  unfolding checkCode
+  unfolding checkCode byteCheck
   bytes-noticed some few = rw (eq-eqb (length b′ % 2) 0 even) (ap checkedNumber (noticed (wordsIn b) s (wordsIn b′) c some few))
 
   bytes-back : differing (wordsIn b) (wordsIn b′) ≡ 1 → BytesPutBack (wordsIn b) b′

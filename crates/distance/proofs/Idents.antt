@@ -19,8 +19,8 @@ use Rattle.recovery.specs.Plan.{joined, differing}
 use Rattle.recovery.proofs.Differing.{differing-self, differing-step}
 use Rattle.recovery.proofs.Slots.{same-cell}
 use Rattle.recovery.proofs.Joined.{one-joined}
-use Rattle.axle_store.specs.declared.Checked.the-variants as C
-use Rattle.axle_store.specs.Calls.{checkAnswer}
+use Rattle.calls.specs.declared.Checked.the-variants as C
+use Rattle.calls.specs.Calls.{checkAnswer}
 use Rattle.distance.specs.Distance.{Place, identifier, Changed, PutBack}
 use Rattle.distance.proofs.Noticed.{noticed}
 use Rattle.distance.proofs.PutBack.{put-back}

@@ -27,9 +27,9 @@ use Rattle.recovery.proofs.Candidates.{sequence-dec}
 use Rattle.recovery.proofs.Joined.{one-joined, joined-one, is-out, out-same}
 use Rattle.recovery.proofs.Slots.{asked-word}
 use Rattle.recovery.proofs.Whole.{required-same, sound-agrees}
-use Rattle.axle_store.specs.declared.Checked.the-variants as C
-use Rattle.axle_store.specs.Calls.{checkAnswer}
-use Rattle.axle_store.proofs.Calls.{sound-opened, unsound-check}
+use Rattle.calls.specs.declared.Checked.the-variants as C
+use Rattle.calls.specs.Calls.{checkAnswer}
+use Rattle.calls.proofs.Calls.{sound-opened, unsound-check}
 use Rattle.distance.specs.Distance.{Place, header, identifier, link, Changed}
 use Rattle.distance.proofs.Far.{far}
 

@@ -19,9 +19,9 @@ use Rattle.lists.proofs.Same.{ident-word, list-same, same-opened}
 use Rattle.lists.proofs.Unlisted.{given-ident, given-list, given-layout, given-ordered, given-wiped}
 use Rattle.recovery.specs.Plan.{joined}
 use Rattle.recovery.proofs.Joined.{one-joined}
-use Rattle.axle_store.specs.declared.Checked.the-variants as C
-use Rattle.axle_store.specs.Calls.{checkAnswer}
-use Rattle.axle_store.proofs.Calls.{sound-opened, sound-check, unsound-check}
+use Rattle.calls.specs.declared.Checked.the-variants as C
+use Rattle.calls.specs.Calls.{checkAnswer}
+use Rattle.calls.proofs.Calls.{sound-opened, sound-check, unsound-check}
 use Rattle.distance.specs.Distance.{PutBack}
 use Rattle.distance.proofs.Idents.{ident-noticed}
 

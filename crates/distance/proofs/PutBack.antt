@@ -9,8 +9,9 @@ use lib.Seq.{set-set, set-getD}
 use borrow.Author.Tests.{le-ltb}
 use Rattle.sequences.specs.Sequence.{_∈_}
 use Rattle.sequences.proofs.Members.{all-in, member?}
-use Rattle.stores.specs.declared.Answer.the-variants as A
-use Rattle.stores.specs.Stores.{Write, write, run, Plan, stores, answerOf, wordsAfter}
+use Rattle.calls.specs.declared.Answer.the-variants as A
+use Rattle.calls.specs.Answers.{answerOf}
+use Rattle.stores.specs.Stores.{Write, write, run, Plan, stores, wordsAfter}
 use Rattle.stores.proofs.Laws.{applied-all}
 use Rattle.layout.specs.declared.Layout.{Layout}
 use Rattle.layout.specs.Words.{Node, identAt, layoutOf}

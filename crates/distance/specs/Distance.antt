@@ -7,16 +7,18 @@ use mathlib.Core.List.{List, [], _∷_}
 use mathlib.Core.Logic.{_↔_}
 use lib.ListN.{length, getD, set}
 use Rattle.sequences.specs.Sequence.{_∈_}
-use Rattle.stores.specs.declared.Answer.the-variants as A
-use Rattle.stores.specs.Stores.{write, stores, answerOf, wordsAfter}
+use Rattle.calls.specs.declared.Answer.the-variants as A
+use Rattle.calls.specs.Answers.{answerOf}
+use Rattle.stores.specs.Stores.{write, stores, wordsAfter}
 use Rattle.byte_form.specs.Bytes.{wordsIn, bytesAfter}
 use Rattle.layout.specs.declared.Layout.{Layout}
 use Rattle.layout.specs.Words.{headerWords, linkWords, Node, cellAt, identAt, wornIdent, Unlisted, layoutOf}
 use Rattle.lists.specs.Lists.{Sound, Blank}
 use Rattle.recovery.specs.Plan.{joined, recoverPlan, differing}
-use Rattle.axle_store.specs.declared.Checked.the-variants as C
-use Rattle.axle_store.specs.Calls.{checkAnswer}
-use Rattle.axle.specs.Interface.{codeOf, checkCode, byteRecover}
+use Rattle.calls.specs.declared.Checked.the-variants as C
+use Rattle.calls.specs.Calls.{checkAnswer}
+use Rattle.byte_calls.specs.Plans.{byteRecover}
+use Rattle.axle.specs.Interface.{codeOf, checkCode}
 
 -- Word a is one of these, in a store whose lists have the sequences s: "the headers",
 pub data Place (l : Layout) (s : ℕ → List ℕ) (a : ℕ) : Type 0 where

@@ -1,14 +1,11 @@
 -- A loop over several records: the stores made, and those of the records left, from the site reached on, are the plan.
 use Prim.Native.Nat.{ℕ, zero, suc, _+_, _*_, _/_, _-_, _<_, _≤_}
-use mathlib.Core.Path.{_≡_, refl, ap, ap₂, _∙_, sym, subst}
+use mathlib.Core.Path.{_≡_, refl, ap, _∙_, sym, subst}
 use mathlib.Core.List.{List, [], _++_, append-assoc}
 use native.Mathlib.Omega.{arith}
 use native.Mathlib.Nat.{suc-mul, zero-mul}
 use lib.ListN.{length, take, drop, length-append, length-drop}
-use Rattle.stores.specs.declared.Answer.the-variants as A
-use Rattle.stores.specs.Stores.{Write, run, stores, applied, answerOf}
-use Rattle.stores.proofs.Laws.{run-append, applied-all, answer-stopped, answer-done}
-use Rattle.stores.proofs.Segments.{applied-append, applied-first}
+use Rattle.stores.specs.Stores.{Write, run}
 use Rattle.layout.specs.declared.Layout.{Layout}
 use Rattle.layout.specs.Words.{tailWords}
 use Rattle.lists.specs.Decide.{viewOf}
@@ -90,34 +87,12 @@ module _ {l : Layout} {k : ℕ} {ps made : List Write} {w : List ℕ} {t : Site}
 
   -- with allowance m, of which n is used: the next record's stores are not all made, or they are, and it is the last
   module _ (m : ℕ) {n : ℕ} (c : n ≡ length made) (h : n ≤ m) where
-    pub underway-stopped : m - n < length First → A.Stopped m ≡ answerOf (stores ps) m
-    underway-stopped g =
+    pub underway-short : m - n < length First → m < length ps
+    underway-short g =
         let qs = underway-parts .0 in
-        answer-stopped ps m (omega (arith, g, c, ap length (underway-parts .1), length-append made (First ++ qs), length-append First qs))
+        omega (arith, g, c, ap length (underway-parts .1), length-append made (First ++ qs), length-append First qs)
 
-    pub underway-done : length First ≤ m - n → length ws ≡ l .width → A.Done (n + length First) ≡ answerOf (stores ps) m
-    underway-done g z =
+    pub underway-whole : length First ≤ m - n → length ws ≡ l .width → (n + length First ≡ length ps) × (length ps ≤ m)
+    underway-whole g z =
         let e : n + length First ≡ length ps = omega (arith, c, ap length (underway-last z), length-append made First) in
-        ap A.Done e ∙ answer-done ps m (omega (arith, g, e))
-
-    -- the words, made from w₀
-    module _ (w₀ : List ℕ) (e : w ≡ run made w₀) where
-      going-on : (qs : List Write) → ps ≡ made ++ qs → applied ps m w₀ ≡ applied qs (m - n) w
-      going-on qs q =
-          ap (λ (x : List Write). applied x m w₀) q
-          ∙ applied-append made qs m w₀
-          ∙ ap₂ (λ (x : ℕ) (v : List ℕ). applied qs (m - x) v) (sym c) (applied-all made m w₀ (omega (arith, c)) ∙ sym e)
-
-      pub words-stopped : m - n < length First → applied First (m - n) w ≡ applied ps m w₀
-      words-stopped g =
-          let p = underway-parts in
-          sym (going-on (First ++ p .0) (p .1) ∙ applied-first First (p .0) (m - n) w (omega arith))
-
-      pub words-done : length ws ≡ l .width → applied First (m - n) w ≡ applied ps m w₀
-      words-done z = sym (going-on First (underway-last z))
-
-      pub words-next : length First ≤ m - n → {w′ : List ℕ} → w′ ≡ applied First (m - n) w
-          → (w′ ≡ run First w) × (w′ ≡ run (made ++ First) w₀)
-      words-next g a =
-          let b = a ∙ applied-all First (m - n) w g in
-          (b, b ∙ ap (run First) e ∙ sym (run-append made First w₀))
+        (e, omega (arith, g, e))

@@ -10,8 +10,6 @@ use Rattle.lists.specs.Lists.{blankAsked}
 use Rattle.lists.specs.Decide.{viewOf}
 use Rattle.requests.specs.declared.Site.{Site}
 use Rattle.requests.specs.Requests.{around, freeCells}
-use Rattle.edits.specs.declared.Foretold.{Foretold}
-use Rattle.edits.specs.declared.Foretold.the-variants as F
 
 -- "the word stores are, in order: the P record words; its forward = b; its back = a; its identifier; the count plus one; a's
 -- forward; b's back. That is P + 6 stores."
@@ -96,30 +94,3 @@ pub record Room (l : Layout) (w : List ℕ) (k : ℕ) (t : Site) (r : ℕ) : Typ
   pub free : getD w (identAt l (t .cell)) 0 ≡ 0
   pub enough : r ≤ length (freeCells (viewOf l w .ident) (around l (t .cell) (l .nodes)))
   pub count : t .count + r ≤ l .nodes
-
--- What is told of an insert of several records before its first store: "the first and the last cell in order of use" of these cells, and "the
--- number of word stores".
-abbrev pub figuresOf : List ℕ → ℕ → Foretold
-figuresOf cells n = F.Figures (getD cells 0 0) (getD cells (length cells - 1) 0) n
-
--- its number, 0 for none, and the figures, 0 if refused, by its cases
-abbrev pub foretoldNumber : Foretold → ℕ
-foretoldNumber (F.Figures a b n) = 0
-foretoldNumber (F.Refused n) = n
-
-abbrev pub foretoldFirst : Foretold → ℕ
-foretoldFirst (F.Figures a b n) = a
-foretoldFirst (F.Refused n) = 0
-
-abbrev pub foretoldLast : Foretold → ℕ
-foretoldLast (F.Figures a b n) = b
-foretoldLast (F.Refused n) = 0
-
-abbrev pub foretoldStores : Foretold → ℕ
-foretoldStores (F.Figures a b n) = n
-foretoldStores (F.Refused n) = 0
-
--- the cells told are no worn nodes of the words w
-abbrev pub foretoldUnworn : Layout → List ℕ → Foretold → Type 0
-foretoldUnworn l w (F.Refused n) = Unit {0}
-foretoldUnworn l w (F.Figures a b n) = (viewOf l w .ident a ≡ wornIdent → ⊥) × (viewOf l w .ident b ≡ wornIdent → ⊥)

@@ -6,7 +6,7 @@ ghost use mathlib.Core.Path.{_≡_};
 ghost use Prim.Native.Nat.{_+_, _-_, _*_, _/_, _≤_, _<_};
 ghost use Rattle.layout.specs.Words.{InRange, linkWords, cellCount, cellAt, countAt, sizeOf};
 ghost use Rattle.stores.specs.Stores.{Listed};
-ghost use Rattle.edits.specs.Edits.{insertLinks, insertStores, deleteLinks, Placed, foretoldNumber, foretoldFirst, foretoldLast, foretoldStores};
+ghost use Rattle.edits.specs.Edits.{insertLinks, insertStores, deleteLinks, Placed};
 
 // Six stores, and four: their addresses and their values.
 pub struct Six {
@@ -21,53 +21,6 @@ impl Six {
 pub struct Four {
     pub at: [u16; 4],
     pub values: [u16; 4],
-}
-
-// What an insert of several records will do, told before its first store: the first and the last cell that it uses, in order of use, and how
-// many stores it makes.
-pub enum Foretold {
-    Figures(u16, u16, u16),
-    Refused(u16),
-}
-
-impl Foretold {
-    // The number of the refusal, 0 for none.
-    pub fn number(self) -> u16
-        ensures { λ r. ⌜ r ≡ foretoldNumber self ⌝ }
-    {
-        match self {
-            Foretold::Figures(_, _, _) => 0,
-            Foretold::Refused(n) => n,
-        }
-    }
-
-    // The first cell, the last cell and the number of stores, each 0 if refused.
-    pub fn first(self) -> u16
-        ensures { λ r. ⌜ r ≡ foretoldFirst self ⌝ }
-    {
-        match self {
-            Foretold::Figures(a, _, _) => a,
-            Foretold::Refused(_) => 0,
-        }
-    }
-
-    pub fn last(self) -> u16
-        ensures { λ r. ⌜ r ≡ foretoldLast self ⌝ }
-    {
-        match self {
-            Foretold::Figures(_, b, _) => b,
-            Foretold::Refused(_) => 0,
-        }
-    }
-
-    pub fn stores(self) -> u16
-        ensures { λ r. ⌜ r ≡ foretoldStores self ⌝ }
-    {
-        match self {
-            Foretold::Figures(_, _, n) => n,
-            Foretold::Refused(_) => 0,
-        }
-    }
 }
 
 // The address of word f of cell i.

@@ -1,14 +1,14 @@
 // Which sequence is chosen for a list. Only two can fit: what the forward links lead through, and what the back links do. Each is walked at
 // most once, its wrong words beside the count are summed up as none, one or many, and its members are counted; no sequence is kept. What
 // stands here is what the walks in lent words and in lent bytes share: they differ only in how they read a cell.
+use layout::Cell;
+use layout::Grid;
 use layout::Layout;
-use spans::Cell;
-use spans::Grid;
 ghost use mathlib.Core.Path.{_≡_};
 ghost use Prim.Native.Nat.{_<_, _≤_};
 ghost use lib.Dec.{eqb};
 ghost use Rattle.layout.specs.Words.{mostLists, mostCells};
-ghost use Rattle.spans.specs.Spans.{Gridded};
+ghost use Rattle.layout.specs.Cells.{Gridded};
 ghost use Rattle.fitting.specs.declared.Faults.the-variants as F;
 ghost use Rattle.fitting.specs.Fitting.{plus, fault, areMany, walkWith, decides, isRival, byCount, choose, numberOf, noWalk, walkIn, isBackward, onwardWord, backwardWord, byWay, isOpen, firstTrail, nextTrail, endOf};
 

@@ -8,7 +8,8 @@
 ghost use mathlib.Core.Path.{_≡_};
 ghost use Prim.Native.Nat.{_≤_};
 ghost use lib.ListN.{length};
-ghost use Rattle.layout.specs.Words.{newest, mostLists, headWords, firstNode, cellCount, isNode, headerAt, checkWords, nodeWords, nodesAt, nodeAt, cellAt, sizeOf, identOf, isFree, inUse, between, inRange, InRange, marked, openedBy, opened, head, emptyHeader};
+ghost use Rattle.layout.specs.Words.{newest, mostLists, headWords, firstNode, cellCount, Node, isNode, headerAt, checkWords, tailWords, nodeWords, nodesAt, nodeAt, cellAt, sizeOf, identOf, isFree, inUse, between, inRange, InRange, marked, openedBy, head, emptyHeader};
+ghost use Rattle.layout.specs.Cells.{Gridded};
 
 // Version, L, N and P of a store.
 pub struct Layout {
@@ -16,6 +17,22 @@ pub struct Layout {
     pub lists: u16,
     pub nodes: u16,
     pub width: u16,
+}
+
+// What the address of a node is computed from: node y begins at word first + step * y - low.
+pub struct Grid {
+    pub first: usize,
+    pub step: usize,
+    pub low: usize,
+    pub from: usize,
+    pub to: usize,
+}
+
+// The words of a cell that a walk compares and follows.
+pub struct Cell {
+    pub ident: u16,
+    pub forward: usize,
+    pub back: usize,
 }
 
 // The answer to questions 1 to 4.
@@ -228,6 +245,50 @@ impl Layout {
     }
 }
 
+impl Grid {
+    pub fn of(l: Layout) -> Self
+        requires { ⌜ InRange l ⌝ }
+        ensures { λ r. ⌜ Gridded l r ⌝ }
+    {
+        let step = l.node_words();
+        let from = l.first_node() as usize;
+        Self {
+            first: l.nodes_at(),
+            step,
+            low: step * from,
+            from,
+            to: l.cell_count() as usize,
+        }
+    }
+
+    // Is cell y a node?
+    pub fn is_node(self, l: Layout, y: usize) -> bool
+        requires { ⌜ Gridded l self ⌝ }
+        ensures { λ r. ⌜ r ≡ isNode l y ⌝ }
+    {
+        if y < self.from {
+            return false;
+        }
+        y < self.to
+    }
+
+    // The first word of node y.
+    pub fn place(self, l: Layout, y: usize) -> usize
+        requires { ⌜ Gridded l self × InRange l × Node l y ⌝ }
+        ensures { λ r. ⌜ r ≡ cellAt l y ⌝ }
+    {
+        self.step * y + self.first - self.low
+    }
+
+    // The words of a node behind its links.
+    pub fn tail(self, l: Layout) -> u16
+        requires { ⌜ Gridded l self × InRange l ⌝ }
+        ensures { λ r. ⌜ r ≡ tailWords l ⌝ }
+    {
+        (self.step - Layout::LINK_WORDS) as u16
+    }
+}
+
 // Is x at least 1 and at most max?
 fn within(x: u16, max: usize) -> bool
     ensures { λ r. ⌜ r ≡ between 1 max x ⌝ }
@@ -286,14 +347,4 @@ pub fn open_with(n: usize, head: &[u16]) -> Opened
         return Opened::Refused(4);
     }
     Opened::Open(l)
-}
-
-// Questions 1 to 4 of the lent words.
-pub fn open(words: &[u16]) -> Opened
-    ensures { λ r. ⌜ r ≡ opened (now (words .entry)) ⌝ }
-{
-    if words.len() < Layout::HEAD_WORDS {
-        return Opened::Refused(1);
-    }
-    open_with(words.len(), words)
 }

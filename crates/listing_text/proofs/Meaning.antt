@@ -18,9 +18,9 @@ use Rattle.requests.specs.declared.Request.the-variants.{Check}
 use Rattle.requests.specs.declared.Looked.{Looked}
 use Rattle.requests.specs.declared.Looked.the-variants as K
 use Rattle.requests.specs.Requests.{siteIn, lookOf, withLook}
-use Rattle.axle_store.specs.declared.Checked.the-variants as C
-use Rattle.axle_store.specs.Calls.{checkAnswer}
-use Rattle.axle_store.proofs.Calls.{sound-opened, sound-decided}
+use Rattle.calls.specs.declared.Checked.the-variants as C
+use Rattle.calls.specs.Calls.{checkAnswer}
+use Rattle.calls.proofs.Calls.{sound-opened, sound-decided}
 use Rattle.writing.specs.Text.{codes, digits, decimal, spaced}
 use Rattle.listing_text.specs.Listing.{recordLine, recordLines, listLine, listLines, listsFrom, refusedLine, soundLines, listingOf, mostBytes, byteListing}
 use Rattle.listing_text.proofs.Listed.{listed-sound, listing-open, bytes-even}

@@ -2,16 +2,16 @@
 // the length of the whole text in any case.
 //
 // Each function writes its text from place n of the buffer on, and answers the place behind it.
+use layout::Grid;
 use layout::Layout;
 use layout::Opened;
-use spans::Grid;
 ghost use mathlib.Core.Path.{_≡_};
 ghost use Prim.Native.Nat.{_*_, _≤_, _<_};
 ghost use mathlib.Core.Bool.{true};
 ghost use lib.ListN.{length};
 ghost use Rattle.layout.specs.Words.{Laid, Node};
 ghost use Rattle.lists.specs.Decide.{viewOf, sequenceOf, soundOf, HeldList};
-ghost use Rattle.spans.specs.Spans.{Gridded};
+ghost use Rattle.layout.specs.Cells.{Gridded};
 ghost use Rattle.edits.specs.Edited.{recordIn};
 ghost use Rattle.writing.specs.Text.{overwritten, Wrote, Room};
 ghost use Rattle.byte_form.specs.Bytes.{wordsIn};
@@ -129,7 +129,7 @@ pub fn listing(words: &[u16], out: &mut [u8]) -> usize
     ensures bytes { λ _. ⌜ now (out .exit) ≡ overwritten (listingOf (now (words .entry))) (now (out .entry)) ⌝ }
     ensures short { λ r. ⌜ r ≤ longest ⌝ }
 {
-    match layout::open(words) {
+    match word_requests::open(words) {
         Opened::Refused(n) => refused_line(out, 0, n),
         Opened::Open(l) => listing_in(out, words, l),
     }

@@ -9,7 +9,7 @@ use Rattle.requests.specs.Requests.{nextCell, around, firstFree, memberAt, gapA
 use Rattle.edits.specs.Edits.{insertLinks, insertWrites, deleteLinks, deleteWrites}
 use Rattle.recovery.specs.Fits.{wrong, fewWrong, same, hasCount, fitOf}
 use Rattle.recovery.specs.Plan.{joined, isIn, blanksAsked, refusalFrom, recoverOf, recoverPlan}
-use Rattle.axle_store.specs.Calls.{formatAnswer, checkAnswer, lengthAnswer, readNumber, readWords, insertPlan, deletePlan}
+use Rattle.calls.specs.Calls.{formatAnswer, checkAnswer, lengthAnswer, readNumber, readWords, insertPlan, deletePlan}
 use Rattle.marked.specs.Table.{Row, outcome, rows}
 
 pub table : All (λ (r : Row). outcome (r .call) (r .words) ≡ r .outcome) rows

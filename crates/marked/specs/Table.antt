@@ -2,14 +2,14 @@
 use Prim.Native.Nat.{ℕ, _+_}
 use mathlib.Core.List.{List, [], _∷_, _++_}
 use lib.ListN.{replicate}
-use Rattle.stores.specs.declared.Answer.{Answer}
-use Rattle.stores.specs.declared.Answer.the-variants as A
-use Rattle.stores.specs.Stores.{Write, write, Plan, answerOf, wordsAfter, madeBy}
+use Rattle.calls.specs.declared.Answer.{Answer}
+use Rattle.calls.specs.declared.Answer.the-variants as A
+use Rattle.stores.specs.Stores.{Write, write, Plan, wordsAfter, madeBy}
 use Rattle.layout.specs.declared.Layout.{Layout}
 use Rattle.layout.specs.Words.{layoutFor}
 use Rattle.recovery.specs.Plan.{recoverPlan}
-use Rattle.axle_store.specs.Answers.{formattedNumber, checkedNumber, countedNumber, countedLength}
-use Rattle.axle_store.specs.Calls.{formatAnswer, formatWords, checkAnswer, lengthAnswer, readNumber, readWords, insertPlan, deletePlan}
+use Rattle.calls.specs.Answers.{formattedNumber, checkedNumber, countedNumber, countedLength, answerOf}
+use Rattle.calls.specs.Calls.{formatAnswer, formatWords, checkAnswer, lengthAnswer, readNumber, readWords, insertPlan, deletePlan}
 
 abbrev pub small : Layout
 small = layoutFor 1 3 1

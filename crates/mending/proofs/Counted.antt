@@ -11,8 +11,9 @@ use lib.ListN.{length, getD, length-append}
 use borrow.Author.Tests.{eq-eqb, ne-eqb, eqb-true, eqb-false}
 use Rattle.sequences.specs.Sequence.{_∈_, range, filter}
 use Rattle.sequences.proofs.Members.{member?}
-use Rattle.stores.specs.declared.Needed.the-variants as N
-use Rattle.stores.specs.Stores.{Write, write, neededOf, writesIn}
+use Rattle.calls.specs.declared.Needed.the-variants as N
+use Rattle.calls.specs.Answers.{neededOf}
+use Rattle.stores.specs.Stores.{Write, write, writesIn}
 use Rattle.layout.specs.declared.Layout.{Layout}
 use Rattle.layout.specs.Words.{mostCells, firstNode, Node, InRange, sizeOf, identAt, wornIdent, Unlisted, free, worn, isFree, isWorn}
 use Rattle.lists.specs.Lists.{blankAsked}

@@ -9,20 +9,13 @@ use lib.Dec.{ltb}
 use lib.ListN.{length, getD, take, drop, length-append, length-drop}
 use lib.Seq.{getD-drop, take-add, take-append-le, drop-drop, drop-append-seam}
 use borrow.Author.Tests.{ltb-true, ltb-false}
-use Rattle.stores.specs.declared.Answer.{Answer}
-use Rattle.stores.specs.declared.Answer.the-variants as A
-use Rattle.stores.specs.Stores.{Write, write, run, applied, stores, answerOf, answerStores}
-use Rattle.stores.proofs.Laws.{run-append, applied-all, answer-stopped, answer-done}
-use Rattle.stores.proofs.Segments.{applied-append, applied-first, answer-first, answer-second}
-use Rattle.mending.specs.Mending.{answerOn, wordsOn}
-
--- no store is to be made
-pub none-made : (ps : List Write) (m : ℕ) (w : List ℕ) → ps ≡ [] → (A.Done 0 ≡ answerOf (stores ps) m) × (w ≡ applied ps m w)
-unfolding run
-none-made ps m w e = (
-  answer-done [] m (omega arith) ∙ ap (λ (qs : List Write). answerOf (stores qs) m) (sym e),
-  sym (ap (λ (qs : List Write). applied qs m w) e ∙ applied-all [] m w (omega arith)),
-)
+use Rattle.calls.specs.declared.Answer.{Answer}
+use Rattle.calls.specs.declared.Answer.the-variants as A
+use Rattle.calls.specs.Answers.{answerOf, answerStores}
+use Rattle.stores.specs.Stores.{Write, write, run, applied, stores}
+use Rattle.calls.proofs.Answers.{answer-stopped, answer-done, answer-first, answer-second}
+use Rattle.stores.proofs.Laws.{applied-all}
+use Rattle.mending.specs.Mending.{answerOn}
 
 -- the first n stores of ps are made, and these are left
 pub record Making (ps : List Write) (n : ℕ) (left : List Write) : Type 0 where
@@ -55,20 +48,6 @@ module _ {ps : List Write} {n : ℕ} (qs left : List Write) (m : Making ps n (qs
   pub making-stopped : (a : ℕ) → n ≤ a → a - n < length qs → A.Stopped a ≡ answerOf (stores ps) a
   making-stopped a h g = answer-stopped ps a (omega (arith, making-length))
 
-  -- the words: the segment goes on where the first n stores end
-  part-words : (w : List ℕ) (j : ℕ) → j ≤ length qs → applied qs j (applied ps n w) ≡ applied ps (n + j) w
-  part-words w j h =
-      sym (run-append (take n ps) (take j qs) w) ∙ ap (λ (t : List Write). run t w) (sym (making-part j h))
-
-  pub words-on : (w : List ℕ) (a : ℕ) → length qs ≤ a → applied qs a (applied ps n w) ≡ applied ps (n + length qs) w
-  words-on w a h =
-      applied-all qs a (applied ps n w) h ∙ sym (applied-all qs (length qs) (applied ps n w) (omega arith)) ∙ part-words w (length qs) (omega arith)
-
-  pub words-stopped : (w : List ℕ) (a : ℕ) → n ≤ a → a - n < length qs → applied qs (a - n) (applied ps n w) ≡ applied ps a w
-  words-stopped w a h g =
-      let e : n + (a - n) ≡ a = omega arith in
-      part-words w (a - n) (omega arith) ∙ ap (λ (j : ℕ). applied ps j w) e
-
 -- the next store
 pub making-next : (ps : List Write) (n : ℕ) (p : Write) (left : List Write) → Making ps n (p ∷ left)
     → (n < length ps) × (getD ps n (write 0 0) ≡ p) × Making ps (n + 1) left
@@ -87,12 +66,6 @@ made-within ps m = by (ltb m (length ps)) refl
     by true e = omega (arith, ap answerStores (answer-stopped ps m (ltb-true m (length ps) e)))
     by false e = let h = ltb-false m (length ps) e in omega (arith, h, ap answerStores (answer-done ps m h))
 
--- stores that follow on others, which were not all made
-pub none-follow : (r : Answer) (qs : List Write) (m : ℕ) (w : List ℕ) → ((n : ℕ) → r ≡ A.Done n → ⊥) → (r ≡ answerOn r qs m) × (w ≡ wordsOn r qs m w)
-none-follow (A.Done n) qs m w h = absurd (h n refl)
-none-follow (A.Stopped n) qs m w h = (refl, refl)
-none-follow (A.Refused n) qs m w h = (refl, refl)
-
 -- Stores that follow on others are one run with them. Which they are is told by the words that the others leave; where the others are not all
 -- made, none of these is, and it does not matter.
 module _ (ps : List Write) (next : List ℕ → List Write) (m : ℕ) (w : List ℕ) where
@@ -110,16 +83,3 @@ module _ (ps : List Write) (next : List ℕ → List Write) (m : ℕ) (w : List 
           let h = ltb-false m (length ps) e in
           ap₂ (λ (r : Answer) (v : List ℕ). answerOn r (next v) m) (sym (answer-done ps m h)) (applied-all ps m w h)
           ∙ sym (answer-second ps (next (run ps w)) m h)
-
-  pub on-words : wordsOn (answerOf (stores ps) m) (next (applied ps m w)) m (applied ps m w) ≡ applied Both m w
-  on-words = by (ltb m (length ps)) refl
-    where
-      by : (b : Bool) → ltb m (length ps) ≡ b → wordsOn (answerOf (stores ps) m) (next (applied ps m w)) m (applied ps m w) ≡ applied Both m w
-      by true e =
-          let h = ltb-true m (length ps) e in
-          ap (λ (r : Answer). wordsOn r (next (applied ps m w)) m (applied ps m w)) (sym (answer-stopped ps m h))
-          ∙ sym (applied-first ps (next (run ps w)) m w (omega arith))
-      by false e =
-          let h = ltb-false m (length ps) e in
-          ap₂ (λ (r : Answer) (v : List ℕ). wordsOn r (next v) m (applied ps m w)) (sym (answer-done ps m h)) (applied-all ps m w h)
-          ∙ sym (applied-append ps (next (run ps w)) m w)

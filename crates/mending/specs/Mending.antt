@@ -6,9 +6,10 @@ use mathlib.Core.Bool.{Bool, true, false, not, cond, _&&_}
 use lib.Dec.{eqb}
 use lib.ListN.{length, getD, set, take}
 use Rattle.sequences.specs.Sequence.{All, trail}
-use Rattle.stores.specs.declared.Answer.{Answer}
-use Rattle.stores.specs.declared.Answer.the-variants as A
-use Rattle.stores.specs.Stores.{Write, write, applied, stores, answerOf, more, writesIn, Held}
+use Rattle.calls.specs.declared.Answer.{Answer}
+use Rattle.calls.specs.declared.Answer.the-variants as A
+use Rattle.calls.specs.Answers.{answerOf, more}
+use Rattle.stores.specs.Stores.{Write, write, stores, writesIn, Held}
 use Rattle.layout.specs.declared.Layout.{Layout}
 use Rattle.layout.specs.Words.{firstNode, isNode, identAt, wornIdent, isFree, isWorn, inUse, sizeOf}
 use Rattle.lists.specs.Lists.{blankAsked}
@@ -93,16 +94,11 @@ unfoldable pub outsideFrom : Layout → List ℕ → List ℕ → ℕ → ℕ �
 outsideFrom l w idents a zero = 0
 outsideFrom l w idents a (suc n) = outsideOf l w (getD idents a 0) a + outsideFrom l w idents (suc a) n
 
--- stores that follow on others, which were answered r under the allowance m: the answer to all, and the words that the others are left in
+-- stores that follow on others, which were answered r under the allowance m: the answer to all
 abbrev pub answerOn : Answer → List Write → ℕ → Answer
 answerOn (A.Done n) qs m = more n (answerOf (stores qs) (m - n))
 answerOn (A.Stopped n) qs m = A.Stopped n
 answerOn (A.Refused n) qs m = A.Refused n
-
-abbrev pub wordsOn : Answer → List Write → ℕ → List ℕ → List ℕ
-wordsOn (A.Done n) qs m w = applied qs (m - n) w
-wordsOn (A.Stopped n) qs m w = w
-wordsOn (A.Refused n) qs m w = w
 
 -- the stores ps, one at most: as many of this store as there are
 pub record IsMend (l : Layout) (ps : List Write) (m : Mend) : Type 0 where

@@ -3,8 +3,8 @@
 // that is not worn. Which nodes these are is decided before the first store. What stands here is what recovery in lent words and in lent
 // bytes share: what is found of the lists, the stores that mend a list, and the laws by which this is the plan of recovery.
 use fitting::Faults;
+use layout::Cell;
 use layout::Layout;
-use spans::Cell;
 use stores::Rows;
 ghost use mathlib.Core.Path.{_≡_};
 ghost use Prim.Native.Nat.{_+_, _<_};

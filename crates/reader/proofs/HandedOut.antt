@@ -23,11 +23,11 @@ use Rattle.requests.specs.declared.Request.the-variants.{Whole, Member}
 use Rattle.requests.specs.Requests.{siteIn, siteOf, memberAt}
 use Rattle.requests.proofs.Laws.{look-shut, look-refused, look-at}
 use Rattle.edits.specs.Edited.{recordIn}
-use Rattle.axle_store.specs.declared.Counted.{Counted}
-use Rattle.axle_store.specs.declared.Counted.the-variants as L
-use Rattle.axle_store.specs.Calls.{readWords, lengthAnswer}
-use Rattle.axle_store.proofs.Cases.{length-at, read-refused}
-use Rattle.axle_store.proofs.Calls.{sound-opened, sound-decided, sound-read}
+use Rattle.calls.specs.declared.Counted.{Counted}
+use Rattle.calls.specs.declared.Counted.the-variants as L
+use Rattle.calls.specs.Calls.{readWords, lengthAnswer}
+use Rattle.calls.proofs.Cases.{length-at, read-refused}
+use Rattle.calls.proofs.Calls.{sound-opened, sound-decided, sound-read}
 use Rattle.reader.specs.Reader.{nextAt, handOuts}
 
 -- the position behind p

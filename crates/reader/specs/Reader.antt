@@ -4,7 +4,7 @@ use Prim.Native.Nat.{ℕ, zero, suc, _+_}
 use mathlib.Core.List.{List, [], _∷_}
 use mathlib.Core.Bool.{cond}
 use lib.Dec.{ltb}
-use Rattle.axle_store.specs.Calls.{readWords}
+use Rattle.calls.specs.Calls.{readWords}
 use Rattle.reader.specs.declared.Place.{Place}
 
 -- the position behind p: the last of the numbers stays, and is beyond every list

@@ -2,7 +2,7 @@
 // once, in order, then empty parts. No function asks anything of its caller.
 ghost use mathlib.Core.Path.{_≡_};
 ghost use Prim.Native.Nat.{_+_, _*_};
-ghost use Rattle.axle_store.specs.Calls.{readWords, readStart};
+ghost use Rattle.calls.specs.Calls.{readWords, readStart};
 ghost use Rattle.reader.specs.Reader.{nextAt, nextPlace};
 
 pub struct Reader<'a> {

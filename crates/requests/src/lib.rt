@@ -1,6 +1,6 @@
 // Questions 5 to 10 and 13. A request says what a call asks of the lists, and the site is what it gets: a cell with the cells before
-// and after it, and the list's length. All is decided before the first store. Crate word_requests finds the site in lent words, crate
-// byte_requests in lent bytes.
+// and after it, and the list's length. All is decided before the first store. Crates byte_requests and word_requests find the
+// site in what is lent.
 use layout::Layout;
 ghost use mathlib.Core.Path.{_≡_};
 ghost use lib.Dec.{leb};

@@ -12,7 +12,7 @@ use Rattle.layout.specs.declared.Layout.{Layout}
 use Rattle.layout.specs.Words.{Node}
 use Rattle.lists.specs.Decide.{View, sequenceIn, HeldList}
 use Rattle.lists.proofs.Ring.{held-count, ring-node, ring-ahead, ring-behind}
-use Rattle.spans.specs.declared.Cell.{Cell}
+use Rattle.layout.specs.declared.Cell.{Cell}
 use Rattle.spans.specs.Spans.{cellIn}
 use Rattle.seeks.specs.declared.Seek.{Seek}
 use Rattle.seeks.specs.declared.Sought.the-variants.{At, Spent}

@@ -9,7 +9,7 @@ use Rattle.sequences.proofs.Follow.{follow-none, follow-next}
 use Rattle.layout.specs.declared.Layout.{Layout}
 use Rattle.layout.specs.Words.{Node}
 use Rattle.lists.specs.Decide.{View}
-use Rattle.spans.specs.declared.Cell.{Cell}
+use Rattle.layout.specs.declared.Cell.{Cell}
 use Rattle.spans.specs.Spans.{cellIn}
 use Rattle.seeks.specs.declared.Seek.{Seek}
 use Rattle.seeks.specs.declared.Sought.the-variants.{At, Spent}

@@ -1,7 +1,7 @@
 // A walk to a cell of a list: a state by value, whose step follows one link and hands the next state back. It is run with a budget of
 // steps, and has then arrived at a cell, or the budget is spent. What stands here is what the walks in lent words and in lent bytes
 // share: they differ only in how they read a cell.
-use spans::Cell;
+use layout::Cell;
 ghost use mathlib.Core.Path.{_≡_};
 ghost use Prim.Native.Nat.{_<_, _≤_};
 ghost use Rattle.seeks.specs.Seeks.{nearer, stepped, half};

@@ -1,6 +1,6 @@
 // Prints list 0 of a small store through the reader, place by place.
+use calls::Answer;
 use reader::Place;
-use stores::Answer;
 ghost use mathlib.Core.Path.{_≡_};
 ghost use lib.ListN.{length};
 

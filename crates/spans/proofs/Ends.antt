@@ -14,7 +14,7 @@ use Rattle.layout.specs.Words.{isNode, identOf}
 use Rattle.lists.specs.Decide.{View, sequenceIn}
 use Rattle.lists.proofs.Agree.{holds-true, true-holds}
 use Rattle.lists.proofs.Unique.{header-out, nodes-few, all-nodes}
-use Rattle.spans.specs.declared.Cell.{Cell}
+use Rattle.layout.specs.declared.Cell.{Cell}
 use Rattle.spans.specs.declared.Span.{Span}
 use Rattle.spans.specs.declared.Round.{Round}
 use Rattle.spans.specs.declared.Round.the-variants.{Inner, Broken}

@@ -1,5 +1,4 @@
 pub mod Decided
 pub mod Ends
-pub mod Places
 pub mod Counts
 pub mod Sums

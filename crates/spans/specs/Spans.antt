@@ -1,27 +1,18 @@
 -- A list walked from both ends at once: what lies between the two cells that the walks have come to.
-use Prim.Native.Nat.{ℕ, zero, suc, _+_, _*_, _-_, _≤_}
+use Prim.Native.Nat.{ℕ, zero, suc, _+_, _-_, _≤_}
 use mathlib.Core.Path.{_≡_}
 use mathlib.Core.List.{List}
 use mathlib.Core.Bool.{Bool, true, false, not, cond}
-use lib.ListN.{length, getD}
+use lib.ListN.{length}
 use Rattle.sequences.specs.Sequence.{All, Forward, Backward}
 use Rattle.layout.specs.declared.Layout.{Layout}
-use Rattle.layout.specs.Words.{mostNodes, firstNode, cellCount, isNode, nodeWords, nodesAt, forwardWord, backWord, identOf, isFree, inUse}
+use Rattle.layout.specs.Words.{mostNodes, isNode, identOf, isFree, inUse}
 use Rattle.lists.specs.Decide.{View, sequenceIn, holds, used, unwiped}
-use Rattle.spans.specs.declared.Grid.{Grid}
-use Rattle.spans.specs.declared.Cell.{Cell}
+use Rattle.layout.specs.declared.Cell.{Cell}
 use Rattle.spans.specs.declared.Tally.{Tally}
 use Rattle.spans.specs.declared.Span.{Span}
 use Rattle.spans.specs.declared.Round.{Round}
 use Rattle.spans.specs.declared.Round.the-variants.{Inner, Broken}
-
--- the numbers that the address of a node is computed from
-pub record Gridded (l : Layout) (g : Grid) : Type 0 where
-  pub first : g .first ≡ nodesAt l
-  pub step : g .step ≡ nodeWords l
-  pub low : g .low ≡ nodeWords l * firstNode l
-  pub from : g .from ≡ firstNode l
-  pub to : g .to ≡ cellCount l
 
 -- how many of the n cells from a on are in use, and how many are free and have a record
 abbrev pub tallyOf : View → ℕ → ℕ → Tally
@@ -59,10 +50,7 @@ unfoldable pub countSum : (ℕ → ℕ) → ℕ → ℕ
 countSum count zero = 0
 countSum count (suc n) = countSum count n + count n
 
--- a cell as it stands in words from a on, a cell as a view has it, and the whole of a list
-abbrev pub cellOf : List ℕ → ℕ → Cell
-cellOf w a = record { ident = getD w a 0; forward = getD w (a + forwardWord) 0; back = getD w (a + backWord) 0 }
-
+-- a cell as a view has it, and the whole of a list
 abbrev pub cellIn : View → ℕ → Cell
 cellIn v c = record { ident = v .ident c; forward = v .forward c; back = v .back c }
 

@@ -2,28 +2,13 @@
 // takes its first and its last cell away, if they are right; in the middle nothing is left, or one cell. The nodes are tallied by
 // their identifiers, and the free ones by their records too. What stands here is what the walks in lent words and in lent bytes
 // share: they differ only in how they read a cell.
+use layout::Cell;
 use layout::Layout;
 ghost use mathlib.Core.Path.{_≡_};
-ghost use Prim.Native.Nat.{_<_, _≤_};
+ghost use Prim.Native.Nat.{_<_};
 ghost use mathlib.Core.Bool.{cond};
-ghost use Rattle.layout.specs.Words.{mostLists, tailWords, InRange, Node, isNode, cellAt};
-ghost use Rattle.spans.specs.Spans.{Gridded, noTally, withFree, withOther, FewIn, wholeSpan, narrowed, Closed, Single, Decides};
-
-// What the address of a node is computed from: node y begins at word first + step * y - low.
-pub struct Grid {
-    pub first: usize,
-    pub step: usize,
-    pub low: usize,
-    pub from: usize,
-    pub to: usize,
-}
-
-// The words of a cell that a walk compares and follows.
-pub struct Cell {
-    pub ident: u16,
-    pub forward: usize,
-    pub back: usize,
-}
+ghost use Rattle.layout.specs.Words.{mostLists};
+ghost use Rattle.spans.specs.Spans.{noTally, withFree, withOther, FewIn, wholeSpan, narrowed, Closed, Single, Decides};
 
 // So many cells between the cells `start` and `end`, of which start leads to the first, and end back to the last.
 pub struct Span {
@@ -86,50 +71,6 @@ impl Tally {
             used,
             unwiped: self.unwiped,
         }
-    }
-}
-
-impl Grid {
-    pub fn of(l: Layout) -> Self
-        requires { ⌜ InRange l ⌝ }
-        ensures { λ r. ⌜ Gridded l r ⌝ }
-    {
-        let step = l.node_words();
-        let from = l.first_node() as usize;
-        Self {
-            first: l.nodes_at(),
-            step,
-            low: step * from,
-            from,
-            to: l.cell_count() as usize,
-        }
-    }
-
-    // Is cell y a node?
-    pub fn is_node(self, l: Layout, y: usize) -> bool
-        requires { ⌜ Gridded l self ⌝ }
-        ensures { λ r. ⌜ r ≡ isNode l y ⌝ }
-    {
-        if y < self.from {
-            return false;
-        }
-        y < self.to
-    }
-
-    // The first word of node y.
-    pub fn place(self, l: Layout, y: usize) -> usize
-        requires { ⌜ Gridded l self × InRange l × Node l y ⌝ }
-        ensures { λ r. ⌜ r ≡ cellAt l y ⌝ }
-    {
-        self.step * y + self.first - self.low
-    }
-
-    // The words of a node behind its links.
-    pub fn tail(self, l: Layout) -> u16
-        requires { ⌜ Gridded l self × InRange l ⌝ }
-        ensures { λ r. ⌜ r ≡ tailWords l ⌝ }
-    {
-        (self.step - Layout::LINK_WORDS) as u16
     }
 }
 

@@ -3,20 +3,16 @@ use Prim.Native.Nat.{ℕ, suc, zero, _+_, _-_, _≤_, _<_}
 use mathlib.Core.Path.{_≡_, refl, ap, ap₂, _∙_, sym, subst}
 use mathlib.Core.List.{List, [], _∷_, _++_, append-nil, List·Memᴰ, List·Memᴰ·head, List·Memᴰ·tail}
 use mathlib.Core.Logic.{_⊎_, inl, inr, ⊎-elim}
-use mathlib.Core.Bool.{Bool, true, false, cond}
 use native.Mathlib.Decide.{ℕ-discrete, decLt}
 use native.Mathlib.Omega.{arith}
 use native.Mathlib.Numerals.{add-one}
 use native.Mathlib.Nat.{add-zero}
-use lib.Dec.{ltb}
 use lib.ListN.{length, getD, set, take, drop, length-set, length-append, take-append-drop}
 use lib.Seq.{take-suc, take-all, take-take, take-suc-set, length-take-le, set-out, getD-set-same, getD-set-other}
-use borrow.Author.Tests.{lt-ltb, le-ltb, ltb-true, ltb-false}
 use Rattle.sequences.specs.Sequence.{All}
 use Rattle.sequences.proofs.Members.{all-in, all-append, all-nth}
-use Rattle.stores.specs.declared.Answer.the-variants as A
 use Rattle.stores.specs.declared.Rows.{Rows}
-use Rattle.stores.specs.Stores.{Write, write, store, run, applied, Spares, Plan, refuse, stores, answerOf, answerNumber, answerStores, planNumber, madeBy, writesOf, inRow, mostRows, noRows, Planned, Listed, Held}
+use Rattle.stores.specs.Stores.{Write, write, store, run, applied, Spares, stores, writesOf, inRow, mostRows, noRows, Planned, Listed, Held}
 
 -- stores in a row one after the other
 pub run-append : (ps qs : List Write) (w : List ℕ) → run (ps ++ qs) w ≡ run qs (run ps w)
@@ -51,23 +47,6 @@ applied-through ps m n w h =
     ap (λ (qs : List Write). run qs w) (sym (take-append-drop m (take n ps)))
     ∙ run-append (take m (take n ps)) (drop m (take n ps)) w
     ∙ ap (λ (qs : List Write). run (drop m (take n ps)) (run qs w)) (take-take m n ps h)
-
--- done exactly if the allowance suffices
-pub answer-stopped : (ps : List Write) (m : ℕ) → m < length ps → A.Stopped m ≡ answerOf (stores ps) m
-answer-stopped ps m h = rw (lt-ltb m (length ps) h)
-
-pub answer-done : (ps : List Write) (m : ℕ) → length ps ≤ m → A.Done (length ps) ≡ answerOf (stores ps) m
-answer-done ps m h = rw (le-ltb m (length ps) h)
-
--- the number of the plan's refusal, and as many stores as the allowance lets through
-pub answer-told : (p : Plan) (m : ℕ) → (answerNumber (answerOf p m) ≡ planNumber p) × (answerStores (answerOf p m) ≡ length (madeBy p m))
-answer-told (refuse n) m = (refl, refl)
-answer-told (stores ps) m = by (ltb m (length ps)) refl
-  where
-    by : (b : Bool) → ltb m (length ps) ≡ b
-        → (answerNumber (cond b (A.Stopped m) (A.Done (length ps))) ≡ 0) × (answerStores (cond b (A.Stopped m) (A.Done (length ps))) ≡ length (take m ps))
-    by true e = (refl, sym (length-take-le m ps (omega (arith, ltb-true m (length ps) e))))
-    by false e = (refl, ap length (sym (take-all m ps (ltb-false m (length ps) e))))
 
 -- the stores of two rows, one by one
 pub length-writes : (at vs : List ℕ) → length at ≡ length vs → length (writesOf at vs) ≡ length at

@@ -2,16 +2,10 @@
 use Prim.Native.Nat.{ℕ, _+_, _*_, _≤_, _<_}
 use mathlib.Core.Path.{_≡_}
 use mathlib.Core.List.{List, [], _∷_}
-use mathlib.Core.Bool.{cond}
-use lib.Dec.{ltb}
 use lib.ListN.{length, getD, set, take, replicate}
 use Rattle.sequences.specs.Sequence.{All}
 use Rattle.layout.specs.Words.{mostLists}
-use Rattle.stores.specs.declared.Answer.{Answer}
 use Rattle.stores.specs.declared.Rows.{Rows}
-use Rattle.stores.specs.declared.Answer.the-variants as A
-use Rattle.stores.specs.declared.Needed.{Needed}
-use Rattle.stores.specs.declared.Needed.the-variants as N
 
 -- a word store: word `at` becomes `value`
 pub record Write : Type 0 where
@@ -42,33 +36,10 @@ pub data Plan : Type 0 where
   refuse : ℕ → Plan
   stores : List Write → Plan
 
--- "The answer is done with the number of stores, or stopped with the number. Stopped is given if the allowance is below the
--- whole number needed, and only then."
-abbrev pub answerOf : Plan → ℕ → Answer
-answerOf (refuse n) m = A.Refused n
-answerOf (stores ps) m = cond (ltb m (length ps)) (A.Stopped m) (A.Done (length ps))
-
 -- "A refusal is its number, no store made."
 abbrev pub wordsAfter : Plan → ℕ → List ℕ → List ℕ
 wordsAfter (refuse n) m w = w
 wordsAfter (stores ps) m w = applied ps m w
-
--- the number of an answer, 0 for none, and its number of stores, by its cases
-abbrev pub answerNumber : Answer → ℕ
-answerNumber (A.Done n) = 0
-answerNumber (A.Stopped n) = 0
-answerNumber (A.Refused n) = n
-
-abbrev pub answerStores : Answer → ℕ
-answerStores (A.Done n) = n
-answerStores (A.Stopped n) = n
-answerStores (A.Refused n) = 0
-
--- the answer to a call that made n stores before those answered here
-abbrev pub more : ℕ → Answer → Answer
-more n (A.Done k) = A.Done (n + k)
-more n (A.Stopped k) = A.Stopped (n + k)
-more n (A.Refused k) = A.Refused k
 
 -- the number of a plan's refusal, 0 for none, and its stores that an allowance lets through
 abbrev pub planNumber : Plan → ℕ
@@ -78,20 +49,6 @@ planNumber (stores ps) = 0
 abbrev pub madeBy : Plan → ℕ → List Write
 madeBy (refuse n) m = []
 madeBy (stores ps) m = take m ps
-
--- "the number of stores it will make": all stores of a plan, told before the first of them; "where it would refuse, its number is given"
-abbrev pub neededOf : Plan → Needed
-neededOf (refuse n) = N.Refused n
-neededOf (stores ps) = N.Stores (length ps)
-
--- the number of what is told, 0 for none, and its number of stores, 0 if refused, by its cases
-abbrev pub neededNumber : Needed → ℕ
-neededNumber (N.Stores n) = 0
-neededNumber (N.Refused n) = n
-
-abbrev pub neededStores : Needed → ℕ
-neededStores (N.Stores n) = n
-neededStores (N.Refused n) = 0
 
 -- the stores whose addresses and values stand in two rows
 unfoldable pub writesOf : List ℕ → List ℕ → List Write

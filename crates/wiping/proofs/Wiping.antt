@@ -7,10 +7,11 @@ use mathlib.Core.Bool.{Bool, true, false}
 use native.Mathlib.Omega.{arith}
 use lib.ListN.{length, getD}
 use borrow.Author.Tests.{lt-ltb, eq-eqb, ne-eqb}
-use Rattle.stores.specs.declared.Answer.the-variants as A
-use Rattle.stores.specs.Stores.{Write, Plan, refuse, stores, run, answerOf, wordsAfter}
-use Rattle.stores.proofs.Laws.{applied-all, answer-done}
-use Rattle.stores.proofs.Segments.{done-whole}
+use Rattle.calls.specs.declared.Answer.the-variants as A
+use Rattle.calls.specs.Answers.{answerOf}
+use Rattle.stores.specs.Stores.{Write, Plan, refuse, stores, run, wordsAfter}
+use Rattle.calls.proofs.Answers.{answer-done, done-whole}
+use Rattle.stores.proofs.Laws.{applied-all}
 use Rattle.byte_form.specs.Bytes.{wordsIn, bytesAfter}
 use Rattle.layout.specs.declared.Layout.{Layout}
 use Rattle.layout.specs.Words.{tailWords, layoutOf}
@@ -29,14 +30,14 @@ use Rattle.requests.proofs.Laws.{look-at}
 use Rattle.edits.specs.Edits.{deleteLinks, deleteWrites, markStores}
 use Rattle.edits.proofs.Done.{looked, MarkFacts, mark-facts}
 use Rattle.recovery.specs.Plan.{recoverPlan}
-use Rattle.axle_store.specs.declared.Checked.the-variants as C
-use Rattle.axle_store.specs.Calls.{checkAnswer, deletePlan, markPlan}
-use Rattle.axle_store.proofs.Cases.{delete-at, mark-refused}
-use Rattle.axle_store.proofs.Calls.{sound-opened, sound-decided, sound-check, check-sound, unsound-check}
+use Rattle.calls.specs.declared.Checked.the-variants as C
+use Rattle.calls.specs.Calls.{checkAnswer, deletePlan, markPlan}
+use Rattle.calls.proofs.Cases.{delete-at, mark-refused}
+use Rattle.calls.proofs.Calls.{sound-opened, sound-decided, sound-check, check-sound, unsound-check}
 use Rattle.demands.proofs.Demand2.{free-blank, demand2}
 use Rattle.courses.specs.Course.{Edit, insert, several, delete, editPlan, needed}
 use Rattle.courses.proofs.Single.{recover-few, recover-sound}
-use Rattle.axle.specs.Interface.{byteDelete, byteRecover}
+use Rattle.byte_calls.specs.Plans.{byteDelete, byteRecover}
 use Rattle.byte_courses.proofs.ByteCourse.{recover-plan, recover-words, edit-words}
 use Rattle.worn.specs.Worn.{Call, edit, mark, recover, wordsBy}
 use Rattle.worn.proofs.Worn.{worn}

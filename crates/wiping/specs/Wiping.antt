@@ -12,18 +12,19 @@ use mathlib.Core.List.{List, [], _∷_, _++_}
 use mathlib.Core.Logic.{_↔_}
 use lib.ListN.{length, getD}
 use Rattle.sequences.specs.Sequence.{_∈_, All}
-use Rattle.stores.specs.declared.Answer.the-variants as A
-use Rattle.stores.specs.Stores.{Write, write, stores, run, answerOf, wordsAfter}
+use Rattle.calls.specs.declared.Answer.the-variants as A
+use Rattle.calls.specs.Answers.{answerOf}
+use Rattle.stores.specs.Stores.{Write, write, stores, run, wordsAfter}
 use Rattle.byte_form.specs.Bytes.{wordsIn, bytesAfter}
 use Rattle.layout.specs.declared.Layout.{Layout}
 use Rattle.layout.specs.Words.{tailWords, Node, identAt, recordAt, wornIdent, layoutOf}
 use Rattle.lists.specs.Lists.{Ordered, Sound, Blank, blankAsked, Wiped, SameCells, KeepsWorn}
 use Rattle.recovery.specs.Plan.{joined, mostStores, recoverPlan}
-use Rattle.axle_store.specs.declared.Checked.the-variants as C
-use Rattle.axle_store.specs.Calls.{checkAnswer, deletePlan}
+use Rattle.calls.specs.declared.Checked.the-variants as C
+use Rattle.calls.specs.Calls.{checkAnswer, deletePlan}
 use Rattle.demands.specs.Demand2.{FreeNode}
 use Rattle.courses.specs.Course.{needed, editPlan}
-use Rattle.axle.specs.Interface.{byteDelete, byteRecover}
+use Rattle.byte_calls.specs.Plans.{byteDelete, byteRecover}
 use Rattle.worn.specs.Worn.{Call, edit, mark, recover, wordsBy}
 
 -- a wipe, where the lists of the words w have the sequences s: "writes 0 to the nonzero record words of every such node"

@@ -1,23 +1,27 @@
+// Made from crates/byte_clears/src/lib.rt by tools/twins.
 // Nodes in no list, found and cleared in the lent words: the identifiers are read into a column, the members erased there, and those left that
 // say in use cleared.
+use calls::Answer;
+use layout::Grid;
 use layout::Layout;
-use spans::Grid;
-use stores::Answer;
 ghost use mathlib.Core.Path.{_≡_};
 ghost use Prim.Native.Nat.{ℕ, _+_, _<_};
+ghost use mathlib.Core.List.{[], _∷_};
 ghost use mathlib.Core.Bool.{false};
 ghost use lib.ListN.{length, getD};
-ghost use Rattle.stores.specs.Stores.{write, store, stores, answerOf, applied};
+ghost use Rattle.calls.specs.Answers.{answerOf};
+ghost use Rattle.stores.specs.Stores.{write, run, stores};
+ghost use Rattle.word_form.specs.Words.{wordsIn, wordWrites, appliedWords};
 ghost use Rattle.layout.specs.Words.{mostCells, Laid, Node, identAt};
 ghost use Rattle.lists.specs.Decide.{viewOf};
-ghost use Rattle.spans.specs.Spans.{Gridded};
+ghost use Rattle.layout.specs.Cells.{Gridded};
 ghost use Rattle.fitting.specs.Fitting.{membersBy};
 ghost use Rattle.mending.specs.Mending.{erased, erasedAlong, erasedFrom, clears};
 
 // Reads the identifier of each node into the column.
 pub fn read_nodes(idents: &mut [u16; Layout::MAX_CELLS], words: &[u16], l: Layout, g: Grid)
-    requires { ⌜ Gridded l g × Laid l (now words) × (mostCells ≡ length (now idents)) ⌝ }
-    ensures nodes { λ _. ⌜ ((c : ℕ) → Node l c → getD (now (idents .exit)) c 0 ≡ viewOf l (now (words .entry)) .ident c) ⌝ }
+    requires { ⌜ Gridded l g × Laid l (wordsIn (now words)) × (mostCells ≡ length (now idents)) ⌝ }
+    ensures nodes { λ _. ⌜ ((c : ℕ) → Node l c → getD (now (idents .exit)) c 0 ≡ viewOf l (wordsIn (now (words .entry))) .ident c) ⌝ }
     ensures room { λ _. ⌜ mostCells ≡ length (now (idents .exit)) ⌝ }
 {
     let mut c = g.from;
@@ -38,8 +42,8 @@ fn erase(
     first: usize,
     n: u16,
 )
-    requires { ⌜ Gridded l g × Laid l (now words) ⌝ }
-    ensures { λ _. ⌜ now (idents .exit) ≡ erasedAlong l (viewOf l (now (words .entry))) back n first (now (idents .entry)) ⌝ }
+    requires { ⌜ Gridded l g × Laid l (wordsIn (now words)) ⌝ }
+    ensures { λ _. ⌜ now (idents .exit) ≡ erasedAlong l (viewOf l (wordsIn (now (words .entry)))) back n first (now (idents .entry)) ⌝ }
 {
     let mut y = first;
     let mut more = n;
@@ -64,8 +68,8 @@ fn erase_two(
     j: u16,
     other: bool,
 )
-    requires { ⌜ Gridded l g × Laid l (now words) × (k < l .lists) × (j < l .lists) ⌝ }
-    ensures { λ _. ⌜ now (idents .exit) ≡ erased (membersBy l (viewOf l (now (words .entry))) other j) (erased (membersBy l (viewOf l (now (words .entry))) back k) (now (idents .entry))) ⌝ }
+    requires { ⌜ Gridded l g × Laid l (wordsIn (now words)) × (k < l .lists) × (j < l .lists) ⌝ }
+    ensures { λ _. ⌜ now (idents .exit) ≡ erased (membersBy l (viewOf l (wordsIn (now (words .entry)))) other j) (erased (membersBy l (viewOf l (wordsIn (now (words .entry)))) back k) (now (idents .entry))) ⌝ }
 {
     let mut y = mending::onward(word_walks::header(words, l, k), back);
     let mut z = mending::onward(word_walks::header(words, l, j), other);
@@ -95,8 +99,8 @@ pub fn erase_all(
     g: Grid,
     back: [bool; Layout::MAX_LISTS],
 )
-    requires { ⌜ Gridded l g × Laid l (now words) ⌝ }
-    ensures { λ _. ⌜ now (idents .exit) ≡ erasedFrom l (viewOf l (now (words .entry))) (λ k. getD back k false) 0 (l .lists) (now (idents .entry)) ⌝ }
+    requires { ⌜ Gridded l g × Laid l (wordsIn (now words)) ⌝ }
+    ensures { λ _. ⌜ now (idents .exit) ≡ erasedFrom l (viewOf l (wordsIn (now (words .entry)))) (λ k. getD back k false) 0 (l .lists) (now (idents .entry)) ⌝ }
 {
     let mut k: u16 = 0;
     while k + 1 < l.lists {
@@ -128,10 +132,10 @@ pub fn erase_all(
 
 // Clears node i: stores 0 to its identifier, and nothing else.
 fn step(words: &mut [u16], l: Layout, i: u16)
-    requires { ⌜ Laid l (now words) × Node l i ⌝ }
-    ensures { λ _. ⌜ now (words .exit) ≡ store (now (words .entry)) (write (identAt l i) 0) ⌝ }
+    requires { ⌜ Laid l (wordsIn (now words)) × Node l i ⌝ }
+    ensures { λ _. ⌜ now (words .exit) ≡ run (wordWrites (write (identAt l i) 0 ∷ [])) (now (words .entry)) ⌝ }
 {
-    words[l.node(i)] = Layout::FREE;
+    word_form::put(words, l.node(i), Layout::FREE);
 }
 
 // Clears each node whose entry says in use, lowest cell first, up to the allowance.
@@ -141,9 +145,9 @@ pub fn clear(
     l: Layout,
     allowance: u16,
 ) -> Answer
-    requires { ⌜ Laid l (now words) ⌝ }
+    requires { ⌜ Laid l (wordsIn (now words)) ⌝ }
     ensures answer { λ r. ⌜ r ≡ answerOf (stores (clears l (now (idents .entry)))) allowance ⌝ }
-    ensures words { λ _. ⌜ now (words .exit) ≡ applied (clears l (now (idents .entry))) allowance (now (words .entry)) ⌝ }
+    ensures words { λ _. ⌜ now (words .exit) ≡ appliedWords (clears l (now (idents .entry))) allowance (now (words .entry)) ⌝ }
 {
     let mut n: u16 = 0;
     let mut i = l.first_node();

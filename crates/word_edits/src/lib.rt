@@ -1,12 +1,15 @@
+// Made from crates/byte_edits/src/lib.rt by tools/twins.
 // The stores of insert and delete, made in the lent words: a record and its links, records one behind the other, and
 // the links of a member and zeros over its record.
+use calls::Answer;
 use layout::Layout;
 use requests::Site;
-use stores::Answer;
 ghost use mathlib.Core.Path.{_≡_};
 ghost use Prim.Native.Nat.{_*_, _/_, _<_};
 ghost use lib.ListN.{length};
-ghost use Rattle.stores.specs.Stores.{stores, applied, answerOf};
+ghost use Rattle.calls.specs.Answers.{answerOf};
+ghost use Rattle.stores.specs.Stores.{stores};
+ghost use Rattle.word_form.specs.Words.{wordsIn, appliedWords};
 ghost use Rattle.layout.specs.Words.{tailWords, sizeOf};
 ghost use Rattle.lists.specs.Lists.{KeepsWorn};
 ghost use Rattle.edits.specs.Edits.{insertWrites, chainFrom, deleteWrites, Placed, Room};
@@ -20,18 +23,18 @@ pub fn insert_at(
     rec: &[u16],
     allowance: u16,
 ) -> Answer
-    requires { ⌜ Placed l list t × (length (now rec) ≡ tailWords l) × (length (now words) ≡ sizeOf l) ⌝ }
-    ensures answer { λ r. ⌜ r ≡ answerOf (stores (insertWrites l list t (now (rec .entry)))) allowance ⌝ }
-    ensures words { λ _. ⌜ now (words .exit) ≡ applied (insertWrites l list t (now (rec .entry))) allowance (now (words .entry)) ⌝ }
+    requires { ⌜ Placed l list t × (length (wordsIn (now rec)) ≡ tailWords l) × (length (wordsIn (now words)) ≡ sizeOf l) ⌝ }
+    ensures answer { λ r. ⌜ r ≡ answerOf (stores (insertWrites l list t (wordsIn (now (rec .entry))))) allowance ⌝ }
+    ensures words { λ _. ⌜ now (words .exit) ≡ appliedWords (insertWrites l list t (wordsIn (now (rec .entry)))) allowance (now (words .entry)) ⌝ }
 {
     let first = l.node(t.cell) + Layout::LINK_WORDS;
-    let Answer::Done(n) = stores::put_row(words, first, rec, allowance) else {
+    let Answer::Done(n) = word_runs::put_row(words, first, rec, allowance) else {
         return Answer::Stopped(allowance);
     };
     let links = edits::insert_links(l, list, t);
     let at = links.at;
     let values = links.values;
-    let Answer::Done(m) = stores::run(words, &at, &values, allowance - n) else {
+    let Answer::Done(m) = word_runs::run(words, &at, &values, allowance - n) else {
         return Answer::Stopped(allowance);
     };
     Answer::Done(n + m)
@@ -47,22 +50,24 @@ pub fn insert_all(
     records: &[u16],
     allowance: u16,
 ) -> Answer
-    requires { ⌜ Room l (now words) list first (length (now records) / l .width) × (0 < length (now records)) × (length (now records) ≡ length (now records) / l .width * l .width) ⌝ }
-    ensures answer { λ r. ⌜ r ≡ answerOf (stores (chainFrom l (now (words .entry)) list first (length (now (records .entry)) / l .width) (now (records .entry)))) allowance ⌝ }
-    ensures words { λ _. ⌜ now (words .exit) ≡ applied (chainFrom l (now (words .entry)) list first (length (now (records .entry)) / l .width) (now (records .entry))) allowance (now (words .entry)) ⌝ }
-    ensures worn { λ _. ⌜ KeepsWorn l (now (words .entry)) (now (words .exit)) ⌝ }
+    requires { ⌜ Room l (wordsIn (now words)) list first (length (wordsIn (now records)) / l .width) × (0 < length (wordsIn (now records))) × (length (wordsIn (now records)) ≡ length (wordsIn (now records)) / l .width * l .width) ⌝ }
+    ensures answer { λ r. ⌜ r ≡ answerOf (stores (chainFrom l (wordsIn (now (words .entry))) list first (length (wordsIn (now (records .entry))) / l .width) (wordsIn (now (records .entry))))) allowance ⌝ }
+    ensures words { λ _. ⌜ now (words .exit) ≡ appliedWords (chainFrom l (wordsIn (now (words .entry))) list first (length (wordsIn (now (records .entry))) / l .width) (wordsIn (now (records .entry)))) allowance (now (words .entry)) ⌝ }
+    ensures worn { λ _. ⌜ KeepsWorn l (wordsIn (now (words .entry))) (wordsIn (now (words .exit))) ⌝ }
 {
     let width = l.width as usize;
+    let whole = word_form::size(records);
     let mut t = first;
     let mut at: usize = 0;
     let mut made: u16 = 0;
     loop {
         let e = at + width;
-        let Answer::Done(n) = insert_at(words, l, list, t, &records[at..e], allowance - made) else {
+        let rec = word_form::part(records, at, width);
+        let Answer::Done(n) = insert_at(words, l, list, t, rec, allowance - made) else {
             return Answer::Stopped(allowance);
         };
         made += n;
-        if e == records.len() {
+        if e == whole {
             return Answer::Done(made);
         }
         at = e;
@@ -72,20 +77,20 @@ pub fn insert_all(
 
 // Makes the stores of a delete, the links and then zeros over the record, up to the allowance.
 pub fn delete_at(words: &mut [u16], l: Layout, list: u16, t: Site, allowance: u16) -> Answer
-    requires { ⌜ Placed l list t × (length (now words) ≡ sizeOf l) ⌝ }
+    requires { ⌜ Placed l list t × (length (wordsIn (now words)) ≡ sizeOf l) ⌝ }
     ensures answer { λ r. ⌜ r ≡ answerOf (stores (deleteWrites l list t)) allowance ⌝ }
-    ensures words { λ _. ⌜ now (words .exit) ≡ applied (deleteWrites l list t) allowance (now (words .entry)) ⌝ }
+    ensures words { λ _. ⌜ now (words .exit) ≡ appliedWords (deleteWrites l list t) allowance (now (words .entry)) ⌝ }
 {
     let links = edits::delete_links(l, list, t);
     let at = links.at;
     let values = links.values;
-    let Answer::Done(n) = stores::run(words, &at, &values, allowance) else {
+    let Answer::Done(n) = word_runs::run(words, &at, &values, allowance) else {
         return Answer::Stopped(allowance);
     };
     let row = l.node(t.cell) + Layout::LINK_WORDS;
-    let size = l.node_words() - Layout::LINK_WORDS;
-    let zeros = [0; Layout::MAX_WIDTH];
-    let Answer::Done(m) = stores::put_row(words, row, &zeros[..size], allowance - n) else {
+    let size = word_form::WORD * (l.node_words() - Layout::LINK_WORDS);
+    let zeros = [0; word_form::WORD * Layout::MAX_WIDTH];
+    let Answer::Done(m) = word_runs::put_row(words, row, &zeros[..size], allowance - n) else {
         return Answer::Stopped(allowance);
     };
     Answer::Done(n + m)

@@ -1,7 +1,7 @@
 // Read on lent words, under a name that C and Rust link: for the tests and the benchmarks, since read is not exported. The archive
 // libaxle.a has it not.
 ghost use mathlib.Core.Path.{_≡_};
-ghost use Rattle.axle_store.specs.Calls.{readWords};
+ghost use Rattle.calls.specs.Calls.{readWords};
 ghost use Rattle.word_exports.specs.Codes.{partCode};
 
 // 65,536 and the record's first word, or 0 for an empty part.

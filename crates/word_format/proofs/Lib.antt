@@ -1,1 +1,2 @@
-pub mod Formatting
+-- Made from crates/byte_format/proofs/Lib.antt by tools/twins.
+pub mod Laws

@@ -1,22 +1,25 @@
-// Recovery of a store in words, decided in the lent words: each list is walked there, and the mends are kept in short rows. Only if a
-// node in no list may be in use by its identifier, the identifiers are read into a column and the members erased there. The wipes need no
+// Made from crates/byte_mending/src/lib.rt by tools/twins.
+// Recovery of a store, decided in the lent words: each list is walked there, and the mends are kept in short rows. Only if
+// a node in no list may be in use by its identifier, the identifiers are read into a column and the members erased there. The wipes need no
 // column: once the mends and the clears are made, the nodes to be wiped are the free ones. What is found also tells,
 // without a store, how many there will be.
+use calls::Answer;
+use calls::Needed;
+use layout::Grid;
 use layout::Layout;
 use mending::Found;
 use mending::Mends;
-use spans::Grid;
-use stores::Answer;
-use stores::Needed;
 use stores::Rows;
 ghost use mathlib.Core.Path.{_≡_};
 ghost use Prim.Native.Nat.{_+_};
 ghost use mathlib.Core.List.{_++_};
 ghost use lib.ListN.{length};
-ghost use Rattle.stores.specs.Stores.{run, stores, answerOf, applied, wordsAfter, neededOf, writesIn, Held};
+ghost use Rattle.calls.specs.Answers.{answerOf, neededOf};
+ghost use Rattle.stores.specs.Stores.{run, stores, writesIn, Held};
+ghost use Rattle.word_form.specs.Words.{wordsIn, appliedWords, wordsAfter};
 ghost use Rattle.layout.specs.Words.{mostCells, Laid, sizeOf};
 ghost use Rattle.lists.specs.Decide.{viewOf, countIn};
-ghost use Rattle.spans.specs.Spans.{Gridded};
+ghost use Rattle.layout.specs.Cells.{Gridded};
 ghost use Rattle.recovery.specs.Plan.{recoverOf};
 ghost use Rattle.mending.specs.Mending.{clears, wipes, MendsOf, FoundIn};
 
@@ -28,11 +31,11 @@ fn make(
     l: Layout,
     allowance: u16,
 ) -> Answer
-    requires { ⌜ Laid l (now words) × Held (sizeOf l) mends (writesIn mends) ⌝ }
+    requires { ⌜ Laid l (wordsIn (now words)) × Held (sizeOf l) mends (writesIn mends) ⌝ }
     ensures answer { λ r. ⌜ r ≡ answerOf (stores (writesIn mends ++ clears l (now (idents .entry)))) allowance ⌝ }
-    ensures words { λ _. ⌜ now (words .exit) ≡ applied (writesIn mends ++ clears l (now (idents .entry))) allowance (now (words .entry)) ⌝ }
+    ensures words { λ _. ⌜ now (words .exit) ≡ appliedWords (writesIn mends ++ clears l (now (idents .entry))) allowance (now (words .entry)) ⌝ }
 {
-    let Answer::Done(n) = stores::run_rows(words, mends, allowance) else {
+    let Answer::Done(n) = word_runs::run_rows(words, mends, allowance) else {
         return Answer::Stopped(allowance);
     };
     let Answer::Done(m) = word_clears::clear(words, idents, l, allowance - n) else {
@@ -50,9 +53,9 @@ fn recover_left(
     idents: &mut [u16; Layout::MAX_CELLS],
     allowance: u16,
 ) -> Answer
-    requires { ⌜ Gridded l g × Laid l (now words) × MendsOf l (viewOf l (now words)) (countIn l (now words)) m × (m .refusal ≡ 0) × (mostCells ≡ length (now idents)) ⌝ }
-    ensures answer { λ r. ⌜ r ≡ answerOf (recoverOf l (now (words .entry))) allowance ⌝ }
-    ensures words { λ _. ⌜ now (words .exit) ≡ wordsAfter (recoverOf l (now (words .entry))) allowance (now (words .entry)) ⌝ }
+    requires { ⌜ Gridded l g × Laid l (wordsIn (now words)) × MendsOf l (viewOf l (wordsIn (now words))) (countIn l (wordsIn (now words))) m × (m .refusal ≡ 0) × (mostCells ≡ length (now idents)) ⌝ }
+    ensures answer { λ r. ⌜ r ≡ answerOf (recoverOf l (wordsIn (now (words .entry)))) allowance ⌝ }
+    ensures words { λ _. ⌜ now (words .exit) ≡ wordsAfter (recoverOf l (wordsIn (now (words .entry)))) allowance (now (words .entry)) ⌝ }
 {
     let back = m.back;
     let mends = m.rows;
@@ -64,19 +67,19 @@ fn recover_left(
 
 // Recovers a store where none is: the mends, and then the wipes.
 fn recover_none_left(words: &mut [u16], l: Layout, g: Grid, mends: Rows, allowance: u16) -> Answer
-    requires { ⌜ Gridded l g × Laid l (now words) × Held (sizeOf l) mends (writesIn mends) ⌝ }
-    ensures answer { λ r. ⌜ r ≡ answerOf (stores (writesIn mends ++ wipes l (run (writesIn mends) (now (words .entry))))) allowance ⌝ }
-    ensures words { λ _. ⌜ now (words .exit) ≡ applied (writesIn mends ++ wipes l (run (writesIn mends) (now (words .entry)))) allowance (now (words .entry)) ⌝ }
+    requires { ⌜ Gridded l g × Laid l (wordsIn (now words)) × Held (sizeOf l) mends (writesIn mends) ⌝ }
+    ensures answer { λ r. ⌜ r ≡ answerOf (stores (writesIn mends ++ wipes l (run (writesIn mends) (wordsIn (now (words .entry)))))) allowance ⌝ }
+    ensures words { λ _. ⌜ now (words .exit) ≡ appliedWords (writesIn mends ++ wipes l (run (writesIn mends) (wordsIn (now (words .entry))))) allowance (now (words .entry)) ⌝ }
 {
-    let made = stores::run_rows(words, mends, allowance);
+    let made = word_runs::run_rows(words, mends, allowance);
     word_wipes::go_on(words, l, g, made, allowance)
 }
 
 // What is found of the store. The nodes are tallied first: that fetches the words in order. The grid is made here, and the words are handed on as a
 // part, which is the whole: what the caller has just written to memory is then not copied at once, for which the processor would wait.
 fn decide(words: &[u16], l: Layout) -> Found
-    requires { ⌜ Laid l (now words) ⌝ }
-    ensures { λ r. ⌜ FoundIn l (now (words .entry)) r ⌝ }
+    requires { ⌜ Laid l (wordsIn (now words)) ⌝ }
+    ensures { λ r. ⌜ FoundIn l (wordsIn (now (words .entry))) r ⌝ }
 {
     let g = Grid::of(l);
     let part = &words[0..];
@@ -91,9 +94,9 @@ fn decide(words: &[u16], l: Layout) -> Found
 
 // Recovers a store of this layout.
 pub fn recover_in(words: &mut [u16], l: Layout, allowance: u16) -> Answer
-    requires { ⌜ Laid l (now words) ⌝ }
-    ensures answer { λ r. ⌜ r ≡ answerOf (recoverOf l (now (words .entry))) allowance ⌝ }
-    ensures words { λ _. ⌜ now (words .exit) ≡ wordsAfter (recoverOf l (now (words .entry))) allowance (now (words .entry)) ⌝ }
+    requires { ⌜ Laid l (wordsIn (now words)) ⌝ }
+    ensures answer { λ r. ⌜ r ≡ answerOf (recoverOf l (wordsIn (now (words .entry)))) allowance ⌝ }
+    ensures words { λ _. ⌜ now (words .exit) ≡ wordsAfter (recoverOf l (wordsIn (now (words .entry)))) allowance (now (words .entry)) ⌝ }
 {
     let found = decide(words, l);
     let m = found.mends;
@@ -108,7 +111,7 @@ pub fn recover_in(words: &mut [u16], l: Layout, allowance: u16) -> Answer
     if found.unwiped {
         return recover_none_left(words, l, Grid::of(l), mends, allowance);
     }
-    stores::run_rows(words, mends, allowance)
+    word_runs::run_rows(words, mends, allowance)
 }
 
 // How many stores recovery will make of a store where a node in no list may be in use by its identifier.
@@ -119,8 +122,8 @@ fn stores_left(
     m: Mends,
     idents: &mut [u16; Layout::MAX_CELLS],
 ) -> Needed
-    requires { ⌜ Gridded l g × Laid l (now words) × MendsOf l (viewOf l (now words)) (countIn l (now words)) m × (m .refusal ≡ 0) × (mostCells ≡ length (now idents)) ⌝ }
-    ensures { λ r. ⌜ r ≡ neededOf (recoverOf l (now (words .entry))) ⌝ }
+    requires { ⌜ Gridded l g × Laid l (wordsIn (now words)) × MendsOf l (viewOf l (wordsIn (now words))) (countIn l (wordsIn (now words))) m × (m .refusal ≡ 0) × (mostCells ≡ length (now idents)) ⌝ }
+    ensures { λ r. ⌜ r ≡ neededOf (recoverOf l (wordsIn (now (words .entry)))) ⌝ }
 {
     let back = m.back;
     let rows = m.rows;
@@ -131,8 +134,8 @@ fn stores_left(
 
 // How many stores recovery of a store of this layout will make.
 pub fn stores_in(words: &[u16], l: Layout) -> Needed
-    requires { ⌜ Laid l (now words) ⌝ }
-    ensures { λ r. ⌜ r ≡ neededOf (recoverOf l (now (words .entry))) ⌝ }
+    requires { ⌜ Laid l (wordsIn (now words)) ⌝ }
+    ensures { λ r. ⌜ r ≡ neededOf (recoverOf l (wordsIn (now (words .entry)))) ⌝ }
 {
     let found = decide(words, l);
     let lists = found.mends;

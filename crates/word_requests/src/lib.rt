@@ -1,5 +1,7 @@
+// Made from crates/byte_requests/src/lib.rt by tools/twins.
 // Questions 1 to 10 and 13, put to the lent words. A position is found by links, from the nearer end of its list; a free cell by a search of
 // the identifiers. Nothing is copied.
+use layout::Grid;
 use layout::Layout;
 use layout::Opened;
 use requests::Ends;
@@ -8,19 +10,53 @@ use requests::Looked;
 use requests::Request;
 use requests::Site;
 use requests::Sited;
-use spans::Grid;
 ghost use mathlib.Core.Path.{_≡_};
-ghost use Prim.Native.Nat.{_≤_};
-ghost use Rattle.layout.specs.Words.{Laid, Node, wornIdent};
+ghost use Prim.Native.Nat.{ℕ, _≤_};
+ghost use lib.ListN.{length};
+ghost use Rattle.word_form.specs.Words.{wordsIn};
+ghost use Rattle.layout.specs.Words.{headWords, Laid, Node, openedBy, wornIdent};
 ghost use Rattle.lists.specs.Decide.{viewOf, sequenceOf, HeldList};
-ghost use Rattle.spans.specs.Spans.{Gridded};
-ghost use Rattle.requests.specs.Requests.{around, nth, freeCells, memberAt, freeGap, gapAt, gapsAt, endsAt, markAt, siteOf, lookOf, foundUnworn, endsUnworn, sitedUnworn, lookedUnworn};
+ghost use Rattle.layout.specs.Cells.{Gridded};
+ghost use Rattle.requests.specs.Requests.{around, nth, freeCells, memberAt, freeGap, gapAt, gapsAt, endsAt, markAt, siteOf, foundUnworn, endsUnworn, sitedUnworn, lookedUnworn};
 ghost use Rattle.requests.specs.Sites.{gapSite, nextSite};
+ghost use Rattle.word_requests.specs.Looks.{openedIn, lookIn};
+
+// The first eight words.
+fn head(words: &[u16]) -> [u16; Layout::HEAD_WORDS]
+    requires { ⌜ headWords ≤ length (wordsIn (now words)) ⌝ }
+    ensures { λ r. ⌜ (headWords ≡ length r) × ((n : ℕ) → openedBy n r ≡ openedBy n (wordsIn (now (words .entry)))) ⌝ }
+{
+    [
+        word_form::word(words, 0),
+        word_form::word(words, 1),
+        word_form::word(words, 2),
+        word_form::word(words, Layout::VERSION_AT),
+        word_form::word(words, Layout::LISTS_AT),
+        word_form::word(words, Layout::NODES_AT),
+        word_form::word(words, Layout::WIDTH_AT),
+        word_form::word(words, Layout::SPARE_AT),
+    ]
+}
+
+// Are the words whole words? Then questions 1 to 4.
+pub fn open(words: &[u16]) -> Opened
+    ensures { λ r. ⌜ r ≡ openedIn (now (words .entry)) ⌝ }
+{
+    if !word_form::is_whole(words) {
+        return Opened::Refused(4);
+    }
+    let n = word_form::size(words);
+    if n < Layout::HEAD_WORDS {
+        return Opened::Refused(1);
+    }
+    let h = head(words);
+    layout::open_with(n, &h)
+}
 
 // The member of list k, which has n members, at position p.
 fn member(words: &[u16], l: Layout, g: Grid, k: u16, n: u16, p: u16) -> Sited
-    requires { ⌜ Gridded l g × Laid l (now words) × HeldList l (viewOf l (now words)) k n ⌝ }
-    ensures { λ r. ⌜ r ≡ memberAt k p (sequenceOf l (now (words .entry)) k) ⌝ }
+    requires { ⌜ Gridded l g × Laid l (wordsIn (now words)) × HeldList l (viewOf l (wordsIn (now words))) k n ⌝ }
+    ensures { λ r. ⌜ r ≡ memberAt k p (sequenceOf l (wordsIn (now (words .entry))) k) ⌝ }
 {
     if n <= p {
         return Sited::Refused(7);
@@ -38,9 +74,9 @@ fn member(words: &[u16], l: Layout, g: Grid, k: u16, n: u16, p: u16) -> Sited
 // The free node at place i, counted from 0, of those from the starting cell on, and on from the first node after the last. Worn nodes are
 // passed over.
 fn free_cell(words: &[u16], l: Layout, g: Grid, start: u16, i: usize) -> Free
-    requires { ⌜ Gridded l g × Laid l (now words) × Node l start ⌝ }
-    ensures found { λ r. ⌜ r ≡ nth (freeCells (viewOf l (now (words .entry)) .ident) (around l start (l .nodes))) i ⌝ }
-    ensures worn { λ r. ⌜ foundUnworn (viewOf l (now (words .entry)) .ident) r ⌝ }
+    requires { ⌜ Gridded l g × Laid l (wordsIn (now words)) × Node l start ⌝ }
+    ensures found { λ r. ⌜ r ≡ nth (freeCells (viewOf l (wordsIn (now (words .entry))) .ident) (around l start (l .nodes))) i ⌝ }
+    ensures worn { λ r. ⌜ foundUnworn (viewOf l (wordsIn (now (words .entry))) .ident) r ⌝ }
 {
     let mut c = start;
     let mut before = i;
@@ -61,8 +97,8 @@ fn free_cell(words: &[u16], l: Layout, g: Grid, start: u16, i: usize) -> Free
 
 // The gap of list k, which has n members, at position p, for a cell.
 fn gap_site(words: &[u16], l: Layout, g: Grid, k: u16, n: u16, p: u16, cell: u16) -> Site
-    requires { ⌜ Gridded l g × Laid l (now words) × HeldList l (viewOf l (now words)) k n × (p ≤ n) ⌝ }
-    ensures { λ r. ⌜ r ≡ gapSite k p cell (sequenceOf l (now (words .entry)) k) ⌝ }
+    requires { ⌜ Gridded l g × Laid l (wordsIn (now words)) × HeldList l (viewOf l (wordsIn (now words))) k n × (p ≤ n) ⌝ }
+    ensures { λ r. ⌜ r ≡ gapSite k p cell (sequenceOf l (wordsIn (now (words .entry))) k) ⌝ }
 {
     let before = word_seeks::seek(words, l, g, k, n, p);
     let b = word_walks::cell(words, l, g, before);
@@ -76,9 +112,9 @@ fn gap_site(words: &[u16], l: Layout, g: Grid, k: u16, n: u16, p: u16, cell: u16
 
 // Question 10: the gap of list k, which has n members, at position p, and a free cell.
 fn free_gap(words: &[u16], l: Layout, g: Grid, k: u16, n: u16, p: u16, start: u16) -> Sited
-    requires { ⌜ Gridded l g × Laid l (now words) × HeldList l (viewOf l (now words)) k n × (p ≤ n) × Node l start ⌝ }
-    ensures site { λ r. ⌜ r ≡ freeGap l (viewOf l (now (words .entry)) .ident) k p start (sequenceOf l (now (words .entry)) k) ⌝ }
-    ensures worn { λ r. ⌜ sitedUnworn (viewOf l (now (words .entry)) .ident) r ⌝ }
+    requires { ⌜ Gridded l g × Laid l (wordsIn (now words)) × HeldList l (viewOf l (wordsIn (now words))) k n × (p ≤ n) × Node l start ⌝ }
+    ensures site { λ r. ⌜ r ≡ freeGap l (viewOf l (wordsIn (now (words .entry))) .ident) k p start (sequenceOf l (wordsIn (now (words .entry))) k) ⌝ }
+    ensures worn { λ r. ⌜ sitedUnworn (viewOf l (wordsIn (now (words .entry))) .ident) r ⌝ }
 {
     match free_cell(words, l, g, start, 0) {
         Free::Full => Sited::Refused(10),
@@ -88,9 +124,9 @@ fn free_gap(words: &[u16], l: Layout, g: Grid, k: u16, n: u16, p: u16, start: u1
 
 // The gap of list k, which has n members, at position p, and a free cell for a record of so many words.
 fn gap(words: &[u16], l: Layout, g: Grid, k: u16, n: u16, p: u16, start: u16, size: usize) -> Sited
-    requires { ⌜ Gridded l g × Laid l (now words) × HeldList l (viewOf l (now words)) k n ⌝ }
-    ensures site { λ r. ⌜ r ≡ gapAt l (viewOf l (now (words .entry)) .ident) k p start size (sequenceOf l (now (words .entry)) k) ⌝ }
-    ensures worn { λ r. ⌜ sitedUnworn (viewOf l (now (words .entry)) .ident) r ⌝ }
+    requires { ⌜ Gridded l g × Laid l (wordsIn (now words)) × HeldList l (viewOf l (wordsIn (now words))) k n ⌝ }
+    ensures site { λ r. ⌜ r ≡ gapAt l (viewOf l (wordsIn (now (words .entry))) .ident) k p start size (sequenceOf l (wordsIn (now (words .entry))) k) ⌝ }
+    ensures worn { λ r. ⌜ sitedUnworn (viewOf l (wordsIn (now (words .entry))) .ident) r ⌝ }
 {
     let refusal = requests::gap_number(l, n, p, start, size);
     if refusal != 0 {
@@ -102,9 +138,9 @@ fn gap(words: &[u16], l: Layout, g: Grid, k: u16, n: u16, p: u16, start: u16, si
 // Questions 7 to 10 of several records, of so many words in all, and the first and the last of the free cells that they get. The search for
 // the last goes on from the first, so both are one turn.
 pub fn ends(words: &[u16], l: Layout, n: u16, p: u16, start: u16, size: usize) -> Ends
-    requires { ⌜ Laid l (now words) ⌝ }
-    ensures cells { λ r. ⌜ r ≡ endsAt l (viewOf l (now (words .entry)) .ident) n p start size ⌝ }
-    ensures worn { λ r. ⌜ endsUnworn (viewOf l (now (words .entry)) .ident) r ⌝ }
+    requires { ⌜ Laid l (wordsIn (now words)) ⌝ }
+    ensures cells { λ r. ⌜ r ≡ endsAt l (viewOf l (wordsIn (now (words .entry))) .ident) n p start size ⌝ }
+    ensures worn { λ r. ⌜ endsUnworn (viewOf l (wordsIn (now (words .entry))) .ident) r ⌝ }
 {
     let refusal = requests::gaps_number(l, n, p, start, size);
     if refusal != 0 {
@@ -123,9 +159,9 @@ pub fn ends(words: &[u16], l: Layout, n: u16, p: u16, start: u16, size: usize) -
 
 // The gap of list k, which has n members, at position p, and free cells for several records, of so many words in all.
 fn gaps(words: &[u16], l: Layout, g: Grid, k: u16, n: u16, p: u16, start: u16, size: usize) -> Sited
-    requires { ⌜ Gridded l g × Laid l (now words) × HeldList l (viewOf l (now words)) k n ⌝ }
-    ensures site { λ r. ⌜ r ≡ gapsAt l (viewOf l (now (words .entry)) .ident) k p start size (sequenceOf l (now (words .entry)) k) ⌝ }
-    ensures worn { λ r. ⌜ sitedUnworn (viewOf l (now (words .entry)) .ident) r ⌝ }
+    requires { ⌜ Gridded l g × Laid l (wordsIn (now words)) × HeldList l (viewOf l (wordsIn (now words))) k n ⌝ }
+    ensures site { λ r. ⌜ r ≡ gapsAt l (viewOf l (wordsIn (now (words .entry))) .ident) k p start size (sequenceOf l (wordsIn (now (words .entry))) k) ⌝ }
+    ensures worn { λ r. ⌜ sitedUnworn (viewOf l (wordsIn (now (words .entry))) .ident) r ⌝ }
 {
     match ends(words, l, n, p, start, size) {
         Ends::Refused(r) => Sited::Refused(r),
@@ -136,9 +172,9 @@ fn gaps(words: &[u16], l: Layout, g: Grid, k: u16, n: u16, p: u16, start: u16, s
 // The site of the next of several records, behind the one just inserted at site t. The search goes on behind the cell just used, so all
 // searches together are one turn.
 pub fn next_site(words: &[u16], l: Layout, t: Site) -> Site
-    requires { ⌜ Laid l (now words) × Node l (t .cell) × (t .count ≤ l .nodes) ⌝ }
-    ensures site { λ r. ⌜ r ≡ nextSite l (viewOf l (now (words .entry)) .ident) t ⌝ }
-    ensures worn { λ r. ⌜ ((viewOf l (now (words .entry)) .ident (t .cell) ≡ wornIdent → ⊥) → viewOf l (now (words .entry)) .ident (r .cell) ≡ wornIdent → ⊥) ⌝ }
+    requires { ⌜ Laid l (wordsIn (now words)) × Node l (t .cell) × (t .count ≤ l .nodes) ⌝ }
+    ensures site { λ r. ⌜ r ≡ nextSite l (viewOf l (wordsIn (now (words .entry))) .ident) t ⌝ }
+    ensures worn { λ r. ⌜ ((viewOf l (wordsIn (now (words .entry))) .ident (t .cell) ≡ wornIdent → ⊥) → viewOf l (wordsIn (now (words .entry))) .ident (r .cell) ≡ wornIdent → ⊥) ⌝ }
 {
     let g = Grid::of(l);
     let from = requests::next_cell(l, t.cell);
@@ -155,8 +191,8 @@ pub fn next_site(words: &[u16], l: Layout, t: Site) -> Site
 
 // The node to mark: is it one, and free?
 fn mark(words: &[u16], l: Layout, g: Grid, cell: u16) -> Sited
-    requires { ⌜ Gridded l g × Laid l (now words) ⌝ }
-    ensures { λ r. ⌜ r ≡ markAt l (viewOf l (now (words .entry)) .ident) cell ⌝ }
+    requires { ⌜ Gridded l g × Laid l (wordsIn (now words)) ⌝ }
+    ensures { λ r. ⌜ r ≡ markAt l (viewOf l (wordsIn (now (words .entry))) .ident) cell ⌝ }
 {
     if !l.is_node(cell) {
         return Sited::Refused(8);
@@ -175,9 +211,9 @@ fn mark(words: &[u16], l: Layout, g: Grid, cell: u16) -> Sited
 
 // The site that a request gets.
 fn site_of(words: &[u16], l: Layout, q: Request) -> Sited
-    requires { ⌜ Laid l (now words) ⌝ }
-    ensures site { λ r. ⌜ r ≡ siteOf l (now (words .entry)) q ⌝ }
-    ensures worn { λ r. ⌜ sitedUnworn (viewOf l (now (words .entry)) .ident) r ⌝ }
+    requires { ⌜ Laid l (wordsIn (now words)) ⌝ }
+    ensures site { λ r. ⌜ r ≡ siteOf l (wordsIn (now (words .entry))) q ⌝ }
+    ensures worn { λ r. ⌜ sitedUnworn (viewOf l (wordsIn (now (words .entry))) .ident) r ⌝ }
 {
     let k = requests::list_of(q);
     if l.lists <= k {
@@ -210,10 +246,10 @@ fn site_of(words: &[u16], l: Layout, q: Request) -> Sited
 
 // All questions of a call.
 pub fn look(words: &[u16], q: Request) -> Looked
-    ensures outcome { λ r. ⌜ r ≡ lookOf (now (words .entry)) q ⌝ }
-    ensures worn { λ r. ⌜ lookedUnworn (now (words .entry)) r ⌝ }
+    ensures outcome { λ r. ⌜ r ≡ lookIn (now (words .entry)) q ⌝ }
+    ensures worn { λ r. ⌜ lookedUnworn (wordsIn (now (words .entry))) r ⌝ }
 {
-    match layout::open(words) {
+    match open(words) {
         Opened::Refused(n) => Looked::Refused(n),
         Opened::Open(l) => match site_of(words, l, q) {
             Sited::Refused(n) => Looked::Refused(n),

@@ -4,15 +4,17 @@ use mathlib.Core.Path.{_≡_, refl, ap, _∙_, sym, subst}
 use mathlib.Core.List.{List, [], _∷_, map}
 use lib.ListN.{length, set}
 use borrow.Author.Tests.{eq-eqb}
-use Rattle.stores.specs.Stores.{Plan, answerOf, wordsAfter}
+use Rattle.calls.specs.Answers.{answerOf}
+use Rattle.stores.specs.Stores.{Plan, wordsAfter}
 use Rattle.byte_form.specs.Bytes.{wordsIn, bytesAfter}
 use Rattle.byte_form.proofs.Laws.{words-after, length-after}
 use Rattle.layout.specs.Words.{identAt, wornIdent, layoutOf}
 use Rattle.lists.specs.Lists.{Sound, KeepsWorn}
 use Rattle.edits.specs.Edits.{markStores}
-use Rattle.axle_store.specs.Calls.{markPlan}
+use Rattle.calls.specs.Calls.{markPlan}
 use Rattle.demands.specs.Demand2.{FreeNode}
-use Rattle.axle.specs.Interface.{codeOf, byteMark, byteRecover}
+use Rattle.byte_calls.specs.Plans.{byteMark, byteRecover}
+use Rattle.axle.specs.Interface.{codeOf}
 use Rattle.byte_courses.specs.ByteCourse.{byteEdit, inWords}
 use Rattle.byte_courses.proofs.ByteCourse.{edit-words, recover-words}
 use Rattle.worn.specs.Worn.{Call, edit, mark, recover, wordsBy, wordsByAll, bytesBy, bytesByAll}

@@ -29,9 +29,9 @@ use Rattle.edits.proofs.Done.{looked, mark-facts}
 use Rattle.edits.proofs.Worn.{mark-keeps}
 use Rattle.recovery.specs.Plan.{joined, recoverPlan}
 use Rattle.recovery.proofs.Whole.{sound-accepted}
-use Rattle.axle_store.specs.Calls.{markPlan}
-use Rattle.axle_store.proofs.Cases.{insert-refused, several-refused, delete-refused, mark-refused}
-use Rattle.axle_store.proofs.Calls.{sound-opened, decided-sound}
+use Rattle.calls.specs.Calls.{markPlan}
+use Rattle.calls.proofs.Cases.{insert-refused, several-refused, delete-refused, mark-refused}
+use Rattle.calls.proofs.Calls.{sound-opened, decided-sound}
 use Rattle.courses.specs.Course.{Edit, insert, several, delete, named, editPlan, allStores, due, Alteration, untouched, alteredBelow}
 use Rattle.courses.proofs.Standing.{Standing, standing-plan, standing-after}
 use Rattle.courses.proofs.Calls.{call-left}

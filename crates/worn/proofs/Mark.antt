@@ -6,8 +6,9 @@ use mathlib.Core.Bool.{Bool, true, false}
 use lib.ListN.{getD, set}
 use borrow.Author.Tests.{eq-eqb}
 use Rattle.sequences.specs.Sequence.{_∈_}
-use Rattle.stores.specs.declared.Answer.the-variants as A
-use Rattle.stores.specs.Stores.{run, Plan, refuse, stores, answerOf, wordsAfter}
+use Rattle.calls.specs.declared.Answer.the-variants as A
+use Rattle.calls.specs.Answers.{answerOf}
+use Rattle.stores.specs.Stores.{run, Plan, refuse, stores, wordsAfter}
 use Rattle.layout.specs.declared.Layout.{Layout}
 use Rattle.layout.specs.Words.{Node, isNode, ask, identAt, wornIdent, worn, isFree, layoutOf}
 use Rattle.layout.proofs.Laws.{node-is}
@@ -20,9 +21,9 @@ use Rattle.requests.specs.Requests.{markAt, siteIn, siteOf}
 use Rattle.requests.proofs.Laws.{look-refused, look-at}
 use Rattle.edits.specs.Edits.{markWrites, markStores}
 use Rattle.edits.proofs.Insert.{free-out}
-use Rattle.axle_store.specs.Calls.{markPlan}
-use Rattle.axle_store.proofs.Cases.{mark-refused, mark-at}
-use Rattle.axle_store.proofs.Calls.{sound-opened, sound-decided}
+use Rattle.calls.specs.Calls.{markPlan}
+use Rattle.calls.proofs.Cases.{mark-refused, mark-at}
+use Rattle.calls.proofs.Calls.{sound-opened, sound-decided}
 use Rattle.demands.specs.Demand2.{FreeNode}
 use Rattle.worn.specs.Worn.{WornNode, Marks}
 

@@ -30,9 +30,9 @@ use Rattle.requests.proofs.Search.{first-free}
 use Rattle.edits.proofs.OneByOne.{turn-free}
 use Rattle.recovery.specs.Plan.{joined}
 use Rattle.recovery.proofs.Joined.{one-joined, joined-one, joined-same}
-use Rattle.axle_store.specs.Calls.{insertPlan, severalPlan}
-use Rattle.axle_store.proofs.Cases.{insert-refused, several-refused}
-use Rattle.axle_store.proofs.Calls.{sound-opened, sound-decided}
+use Rattle.calls.specs.Calls.{insertPlan, severalPlan}
+use Rattle.calls.proofs.Cases.{insert-refused, several-refused}
+use Rattle.calls.proofs.Calls.{sound-opened, sound-decided}
 use Rattle.courses.proofs.Calls.{first-node}
 use Rattle.demands.specs.Demand2.{FreeNode}
 use Rattle.demands.proofs.Demand2.{demand2}

@@ -1,5 +1,5 @@
 -- The statement on worn nodes holds.
-use Rattle.axle_store.proofs.Worn.{insert-worn, several-worn, delete-worn}
+use Rattle.calls.proofs.Worn.{insert-worn, several-worn, delete-worn}
 use Rattle.worn.specs.Worn.{Worn}
 use Rattle.worn.proofs.Nodes.{kinds, sum, full, several-full}
 use Rattle.worn.proofs.Mark.{marks}

@@ -10,18 +10,20 @@ use mathlib.Core.List.{List, [], _∷_}
 use mathlib.Core.Logic.{_⊎_, _↔_}
 use lib.ListN.{length, getD, set}
 use Rattle.sequences.specs.Sequence.{_∈_}
-use Rattle.stores.specs.declared.Answer.the-variants as A
-use Rattle.stores.specs.Stores.{refuse, answerOf, wordsAfter}
+use Rattle.calls.specs.declared.Answer.the-variants as A
+use Rattle.calls.specs.Answers.{answerOf}
+use Rattle.stores.specs.Stores.{refuse, wordsAfter}
 use Rattle.byte_form.specs.Bytes.{wordsIn, bytesAfter}
 use Rattle.layout.specs.Words.{Node, firstNode, isNode, ask, identAt, wornIdent, isFree, isWorn, layoutOf}
 use Rattle.lists.specs.Lists.{Sound, SameCells, KeepsWorn}
 use Rattle.lists.specs.Decide.{viewOf, cellsWith}
 use Rattle.edits.specs.Edits.{markStores}
 use Rattle.recovery.specs.Plan.{joined, fittingOf, recoverPlan}
-use Rattle.axle_store.specs.Calls.{insertPlan, severalPlan, deletePlan, markPlan}
+use Rattle.calls.specs.Calls.{insertPlan, severalPlan, deletePlan, markPlan}
 use Rattle.demands.specs.Demand2.{FreeNode}
 use Rattle.courses.specs.Course.{Edit, editPlan}
-use Rattle.axle.specs.Interface.{codeOf, byteMark, byteRecover}
+use Rattle.byte_calls.specs.Plans.{byteMark, byteRecover}
+use Rattle.axle.specs.Interface.{codeOf}
 use Rattle.byte_courses.specs.ByteCourse.{byteEdit}
 
 -- a node with identifier 65,535

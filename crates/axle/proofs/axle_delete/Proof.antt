@@ -1,16 +1,9 @@
--- `axle::axle_delete`: an odd number of bytes is refused before all else.
-use Prim.Native.Nat.{_%_}
-use mathlib.Core.Path.{refl, ap, _∙_}
-use lib.ListN.{length}
-use borrow.Author.Tests.{eq-eqb, ne-eqb}
-use Rattle.axle.specs.Interface.{codeOf, byteDelete}
+-- `axle::axle_delete`: the answer of crate byte_calls as a number.
+use mathlib.Core.Path.{ap, _∙_}
+use Rattle.axle.specs.Interface.{codeOf}
 use borrow.Author.Needs.{needs}
 use Rattle.axle.proofs.axle_delete.Statement.{statement}
 use Rattle.axle.proofs.axle_delete.Tie as tie
-
-returns : tie.Need-returns
-unfolding byteDelete
-returns c = rw (ne-eqb (length (c .before .before .args .store .now) % 2) 0 (c .if1 .taken)) (refl, refl)
 
 delete-requires : tie.Need-delete-requires
 delete-requires c κs = search needs
@@ -21,11 +14,10 @@ code-requires c κs = search needs
 same-length : tie.Need-same-length
 same-length c = search needs
 
-returns-2 : tie.Need-returns-2
-unfolding byteDelete
-returns-2 c =
+returns : tie.Need-returns
+returns c =
     let x = c .before .before .before .delete .ensures in
-    rw (eq-eqb (length (c .before .before .before .before .before .before .before .args .store .now) % 2) 0 (c .before .before .before .before .before .if1 .left)) (c .code .ensures ∙ ap codeOf (x .0), x .1)
+    (c .code .ensures ∙ ap codeOf (x .0), x .1)
 
 pub axle-delete-spec : {M : Type 1} → statement M
-axle-delete-spec = tie.close (tie.spec returns delete-requires code-requires same-length returns-2)
+axle-delete-spec = tie.close (tie.spec delete-requires code-requires same-length returns)

@@ -9,8 +9,8 @@ use Rattle.layout.specs.Words.{recordAt}
 use Rattle.requests.specs.declared.Looked.the-variants as K
 use Rattle.requests.specs.declared.Request.the-variants.{Member}
 use Rattle.requests.specs.Requests.{lookOf}
-use Rattle.axle_store.proofs.Cases.{read-refused, read-at}
-use Rattle.axle_store.proofs.Sites.{member-placed, record-fits}
+use Rattle.calls.proofs.Cases.{read-refused, read-at}
+use Rattle.calls.proofs.Sites.{member-placed, record-fits}
 use Rattle.axle_store.proofs.read.Statement.{statement}
 use Rattle.axle_store.proofs.read.Tie as tie
 

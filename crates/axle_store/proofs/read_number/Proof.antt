@@ -1,7 +1,7 @@
 -- `read_number` answers as read's look ends.
 use borrow.Author.Needs.{needs}
 use mathlib.Core.Path.{sym, _∙_}
-use Rattle.axle_store.proofs.Cases.{number-refused, number-at}
+use Rattle.calls.proofs.Cases.{number-refused, number-at}
 use Rattle.axle_store.proofs.read_number.Statement.{statement}
 use Rattle.axle_store.proofs.read_number.Tie as tie
 

@@ -1,64 +1,24 @@
--- `recover` hands a refusal on, and recovers an opened store by its layout.
-use borrow.Author.Needs.{needs}
-use mathlib.Core.Path.{_≡_, ap, sym, _∙_}
-use Rattle.stores.specs.Stores.{Plan, answerOf, wordsAfter}
-use Rattle.layout.specs.declared.Opened.the-variants.{Open}
-use Rattle.layout.specs.Words.{opened}
+-- `recover` is that of crate word_calls. Its number and its stores are those of the plan.
 use Rattle.recovery.specs.Plan.{recoverPlan}
-use Rattle.requests.proofs.Laws.{opened-laid}
-use Rattle.axle_store.proofs.Laws.{promised, plan-refused}
-use Rattle.axle_store.proofs.Cases.{recover-shut, recover-open}
+use Rattle.calls.proofs.Answers.{told}
+use borrow.Author.Needs.{needs}
+use Rattle.word_calls.specs.Plans.{wordRecover}
 use Rattle.axle_store.proofs.recover.Statement.{statement}
 use Rattle.axle_store.proofs.recover.Tie as tie
 
--- the store is opened
-is-open : (c : tie.After-l) → opened (c .before .before .before .before .before .args .words .now) ≡ Open (c .l .given .0 .0)
-is-open c = sym (c .before .before .«open» .ensures) ∙ c .l .given .1
-
-open-requires : tie.Need-open-requires
-open-requires c κs = search needs
-
-enum-known-n : tie.Need-enum-known-n
-enum-known-n c = search needs
-
-enum-known-l : tie.Need-enum-known-l
-enum-known-l c = search needs
-
-recover-in-requires : tie.Need-recover-in-requires
-recover-in-requires c κs =
-    let l = c .before .before in
-    opened-laid (l .before .before .before .before .before .args .words .now) (l .l .given .0 .0) (is-open l)
+recover-requires : tie.Need-recover-requires
+recover-requires c κs = search needs
 
 same-length : tie.Need-same-length
 same-length c = search needs
 
 returns : tie.Need-returns
+unfolding wordRecover
 returns c =
-    let n = c .before in
-    let a = n .before .before .before .before .before .args in
-    plan-refused (a .allowance) (a .words .now) (recover-shut (a .words .now) (sym (n .before .before .«open» .ensures) ∙ n .n .given .1))
-
-same-length-2 : tie.Need-same-length-2
-same-length-2 c = search needs
-
-returns-2 : tie.Need-returns-2
-returns-2 c =
-    let r = c .before .before .recover-in in
-    let l = c .before .before .before .before .before in
-    let a = l .before .before .before .before .before .args in
-    let e = recover-open (a .words .now) (is-open l) in
-    promised (recoverPlan (a .words .now)) (a .allowance) (a .words .now) (r .ensures .0 ∙ ap (λ (p : Plan). answerOf p (a .allowance)) (sym e))
-    (r .ensures .1 ∙ ap (λ (p : Plan). wordsAfter p (a .allowance) (a .words .now)) (sym e))
+    let a = c .before .before .before .before .before .args in
+    let e = c .before .before .recover .ensures in
+    let n = told (recoverPlan (a .words .now)) (a .allowance) (e .0) in
+    (e .0, (e .1, (n .0, n .1)))
 
 pub recover-spec : {M : Type 1} → statement M
-recover-spec =
-    tie.close
-    (tie.spec
-    open-requires
-    enum-known-n
-    enum-known-l
-    recover-in-requires
-    same-length
-    returns
-    same-length-2
-    returns-2)
+recover-spec = tie.close (tie.spec recover-requires same-length returns)

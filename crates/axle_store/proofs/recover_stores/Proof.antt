@@ -1,48 +1,17 @@
--- `recover_stores` hands a refusal on, and tells of an opened store by its layout.
-use borrow.Author.Needs.{needs}
-use mathlib.Core.Path.{_≡_, ap, sym, _∙_}
-use Rattle.stores.specs.Stores.{neededOf}
-use Rattle.layout.specs.declared.Opened.the-variants.{Open}
-use Rattle.layout.specs.Words.{opened}
+-- `recover_stores` is that of crate word_calls. Its number is that of the plan.
 use Rattle.recovery.specs.Plan.{recoverPlan}
-use Rattle.requests.proofs.Laws.{opened-laid}
-use Rattle.axle_store.proofs.Cases.{recover-shut, recover-open}
-use Rattle.axle_store.proofs.Numbers.{needed-number}
+use Rattle.calls.proofs.Numbers.{needed-number}
+use borrow.Author.Needs.{needs}
+use Rattle.word_calls.specs.Plans.{wordNeeded}
 use Rattle.axle_store.proofs.recover_stores.Statement.{statement}
 use Rattle.axle_store.proofs.recover_stores.Tie as tie
 
--- the start, by the place where the layout is known; the store is opened
-abbrev start : tie.After-l → tie.Start
-start c = c .before .before .before .before
-
-is-open : (c : tie.After-l) → opened (start c .args .words .now) ≡ Open (c .l .given .0 .0)
-is-open c = sym (c .before .before .«open» .ensures) ∙ c .l .given .1
-
-open-requires : tie.Need-open-requires
-open-requires c κs = search needs
-
-enum-known-n : tie.Need-enum-known-n
-enum-known-n c = search needs
-
-enum-known-l : tie.Need-enum-known-l
-enum-known-l c = search needs
-
-stores-in-requires : tie.Need-stores-in-requires
-stores-in-requires c κs = let l = c .before in opened-laid (start l .args .words .now) (l .l .given .0 .0) (is-open l)
+recover-stores-requires : tie.Need-recover-stores-requires
+recover-stores-requires c κs = search needs
 
 returns : tie.Need-returns
-returns c =
-    let n = c .before in
-    let w = n .before .before .before .before .args .words .now in
-    let e = sym (ap neededOf (recover-shut w (sym (n .before .before .«open» .ensures) ∙ n .n .given .1))) in
-    (e, needed-number (recoverPlan w) e)
-
-returns-2 : tie.Need-returns-2
-returns-2 c =
-    let l = c .before .before in
-    let w = start l .args .words .now in
-    let e = c .stores-in .ensures ∙ sym (ap neededOf (recover-open w (is-open l))) in
-    (e, needed-number (recoverPlan w) e)
+unfolding wordNeeded
+returns c = let e = c .recover-stores .ensures in (e, needed-number (recoverPlan (c .before .before .args .words .now)) e)
 
 pub recover-stores-spec : {M : Type 1} → statement M
-recover-stores-spec = tie.close (tie.spec open-requires enum-known-n enum-known-l stores-in-requires returns returns-2)
+recover-stores-spec = tie.close (tie.spec recover-stores-requires returns)

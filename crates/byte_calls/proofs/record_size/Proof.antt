@@ -1,20 +1,32 @@
--- `byte_calls::record_size`: a record of odd bytes has no words.
-use Prim.Native.Nat.{_%_}
-use mathlib.Core.Path.{sym}
+-- `byte_calls::record_size`: a record that is not of whole words has none.
+use mathlib.Core.Path.{ap, sym, _∙_}
+use mathlib.Core.List.{[]}
 use lib.ListN.{length}
-use borrow.Author.Tests.{eq-eqb, ne-eqb}
-use Rattle.byte_form.proofs.Laws.{length-words}
-use Rattle.byte_calls.specs.Records.{recordWords}
+use borrow.Author.Needs.{needs}
+use Rattle.byte_form.specs.Bytes.{wordsIn, whole}
+use Rattle.layout.proofs.Laws.{answered-no, answered-yes}
+use Rattle.requests.proofs.First.{asked-no, asked-yes}
+use Rattle.byte_calls.specs.Plans.{recordWords}
 use Rattle.byte_calls.proofs.record_size.Statement.{statement}
 use Rattle.byte_calls.proofs.record_size.Tie as tie
 
+is-whole-requires : tie.Need-is-whole-requires
+is-whole-requires c κs = search needs
+
 returns : tie.Need-returns
 unfolding recordWords
-returns c = rw (ne-eqb (length (c .before .args .rec .now) % 2) 0 (c .if1 .taken))
+returns c =
+    let b = c .before .before .before .args .rec .now in
+    sym (ap length (asked-no (whole b) [] (wordsIn b) (answered-no (c .before .is-whole .ensures) (c .if1 .taken))))
+
+size-requires : tie.Need-size-requires
+size-requires c κs = search needs
 
 returns-2 : tie.Need-returns-2
 unfolding recordWords
-returns-2 c = rw (eq-eqb (length (c .before .args .rec .now) % 2) 0 (c .if1 .left)) (sym (length-words (c .before .args .rec .now)))
+returns-2 c =
+    let b = c .before .before .before .before .args .rec .now in
+    c .size .ensures ∙ sym (ap length (asked-yes (whole b) [] (wordsIn b) (answered-yes (c .before .before .is-whole .ensures) (c .before .if1 .left))))
 
 pub record-size-spec : {M : Type 1} → statement M
-record-size-spec = tie.close (tie.spec returns returns-2)
+record-size-spec = tie.close (tie.spec is-whole-requires returns size-requires returns-2)

@@ -5,9 +5,9 @@ use mathlib.Core.List.{List, [], _∷_}
 use mathlib.Core.Logic.{⊎-elim}
 use native.Mathlib.Omega.{arith}
 use lib.ListN.{length}
-use Rattle.stores.specs.declared.Answer.the-variants as A
+use Rattle.calls.specs.declared.Answer.the-variants as A
 use Rattle.stores.specs.Stores.{Write, run}
-use Rattle.stores.proofs.Laws.{answer-stopped, answer-done}
+use Rattle.calls.proofs.Answers.{answer-stopped, answer-done}
 use Rattle.byte_form.specs.Bytes.{byteWrites, appliedBytes}
 use Rattle.byte_form.proofs.Laws.{same-words, bytes-none, bytes-more, bytes-all}
 use Rattle.layout.specs.Words.{firstNode, cellCount}
@@ -77,7 +77,7 @@ step-requires : tie.Need-step-requires Inv-loop μ-loop
 step-requires c κs =
     let t = c .before .before .before .before .before .before in
     let s = start t in
-    (record { inRange = s .pre .inRange; exact = same-words _ _ (t .loop .inv .6) ∙ s .pre .exact }, record { low = t .loop .inv .0; high = omega arith })
+    (record { inRange = s .pre .inRange; exact = same-words (t .loop .bytes) (s .args .bytes .now) (t .loop .inv .6) ∙ s .pre .exact }, record { low = t .loop .inv .0; high = omega arith })
 
 add-n : tie.Need-add-n Inv-loop μ-loop
 add-n c = omega arith

@@ -8,8 +8,8 @@ use Rattle.byte_form.specs.Bytes.{wordsIn}
 use Rattle.layout.specs.Words.{mostCells, wornIdent, Laid, isNode}
 use Rattle.layout.proofs.Laws.{is-node, answered-no, answered-yes}
 use Rattle.lists.specs.Decide.{View, viewOf}
-use Rattle.spans.specs.declared.Cell.{Cell}
-use Rattle.spans.specs.Spans.{Gridded}
+use Rattle.layout.specs.declared.Cell.{Cell}
+use Rattle.layout.specs.Cells.{Gridded}
 use Rattle.mending.specs.Mending.{linkBy, erasedAlong}
 use Rattle.mending.proofs.Erasing.{erased-on, erased-out, erased-none}
 use Rattle.byte_clears.proofs.erase.Statement.{statement}

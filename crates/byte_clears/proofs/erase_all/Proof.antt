@@ -8,8 +8,8 @@ use lib.ListN.{getD}
 use Rattle.byte_form.specs.Bytes.{wordsIn}
 use Rattle.layout.specs.Words.{Laid}
 use Rattle.lists.specs.Decide.{View, viewOf}
-use Rattle.spans.specs.declared.Cell.{Cell}
-use Rattle.spans.specs.Spans.{Gridded}
+use Rattle.layout.specs.declared.Cell.{Cell}
+use Rattle.layout.specs.Cells.{Gridded}
 use Rattle.fitting.specs.Fitting.{membersBy}
 use Rattle.mending.specs.Mending.{erased, linkBy, erasedAlong, erasedFrom}
 use Rattle.mending.proofs.Erasing.{erased-members}

@@ -6,8 +6,8 @@ use lib.ListN.{length, length-set}
 use Rattle.byte_form.specs.Bytes.{wordsIn}
 use Rattle.layout.specs.Words.{mostCells, firstNode, cellCount, Laid}
 use Rattle.lists.specs.Decide.{viewOf}
-use Rattle.spans.specs.declared.Cell.{Cell}
-use Rattle.spans.specs.Spans.{Gridded}
+use Rattle.layout.specs.declared.Cell.{Cell}
+use Rattle.layout.specs.Cells.{Gridded}
 use Rattle.mending.proofs.Erasing.{ReadTo, read-more}
 use Rattle.byte_clears.proofs.read_nodes.Statement.{statement}
 use Rattle.byte_clears.proofs.read_nodes.Tie as tie

@@ -5,7 +5,7 @@ use native.Mathlib.Omega.{arith}
 use lib.ListN.{length}
 use Rattle.byte_form.specs.Bytes.{wordsIn}
 use Rattle.layout.specs.Words.{firstNode, cellCount, Laid}
-use Rattle.spans.specs.Spans.{Gridded}
+use Rattle.layout.specs.Cells.{Gridded}
 use Rattle.mending.specs.Mending.{wipes}
 use Rattle.mending.proofs.Counting.{wipesLeft, left-all, left-next, left-none, wipes-few}
 use Rattle.byte_counts.proofs.free_wipes.Statement.{statement}

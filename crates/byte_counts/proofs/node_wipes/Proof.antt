@@ -6,7 +6,7 @@ use Rattle.byte_form.specs.Bytes.{wordsIn}
 use Rattle.layout.specs.Words.{isFree}
 use Rattle.layout.proofs.Laws.{answered-yes, answered-no}
 use Rattle.lists.specs.Decide.{viewOf}
-use Rattle.spans.specs.declared.Cell.{Cell}
+use Rattle.layout.specs.declared.Cell.{Cell}
 use Rattle.mending.proofs.Wiping.{wipes-skip, wipes-free}
 use Rattle.byte_counts.proofs.node_wipes.Statement.{statement}
 use Rattle.byte_counts.proofs.node_wipes.Tie as tie

@@ -4,7 +4,7 @@ use mathlib.Core.Path.{_≡_, ap}
 use native.Mathlib.Omega.{arith}
 use Rattle.byte_form.specs.Bytes.{wordsIn}
 use Rattle.layout.specs.Words.{mostCells, firstNode, cellCount, Laid}
-use Rattle.spans.specs.Spans.{Gridded}
+use Rattle.layout.specs.Cells.{Gridded}
 use Rattle.mending.specs.Mending.{outsideFrom}
 use Rattle.mending.proofs.Counting.{outsideLeft, outside-all, outside-next, outside-none, outside-few}
 use Rattle.byte_counts.proofs.outside_stores.Statement.{statement}

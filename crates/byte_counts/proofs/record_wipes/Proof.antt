@@ -12,7 +12,7 @@ use Rattle.lists.specs.Decide.{blankFrom}
 use Rattle.lists.proofs.Blank.{blank-words, blank-agrees}
 use Rattle.recovery.specs.Fits.{wrong}
 use Rattle.recovery.proofs.Required.{agrees-wrong}
-use Rattle.spans.proofs.Places.{tail-words, words-few}
+use Rattle.layout.proofs.Places.{tail-words, words-few}
 use Rattle.byte_counts.proofs.record_wipes.Statement.{statement}
 use Rattle.byte_counts.proofs.record_wipes.Tie as tie
 

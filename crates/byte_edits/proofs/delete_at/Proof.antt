@@ -8,18 +8,18 @@ use native.Mathlib.Nat.{add-sub-cancel-left}
 use lib.ListN.{length, take, replicate, length-append}
 use lib.Seq.{length-take-le}
 use borrow.Author.Needs.{needs}
-use Rattle.stores.specs.declared.Answer.the-variants as A
-use Rattle.stores.specs.Stores.{Write, Planned, stores, answerOf}
-use Rattle.stores.proofs.Laws.{listed-planned, answer-stopped, answer-done}
-use Rattle.stores.proofs.Segments.{undone-short, done-whole}
-use Rattle.byte_form.specs.Bytes.{wordsIn, appliedBytes}
-use Rattle.byte_form.proofs.Laws.{same-words, length-words}
+use Rattle.calls.specs.declared.Answer.the-variants as A
+use Rattle.calls.specs.Answers.{answerOf}
+use Rattle.stores.specs.Stores.{Write, Planned, stores}
+use Rattle.calls.proofs.Answers.{answer-stopped, answer-done, undone-short, done-whole}
+use Rattle.stores.proofs.Laws.{listed-planned}
+use Rattle.byte_form.specs.Bytes.{wordSize, wordsIn, appliedBytes}
+use Rattle.byte_form.proofs.Laws.{same-words, length-words, words-take, words-zeros}
 use Rattle.byte_form.proofs.Segments.{bytes-append, bytes-first}
 use Rattle.layout.specs.Words.{mostWidth}
 use Rattle.lists.specs.Lists.{blankAsked}
 use Rattle.edits.specs.Edits.{deleteLinks, deleteWrites}
 use Rattle.edits.proofs.Inside.{record-fits, blank-row}
-use Rattle.byte_edits.proofs.Several.{words-take}
 use Rattle.byte_edits.proofs.delete_at.Statement.{statement}
 use Rattle.byte_edits.proofs.delete_at.Tie as tie
 
@@ -102,7 +102,7 @@ abbrev after : tie.After-zeros → tie.After-n
 after c = c .before .before .before .before .before
 
 slice-aggregate-put-row : tie.Need-slice-aggregate-put-row
-slice-aggregate-put-row c = sym (length-take-le _ (replicate (2 * mostWidth) 0) (array-share-prefix-zeros (c .before)))
+slice-aggregate-put-row c = sym (length-take-le _ (replicate (wordSize * mostWidth) 0) (array-share-prefix-zeros (c .before)))
 
 sub-put-row : tie.Need-sub-put-row
 sub-put-row c = omega (arith, whole (after c))
@@ -111,11 +111,11 @@ put-row-requires : tie.Need-put-row-requires
 put-row-requires c κs =
     let x = linked (after c) in
     let p = start x .pre in
-    let size = 2 * (c .before .before .node-words .result - 3) in
+    let size = wordSize * (c .before .before .node-words .result - 3) in
     omega (
       arith,
       slice-aggregate-put-row c,
-      length-words (take size (replicate (2 * mostWidth) 0)),
+      length-words (take size (replicate (wordSize * mostWidth) 0)),
       c .before .before .node-words .ensures,
       c .before .before .before .node .ensures,
       record-fits (p .0),
@@ -123,10 +123,9 @@ put-row-requires c κs =
       p .1,
     )
 
--- the words of zero bytes are zeros
-words-zeros : (n : ℕ) → wordsIn (take (2 * n) (replicate (2 * mostWidth) 0)) ≡ take n (replicate mostWidth 0)
-unfolding wordsIn
-words-zeros n = words-take n (replicate (2 * mostWidth) 0)
+-- the words of a part of the zeros are zeros
+zeros : (n : ℕ) → wordsIn (take (wordSize * n) (replicate (wordSize * mostWidth) 0)) ≡ take n (replicate mostWidth 0)
+zeros n = words-take n (replicate (wordSize * mostWidth) 0) ∙ ap (take n) (words-zeros mostWidth)
 
 -- they are as many as the record has words; what was made of the wiping
 wiped : (c : tie.After-put-row) → let x = linked (after (c .before)) in let a = start x .args in
@@ -139,7 +138,7 @@ wiped c =
       c .before .before .before .before .node .ensures,
       c .before .before .before .node-words .ensures,
       add-sub-cancel-left,
-      words-zeros,
+      zeros,
       blank-row (start x .pre .0),
     ) at (c .put-row .ensures) in (
       r .0,

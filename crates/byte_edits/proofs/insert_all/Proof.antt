@@ -1,5 +1,5 @@
 -- `byte_edits::insert_all`: the records' stores are segments of one run. The loop's invariant: what is made and what is left is the plan (`Underway`).
-use Prim.Native.Nat.{ℕ, _+_, _*_, _/_, _-_, _%_, _≤_}
+use Prim.Native.Nat.{ℕ, _+_, _/_, _-_, _≤_}
 use mathlib.Core.Path.{_≡_, refl, ap, sym, subst, _∙_}
 use mathlib.Core.List.{List, [], _++_}
 use mathlib.Core.Logic.{⊎-elim}
@@ -7,48 +7,47 @@ use native.Mathlib.Omega.{arith}
 use lib.ListN.{length, take, drop, length-append, length-drop}
 use lib.Seq.{drop-drop}
 use borrow.Author.Needs.{needs}
-use Rattle.stores.specs.declared.Answer.the-variants as A
-use Rattle.stores.specs.Stores.{Write, run, stores, answerOf}
+use Rattle.calls.specs.declared.Answer.the-variants as A
+use Rattle.calls.specs.Answers.{answerOf}
+use Rattle.stores.specs.Stores.{Write, run, stores}
 use Rattle.stores.proofs.Laws.{length-run}
-use Rattle.stores.proofs.Segments.{undone-short, done-whole}
+use Rattle.calls.proofs.Answers.{answer-stopped, answer-done, undone-short, done-whole}
 use Rattle.byte_form.specs.Bytes.{wordsIn, byteWrites, appliedBytes}
-use Rattle.byte_form.proofs.Laws.{length-words, same-words, words-after}
+use Rattle.byte_form.proofs.Laws.{length-words, same-words, words-after, bytes-nil}
 use Rattle.lists.specs.Lists.{KeepsWorn}
 use Rattle.edits.specs.Edits.{insertWrites, chainFrom}
 use Rattle.edits.proofs.Worn.{room-keeps}
-use Rattle.edits.proofs.Underway.{Underway, underway-start, underway-fits, underway-words, underway-stopped, underway-done, underway-next}
-use Rattle.byte_edits.proofs.Several.{words-take, words-drop, bytes-stopped, bytes-done, bytes-next}
+use Rattle.edits.proofs.Underway.{Underway, underway-start, underway-fits, underway-words, underway-short, underway-whole, underway-next}
+use Rattle.byte_edits.proofs.Several.{bytes-stopped, bytes-done, bytes-next}
 use Rattle.byte_edits.proofs.insert_all.Statement.{statement}
 use Rattle.byte_edits.proofs.insert_all.Tie as tie
 
 abbrev Inv-loop : tie.InvT-loop
-Inv-loop bytes₀ l list records allowance size t₀ at₀ made₀ bytes t at made =
-    let words = wordsIn records in
+Inv-loop bytes₀ l list records allowance width whole t₀ at₀ made₀ bytes t at made =
+    let ws = wordsIn records in
     (ps : List Write)
-    × (Underway l list (chainFrom l (wordsIn bytes₀) list t₀ (length words / l .width) words) ps (wordsIn bytes) t (wordsIn (drop at records))
-    × (made ≡ length ps) × (made ≤ allowance) × (bytes ≡ run (byteWrites ps) bytes₀) × (at % 2 ≡ 0))
+    × (Underway l list (chainFrom l (wordsIn bytes₀) list t₀ (length ws / l .width) ws) ps (wordsIn bytes) t (drop at ws)
+    × (made ≡ length ps) × (made ≤ allowance) × (bytes ≡ run (byteWrites ps) bytes₀))
 
 abbrev μ-loop : tie.MeasureT-loop
-μ-loop bytes₀ l list records allowance size t₀ at₀ made₀ bytes t at made = length records - at
+μ-loop bytes₀ l list records allowance width whole t₀ at₀ made₀ bytes t at made = length (wordsIn records) - at
 
-cast-size : tie.Need-cast-size Inv-loop μ-loop
-cast-size c = search needs
+cast-width : tie.Need-cast-width Inv-loop μ-loop
+cast-width c = search needs
 
-mul-size : tie.Need-mul-size Inv-loop μ-loop
-mul-size c = search needs
+size-requires : tie.Need-size-requires Inv-loop μ-loop
+size-requires c κs = search needs
 
 loop-holds : tie.Need-loop-holds Inv-loop μ-loop
-unfolding run byteWrites
 loop-holds c =
-    let s = c .before .before .before in
+    let s = c .before .before .before .before in
     let a = s .args in (
       [],
       (
         underway-start (a .l) (a .list) (wordsIn (a .bytes .now)) (a .first) (wordsIn (a .records .now)) (s .pre .0) (s .pre .1) (s .pre .2),
         refl,
         omega arith,
-        refl,
-        refl,
+        sym (bytes-nil (a .bytes .now)),
       ),
     )
 
@@ -57,52 +56,36 @@ abbrev At : Type 0
 At = tie.At-loop Inv-loop μ-loop
 
 abbrev start : At → tie.Start Inv-loop μ-loop
-start h = h .before .before .before .before
+start h = h .before .before .before .before .before
 
 abbrev left : At → List ℕ
-left h = wordsIn (drop (h .loop .at) (start h .args .records .now))
+left h = drop (h .loop .at) (wordsIn (start h .args .records .now))
 
 abbrev first : At → List Write
 first h = let a = start h .args in insertWrites (a .l) (a .list) (h .loop .t) (take (a .l .width) (left h))
 
--- they have half as many words as bytes are left
-left-length : (h : At) → length (left h) ≡ (length (start h .args .records .now) - h .loop .at) / 2
-left-length h =
-    let b = start h .args .records .now in
-    length-words (drop (h .loop .at) b) ∙ ap (λ (n : ℕ). n / 2) (length-drop (h .loop .at) b)
+-- as many as are behind those made
+left-length : (h : At) → length (left h) ≡ length (wordsIn (start h .args .records .now)) - h .loop .at
+left-length h = length-drop (h .loop .at) (wordsIn (start h .args .records .now))
 
--- the record lies in the bytes given
-record-in : (h : At) → h .loop .at + 2 * start h .args .l .width ≤ length (start h .args .records .now)
+-- the record lies in the words given
+record-in : (h : At) → h .loop .at + start h .args .l .width ≤ length (wordsIn (start h .args .records .now))
 record-in h = omega (arith, underway-fits (h .loop .inv .1 .0), left-length h, h .loop .inv .1 .0 .room .placed .inRange .someWidth)
 
 add-e : tie.Need-add-e Inv-loop μ-loop
-add-e c = omega (arith, record-in c)
+add-e c = omega (arith, record-in c, length-words (start c .args .records .now))
+
+part-requires : tie.Need-part-requires Inv-loop μ-loop
+part-requires c κs = record-in c
 
 sub-insert-at : tie.Need-sub-insert-at Inv-loop μ-loop
-sub-insert-at c = omega arith
-
-part-insert-at-start : tie.Need-part-insert-at-start Inv-loop μ-loop
-part-insert-at-start c = omega arith
-
-part-insert-at-end : tie.Need-part-insert-at-end Inv-loop μ-loop
-part-insert-at-end c = omega (arith, record-in (c .before))
-
-sub-insert-at-2 : tie.Need-sub-insert-at-2 Inv-loop μ-loop
-sub-insert-at-2 c = omega (arith, c .before .before .loop .inv .1 .2)
-
--- the part of the bytes that is lent has the words of one record
-part : (h : At) → let a = start h .args in let n = 2 * a .l .width in
-    wordsIn (take (h .loop .at + n - h .loop .at) (drop (h .loop .at) (a .records .now))) ≡ take (a .l .width) (left h)
-part h =
-    let a = start h .args in
-    let e : h .loop .at + 2 * a .l .width - h .loop .at ≡ 2 * a .l .width = omega arith in
-    ap (λ (n : ℕ). wordsIn (take n (drop (h .loop .at) (a .records .now)))) e ∙ words-take (a .l .width) (drop (h .loop .at) (a .records .now))
+sub-insert-at c = omega (arith, c .before .before .loop .inv .1 .2)
 
 insert-at-requires : tie.Need-insert-at-requires Inv-loop μ-loop
 insert-at-requires c κs =
-    let h = c .before .before in
-    let u = h .loop .inv .1 .0 in
-    (u .room .placed, ap length (part h) ∙ underway-words u, u .room .exact)
+    let p = c .before in
+    let u = p .before .loop .inv .1 .0 in
+    (u .room .placed, ap length (p .part .ensures) ∙ underway-words u, u .room .exact)
 
 -- the place in the loop by that where the record was tried, and what was made of it
 abbrev at : tie.After-insert-at Inv-loop μ-loop → At
@@ -118,7 +101,7 @@ tried x =
     (λ (ws : List ℕ).
     let ps : List Write = insertWrites (a .l) (a .list) (h .loop .t) ws in
     (x .insert-at .result ≡ answerOf (stores ps) m) × (x .insert-at .last .0 ≡ appliedBytes ps m (h .loop .bytes)))
-    (part h) (x .insert-at .ensures)
+    (x .before .before .part .ensures) (x .insert-at .ensures)
 
 -- as many bytes as at the start
 kept : (h : At) → length (h .loop .bytes) ≡ length (start h .args .bytes .now)
@@ -139,6 +122,10 @@ worn s e =
 enum-known-n : tie.Need-enum-known-n Inv-loop μ-loop
 enum-known-n c = search needs
 
+-- all stores of the call
+abbrev plan : tie.Start Inv-loop μ-loop → List Write
+plan s = let a = s .args in let ws = wordsIn (a .records .now) in chainFrom (a .l) (wordsIn (a .bytes .now)) (a .list) (a .first) (length ws / a .l .width) ws
+
 same-length : tie.Need-same-length Inv-loop μ-loop
 same-length c = let x = c .before .before .before in x .insert-at .kept .0 ∙ kept (at x)
 
@@ -150,7 +137,7 @@ returns c =
     let i = h .loop .inv .1 in
     let a = start h .args in
     let e = tried x .1 ∙ bytes-stopped (i .0) (a .allowance) (i .1) (i .2) (a .bytes .now) (i .3) s in
-    (underway-stopped (i .0) (a .allowance) (i .1) (i .2) s, (e, worn (start h) e))
+    (answer-stopped (plan (start h)) (a .allowance) (underway-short (i .0) (a .allowance) (i .1) (i .2) s), (e, worn (start h) e))
 
 -- all of its stores are made
 abbrev stored : tie.After-n Inv-loop μ-loop → tie.After-insert-at Inv-loop μ-loop
@@ -173,9 +160,10 @@ returns-2 c =
     let h = at x in
     let i = h .loop .inv .1 in
     let a = start h .args in
-    let z : length (left h) ≡ a .l .width = omega (arith, left-length h, c .if1 .taken) in
-    let e = tried x .1 ∙ bytes-done (i .0) (a .allowance) (i .1) (i .2) (a .bytes .now) (i .3) z in (
-      ap (λ (n : ℕ). A.Done (h .loop .made + n)) (whole n .1) ∙ underway-done (i .0) (a .allowance) (i .1) (i .2) (whole n .0) z,
+    let z : length (left h) ≡ a .l .width = omega (arith, left-length h, record-in h, h .before .size .ensures, c .if1 .taken) in
+    let e = tried x .1 ∙ bytes-done (i .0) (a .allowance) (i .1) (i .2) (a .bytes .now) (i .3) z in
+    let f = underway-whole (i .0) (a .allowance) (i .1) (i .2) (whole n .0) z in (
+      ap (λ (n : ℕ). A.Done (h .loop .made + n)) (whole n .1) ∙ ap A.Done (f .0) ∙ answer-done (plan (start h)) (a .allowance) (f .1),
       (e, worn (start h) e),
     )
 
@@ -183,7 +171,7 @@ next-site-requires : tie.Need-next-site-requires Inv-loop μ-loop
 next-site-requires c κs =
     let x = stored (c .before .before .before) in
     let r = at x .loop .inv .1 .0 .room in
-    (record { inRange = r .placed .inRange; exact = same-words _ _ (x .insert-at .kept .0) ∙ r .exact }, r .placed .cell, r .placed .count)
+    (record { inRange = r .placed .inRange; exact = same-words (x .insert-at .last .0) (at x .loop .bytes) (x .insert-at .kept .0) ∙ r .exact }, r .placed .cell, r .placed .count)
 
 loop-less : tie.Need-loop-less Inv-loop μ-loop
 loop-less c =
@@ -200,13 +188,11 @@ loop-again c =
     let b = bytes-next (i .0) (a .allowance) (i .1) (i .2) (a .bytes .now) (i .3) (whole n .0) (tried x .1) in (
       h .loop .inv .0 ++ first h,
       (
-        underway-next (i .0) (λ z. c .before .before .if1 .left (omega (arith, z, left-length h, record-in h, i .4, start h .pre .3)))
-            (b .0) (c .next-site .ensures .0)
-            (ap wordsIn (sym (drop-drop (2 * a .l .width) (h .loop .at) (a .records .now))) ∙ words-drop (a .l .width) (drop (h .loop .at) (a .records .now))),
+        underway-next (i .0) (λ z. c .before .before .if1 .left (omega (arith, z, left-length h, record-in h, h .before .size .ensures)))
+            (b .0) (c .next-site .ensures .0) (sym (drop-drop (a .l .width) (h .loop .at) (wordsIn (a .records .now)))),
         omega (arith, i .1, whole n, length-append (h .loop .inv .0) (first h)),
         omega (arith, i .2, whole n),
         b .1,
-        omega (arith, i .4),
       ),
     )
 
@@ -216,14 +202,12 @@ insert-all-spec =
     (tie.spec
     Inv-loop
     μ-loop
-    cast-size
-    mul-size
+    cast-width
+    size-requires
     loop-holds
     add-e
+    part-requires
     sub-insert-at
-    part-insert-at-start
-    part-insert-at-end
-    sub-insert-at-2
     insert-at-requires
     enum-known-n
     same-length

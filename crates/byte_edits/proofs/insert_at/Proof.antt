@@ -6,10 +6,11 @@ use mathlib.Core.Logic.{⊎-elim}
 use native.Mathlib.Omega.{arith}
 use lib.ListN.{length, length-append}
 use borrow.Author.Needs.{needs}
-use Rattle.stores.specs.declared.Answer.the-variants as A
-use Rattle.stores.specs.Stores.{Write, Planned, inRow, stores, answerOf}
-use Rattle.stores.proofs.Laws.{listed-planned, answer-stopped, answer-done}
-use Rattle.stores.proofs.Segments.{undone-short, done-whole}
+use Rattle.calls.specs.declared.Answer.the-variants as A
+use Rattle.calls.specs.Answers.{answerOf}
+use Rattle.stores.specs.Stores.{Write, Planned, inRow, stores}
+use Rattle.calls.proofs.Answers.{answer-stopped, answer-done, undone-short, done-whole}
+use Rattle.stores.proofs.Laws.{listed-planned}
 use Rattle.byte_form.specs.Bytes.{wordsIn, appliedBytes}
 use Rattle.byte_form.proofs.Laws.{same-words}
 use Rattle.byte_form.proofs.Segments.{bytes-append, bytes-first}
@@ -85,7 +86,7 @@ run-requires c κs =
     let s = start x in
     let r = c .before .before .before .before .before .insert-links in
     let p = listed-planned (r .ensures) in
-    (subst (λ (n : ℕ). Planned n (r .result .at) (r .result .values)) (sym (s .pre .2) ∙ same-words (s .args .bytes .now) _ (sym (x .put-row .kept .0))) (p .0), omega (arith, p .1))
+    (subst (λ (n : ℕ). Planned n (r .result .at) (r .result .values)) (sym (s .pre .2) ∙ same-words (s .args .bytes .now) (x .put-row .last .0) (sym (x .put-row .kept .0))) (p .0), omega (arith, p .1))
 
 -- the place where the record is stored, by that where the links were tried; the links; what was made of them
 abbrev after : tie.After-run → tie.After-n

@@ -7,8 +7,8 @@ use native.Mathlib.Omega.{arith}
 use Rattle.byte_form.specs.Bytes.{wordsIn}
 use Rattle.layout.specs.Words.{Laid}
 use Rattle.lists.specs.Decide.{viewOf}
-use Rattle.spans.specs.declared.Cell.{Cell}
-use Rattle.spans.specs.Spans.{Gridded}
+use Rattle.layout.specs.declared.Cell.{Cell}
+use Rattle.layout.specs.Cells.{Gridded}
 use Rattle.fitting.specs.declared.Trail.{Trail}
 use Rattle.fitting.specs.Fitting.{Trailing, isOpen, endOf, wayOf}
 use Rattle.fitting.proofs.Trails.{open-node, trail-next, trail-end}

@@ -4,7 +4,7 @@ use mathlib.Core.Path.{ap, _∙_}
 use native.Mathlib.Omega.{arith}
 use Rattle.layout.specs.Words.{Node}
 use Rattle.layout.proofs.Laws.{is-node}
-use Rattle.spans.specs.declared.Cell.{Cell}
+use Rattle.layout.specs.declared.Cell.{Cell}
 use Rattle.fitting.specs.Fitting.{nextTrail}
 use Rattle.fitting.proofs.Trails.{open-node}
 use Rattle.byte_fitting.proofs.step.Statement.{statement}

@@ -8,8 +8,9 @@ use Rattle.layout.specs.declared.Layout.{Layout}
 use Rattle.layout.specs.Words.{Laid}
 use Rattle.layout.proofs.Laws.{answered-yes}
 use Rattle.lists.specs.Decide.{View, viewOf}
-use Rattle.spans.specs.declared.Cell.{Cell}
-use Rattle.spans.specs.Spans.{Gridded, cellIn}
+use Rattle.layout.specs.declared.Cell.{Cell}
+use Rattle.layout.specs.Cells.{Gridded}
+use Rattle.spans.specs.Spans.{cellIn}
 use Rattle.fitting.specs.declared.Trail.{Trail}
 use Rattle.fitting.specs.declared.Walk.{Walk}
 use Rattle.fitting.specs.Fitting.{Trailing, isOpen, firstTrail, nextTrail, wayOf}

@@ -6,10 +6,10 @@ use native.Mathlib.Omega.{arith}
 use lib.ListN.{length}
 use Rattle.stores.specs.Stores.{Write, write, run, inRow}
 use Rattle.byte_form.specs.Bytes.{wordsIn, byteWrites}
-use Rattle.byte_form.proofs.Laws.{same-words}
+use Rattle.byte_form.proofs.Laws.{same-words, bytes-nil}
 use Rattle.layout.specs.Words.{InRange, headWords, headerAt, nodesAt, sizeOf, head, emptyHeader}
 use Rattle.layout.proofs.Laws.{header-fits}
-use Rattle.word_format.proofs.Formatting.{headers-fit, left, left-head, left-header, left-node, left-none}
+use Rattle.stores.proofs.Formatting.{headers-fit, left, left-head, left-header, left-node, left-none}
 use Rattle.byte_format.proofs.Laws.{made}
 use borrow.Author.Needs.{needs}
 use Rattle.byte_format.proofs.fill.Statement.{statement}
@@ -45,7 +45,7 @@ put-row-requires c κs =
 loop-holds : tie.Need-loop-holds Inv-loop μ-loop Inv-loop2 μ-loop2
 loop-holds c =
     let s = c .before .before .before .before .before .before .before in
-    (s .pre .inRange, omega arith, same-words _ _ (c .before .before .put-row .kept .0) ∙ s .pre .exact, refl, refl)
+    (s .pre .inRange, omega arith, same-words (c .before .before .put-row .last .0) (s .args .bytes .now) (c .before .before .put-row .kept .0) ∙ s .pre .exact, refl, refl)
 
 empty-header-requires : tie.Need-empty-header-requires Inv-loop μ-loop Inv-loop2 μ-loop2
 empty-header-requires c κs = omega arith
@@ -74,7 +74,7 @@ loop-again c =
     let p = c .before .before .put-row2 in (
       t .inv .0,
       omega arith,
-      same-words _ _ (p .kept .0) ∙ t .inv .2,
+      same-words (p .last .0) (t .bytes) (p .kept .0) ∙ t .inv .2,
       p .kept .0 ∙ t .inv .3,
       made (inRow (headerAt l (t .k)) (emptyHeader (t .k))) _ (t .bytes) (left-header l (t .k) (omega arith))
           (p .ensures
@@ -116,7 +116,7 @@ loop2-again c =
     let p = c .before .before .put in (
       omega arith,
       omega arith,
-      same-words _ _ (p .kept .0) ∙ t .inv .2,
+      same-words (p .last .0) (t .bytes) (p .kept .0) ∙ t .inv .2,
       p .kept .0 ∙ t .inv .3,
       made (write (t .i) 0 ∷ []) _ (t .bytes) (left-node l (t .i) (t .inv .0) (omega arith)) (p .ensures) ∙ t .inv .4,
     )
@@ -125,7 +125,6 @@ same-length : tie.Need-same-length Inv-loop μ-loop Inv-loop2 μ-loop2
 same-length c = c .before .before .loop2 .inv .3 ∙ c .before .before .before .before .before .before .loop .inv .3 ∙ c .before .before .before .before .before .before .before .before .before .put-row .kept .0
 
 returns : tie.Need-returns Inv-loop μ-loop Inv-loop2 μ-loop2
-unfolding run byteWrites
 returns c =
     let s = c .before .before .before .before .before .before .before .before .before .before .before .before .before .before in
     let l = s .args .l in
@@ -133,7 +132,8 @@ returns c =
     let h = c .before .before .before .before .before .before .loop in
     let t = c .before .before .loop2 in
     let e : nodesAt l ≡ headerAt l (h .k) = omega arith in
-    ap (λ (ps : List Write). run (byteWrites ps) (t .bytes)) (sym (left-none l (t .i) (omega arith)))
+    sym (bytes-nil (t .bytes))
+    ∙ ap (λ (ps : List Write). run (byteWrites ps) (t .bytes)) (sym (left-none l (t .i) (omega arith)))
     ∙ t .inv .4
     ∙ ap (λ (n : ℕ). run (byteWrites (left l n)) (h .bytes)) e
     ∙ h .inv .4

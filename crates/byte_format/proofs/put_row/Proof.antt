@@ -7,8 +7,8 @@ use native.Mathlib.Nat.{add-zero}
 use lib.ListN.{length, getD, drop}
 use Rattle.stores.specs.Stores.{Write, write, run, inRow}
 use Rattle.byte_form.specs.Bytes.{wordsIn, byteWrites}
-use Rattle.byte_form.proofs.Laws.{length-words, same-words}
-use Rattle.word_format.proofs.Formatting.{row-next, row-end}
+use Rattle.byte_form.proofs.Laws.{length-words, same-words, bytes-nil}
+use Rattle.stores.proofs.Formatting.{row-next, row-end}
 use Rattle.byte_format.proofs.Laws.{made}
 use Rattle.byte_format.proofs.put_row.Statement.{statement}
 use Rattle.byte_format.proofs.put_row.Tie as tie
@@ -66,11 +66,12 @@ same-length : tie.Need-same-length Inv-loop μ-loop
 same-length c = c .before .loop .inv .2
 
 returns : tie.Need-returns Inv-loop μ-loop
-unfolding run byteWrites
 returns c =
     let a = c .before .before .before .before .args in
     let t = c .before .loop in
-    sym (ap (λ (ps : List Write). run (byteWrites ps) (t .bytes)) (row-end (a .at + t .i) (t .i) (a .row .now) (omega arith))) ∙ t .inv .3
+    sym (bytes-nil (t .bytes))
+    ∙ sym (ap (λ (ps : List Write). run (byteWrites ps) (t .bytes)) (row-end (a .at + t .i) (t .i) (a .row .now) (omega arith)))
+    ∙ t .inv .3
 
 pub put-row-spec : {M : Type 1} → statement M
 put-row-spec =

@@ -6,10 +6,10 @@ use mathlib.Core.Logic.{⊎-elim}
 use native.Mathlib.Omega.{arith}
 use lib.ListN.{length}
 use borrow.Author.Needs.{needs}
-use Rattle.stores.specs.declared.Answer.the-variants as A
-use Rattle.stores.specs.Stores.{Write, Held, writesIn, stores, answerOf, more}
-use Rattle.stores.proofs.Laws.{answer-stopped}
-use Rattle.stores.proofs.Segments.{answer-first, answer-second, undone-short, done-whole}
+use Rattle.calls.specs.declared.Answer.the-variants as A
+use Rattle.calls.specs.Answers.{answerOf, more}
+use Rattle.stores.specs.Stores.{Write, Held, writesIn, stores}
+use Rattle.calls.proofs.Answers.{answer-stopped, answer-first, answer-second, undone-short, done-whole}
 use Rattle.byte_form.specs.Bytes.{appliedBytes}
 use Rattle.byte_form.proofs.Laws.{same-words}
 use Rattle.byte_form.proofs.Segments.{bytes-append, bytes-first}
@@ -59,7 +59,7 @@ clear-requires : tie.Need-clear-requires
 clear-requires c κs =
     let x = tried (c .before .before) in
     let s = start x in
-    record { inRange = s .pre .0 .inRange; exact = same-words _ _ (x .run-rows .kept .0) ∙ s .pre .0 .exact }
+    record { inRange = s .pre .0 .inRange; exact = same-words (x .run-rows .last .0) (s .args .bytes .now) (x .run-rows .kept .0) ∙ s .pre .0 .exact }
 
 enum-known-m : tie.Need-enum-known-m
 enum-known-m c = search needs

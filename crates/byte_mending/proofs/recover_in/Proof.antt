@@ -3,7 +3,8 @@
 use Prim.Native.Nat.{ℕ}
 use mathlib.Core.Path.{ap, sym, subst, _∙_}
 use borrow.Author.Needs.{needs}
-use Rattle.stores.specs.Stores.{Plan, Held, answerOf, writesIn}
+use Rattle.calls.specs.Answers.{answerOf}
+use Rattle.stores.specs.Stores.{Plan, Held, writesIn}
 use Rattle.byte_form.specs.Bytes.{wordsIn, bytesAfter}
 use Rattle.mending.proofs.Recovered.{recover-refused, recover-mends, recover-wipes}
 use Rattle.mending.proofs.Finding.{none-left, none-unwiped}

@@ -5,8 +5,9 @@ use mathlib.Core.Path.{_≡_, ap, ap₂, sym, _∙_}
 use mathlib.Core.List.{List, _++_}
 use native.Mathlib.Omega.{arith}
 use borrow.Author.Needs.{needs}
-use Rattle.stores.specs.declared.Answer.{Answer}
-use Rattle.stores.specs.Stores.{Write, Plan, run, stores, answerOf, writesIn, answerStores}
+use Rattle.calls.specs.declared.Answer.{Answer}
+use Rattle.calls.specs.Answers.{answerOf, answerStores}
+use Rattle.stores.specs.Stores.{Write, Plan, run, stores, writesIn}
 use Rattle.byte_form.specs.Bytes.{wordsIn, bytesAfter}
 use Rattle.byte_form.proofs.Laws.{same-words}
 use Rattle.recovery.specs.Plan.{recoverOf}
@@ -54,7 +55,7 @@ go-on-requires c κs =
     let x = erased m in
     let s = start x in (
       s .pre .0,
-      record { inRange = s .pre .1 .inRange; exact = same-words _ _ (m .make .kept .0) ∙ s .pre .1 .exact },
+      record { inRange = s .pre .1 .inRange; exact = same-words (m .make .last .0) (s .args .bytes .now) (m .make .kept .0) ∙ s .pre .1 .exact },
       omega (arith, ap answerStores (m .make .ensures .0), made-within (both x) (s .args .allowance)),
     )
 

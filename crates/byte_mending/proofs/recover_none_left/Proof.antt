@@ -4,8 +4,9 @@ use mathlib.Core.Path.{ap, ap₂, sym, subst, _∙_}
 use mathlib.Core.List.{List}
 use native.Mathlib.Omega.{arith}
 use borrow.Author.Needs.{needs}
-use Rattle.stores.specs.declared.Answer.{Answer}
-use Rattle.stores.specs.Stores.{Write, Held, writesIn, answerStores}
+use Rattle.calls.specs.declared.Answer.{Answer}
+use Rattle.calls.specs.Answers.{answerStores}
+use Rattle.stores.specs.Stores.{Write, Held, writesIn}
 use Rattle.byte_form.specs.Bytes.{wordsIn}
 use Rattle.byte_form.proofs.Laws.{same-words}
 use Rattle.mending.specs.Mending.{wipes, answerOn}
@@ -32,7 +33,7 @@ go-on-requires c κs =
     let x = c .before .before .before in
     let s = start x in (
       s .pre .0,
-      record { inRange = s .pre .1 .inRange; exact = same-words _ _ (x .run-rows .kept .0) ∙ s .pre .1 .exact },
+      record { inRange = s .pre .1 .inRange; exact = same-words (x .run-rows .last .0) (s .args .bytes .now) (x .run-rows .kept .0) ∙ s .pre .1 .exact },
       omega (arith, ap answerStores (x .run-rows .ensures .0), made-within (mends x) (s .args .allowance)),
     )
 

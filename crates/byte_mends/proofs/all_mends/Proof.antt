@@ -11,7 +11,7 @@ use Rattle.stores.proofs.Laws.{held-none, held-maybe}
 use Rattle.byte_form.specs.Bytes.{wordsIn}
 use Rattle.layout.specs.Words.{Laid, sizeOf}
 use Rattle.lists.specs.Decide.{View, viewOf, countIn}
-use Rattle.spans.specs.Spans.{Gridded}
+use Rattle.layout.specs.Cells.{Gridded}
 use Rattle.fitting.specs.Fitting.{fitIn, mendOf, countMend, walkIn, FaultFits}
 use Rattle.fitting.specs.declared.Walk.{Walk}
 use Rattle.fitting.proofs.Inside.{fit-fits}

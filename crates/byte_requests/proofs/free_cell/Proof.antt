@@ -9,8 +9,8 @@ use Rattle.byte_form.specs.Bytes.{wordsIn}
 use Rattle.layout.specs.declared.Layout.{Layout}
 use Rattle.layout.specs.Words.{Laid, Node, isFree}
 use Rattle.lists.specs.Decide.{viewOf}
-use Rattle.spans.specs.declared.Cell.{Cell}
-use Rattle.spans.specs.Spans.{Gridded}
+use Rattle.layout.specs.declared.Cell.{Cell}
+use Rattle.layout.specs.Cells.{Gridded}
 use Rattle.requests.specs.declared.Free.{Free}
 use Rattle.requests.specs.Requests.{nextCell, around, freeCells, nth}
 use Rattle.requests.proofs.Laws.{next-node, free-here, free-passed, free-later, free-none}

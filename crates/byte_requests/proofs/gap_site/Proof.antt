@@ -4,7 +4,7 @@ use mathlib.Core.Path.{ap, _∙_}
 use native.Mathlib.Omega.{arith}
 use borrow.Author.Needs.{needs}
 use Rattle.layout.specs.Words.{cellCount}
-use Rattle.spans.specs.declared.Cell.{Cell}
+use Rattle.layout.specs.declared.Cell.{Cell}
 use Rattle.requests.specs.declared.Site.{Site}
 use Rattle.requests.proofs.Sites.{gap-cell, gap-link, gap-found}
 use Rattle.byte_requests.proofs.gap_site.Statement.{statement}

@@ -6,7 +6,7 @@ use Rattle.byte_form.specs.Bytes.{wordsIn}
 use Rattle.layout.specs.Words.{isNode, isFree}
 use Rattle.layout.proofs.Laws.{is-node, answered-no, answered-yes}
 use Rattle.lists.specs.Decide.{viewOf}
-use Rattle.spans.specs.declared.Cell.{Cell}
+use Rattle.layout.specs.declared.Cell.{Cell}
 use Rattle.byte_requests.proofs.mark.Statement.{statement}
 use Rattle.byte_requests.proofs.mark.Tie as tie
 

@@ -4,7 +4,7 @@ use mathlib.Core.Path.{ap, _∙_}
 use native.Mathlib.Omega.{arith}
 use borrow.Author.Needs.{needs}
 use Rattle.layout.specs.Words.{cellCount}
-use Rattle.spans.specs.declared.Cell.{Cell}
+use Rattle.layout.specs.declared.Cell.{Cell}
 use Rattle.requests.specs.declared.Sited.the-variants.{At}
 use Rattle.requests.proofs.Sites.{member-past, member-node, member-links, member-found}
 use Rattle.byte_requests.proofs.member.Statement.{statement}

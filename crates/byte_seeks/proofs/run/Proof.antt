@@ -6,8 +6,9 @@ use native.Mathlib.Omega.{arith}
 use Rattle.byte_form.specs.Bytes.{wordsIn}
 use Rattle.layout.specs.Words.{Laid}
 use Rattle.lists.specs.Decide.{View, viewOf}
-use Rattle.spans.specs.declared.Cell.{Cell}
-use Rattle.spans.specs.Spans.{Gridded, cellIn}
+use Rattle.layout.specs.declared.Cell.{Cell}
+use Rattle.layout.specs.Cells.{Gridded}
+use Rattle.spans.specs.Spans.{cellIn}
 use Rattle.seeks.specs.declared.Seek.{Seek}
 use Rattle.seeks.specs.Seeks.{stepped, runWith, Inside}
 use Rattle.seeks.proofs.Walk.{run-arrived, run-spent, run-step, inside-here, inside-step}

@@ -8,7 +8,8 @@ use Rattle.byte_form.specs.Bytes.{wordsIn}
 use Rattle.layout.specs.Words.{Laid}
 use Rattle.lists.specs.Decide.{viewOf}
 use Rattle.spans.specs.declared.Round.{Round}
-use Rattle.spans.specs.Spans.{Gridded, rounded}
+use Rattle.layout.specs.Cells.{Gridded}
+use Rattle.spans.specs.Spans.{rounded}
 use Rattle.spans.proofs.Decided.{refused, denied, granted}
 use Rattle.spans.proofs.Ends.{Reduced, reduced-first, rounded-count, reduced-broken, reduced-next}
 use Rattle.byte_walks.proofs.both_spanned.Statement.{statement}

@@ -1,30 +1,40 @@
--- `byte_walks::cell_at` meets its contract. The words are half as many as the bytes, so their numbers fit.
+-- `byte_walks::cell_at` meets its contract. The words of a part are the store's, from the part's start on.
+use Prim.Native.Nat.{ℕ, _+_}
+use mathlib.Core.Path.{_≡_, ap, _∙_}
+use mathlib.Core.List.{List}
 use native.Mathlib.Omega.{arith}
-use borrow.Author.Needs.{needs}
-use Rattle.byte_form.proofs.Laws.{length-words}
+use native.Mathlib.Nat.{add-zero}
+use lib.ListN.{length, getD, length-drop}
+use lib.Seq.{getD-drop}
+use Rattle.byte_form.specs.Bytes.{wordsIn}
 use Rattle.byte_walks.proofs.cell_at.Statement.{statement}
 use Rattle.byte_walks.proofs.cell_at.Tie as tie
 
-word-requires : tie.Need-word-requires
-word-requires c κs = search needs
+from-requires : tie.Need-from-requires
+from-requires c κs = omega arith
 
-add-link : tie.Need-add-link
-add-link c = omega (arith, length-words (c .before .before .args .bytes .now))
+-- the words of the part
+part-at : (c : tie.After-from) (i : ℕ) → let a = c .before .before .args in
+    getD (wordsIn (c .from .result .now)) i 0 ≡ getD (wordsIn (a .bytes .now)) (a .a + i) 0
+part-at c i =
+    let a = c .before .before .args in
+    ap (λ (t : List ℕ). getD t i 0) (c .from .ensures) ∙ getD-drop (a .a) (wordsIn (a .bytes .now)) i 0
 
-link-requires : tie.Need-link-requires
-link-requires c κs = search needs
-
-add-link-2 : tie.Need-add-link-2
-add-link-2 c = omega (arith, length-words (c .before .before .before .args .bytes .now))
-
-link-requires-2 : tie.Need-link-requires-2
-link-requires-2 c κs = search needs
+links-of-requires : tie.Need-links-of-requires
+links-of-requires c κs =
+    let s = c .before .before in
+    omega (arith, s .pre, ap length (c .from .ensures), length-drop (s .args .a) (wordsIn (s .args .bytes .now)))
 
 returns : tie.Need-returns
 returns c =
     let f = c .before in
-    λ i. record { ident = f .before .word .ensures i; forward = f .link .ensures i; back = c .link2 .ensures i }
+    let a = f .before .before .args in
+    c .links-of .ensures
+    ∙ (λ i. record {
+      ident = (part-at f 0 ∙ ap (λ (n : ℕ). getD (wordsIn (a .bytes .now)) n 0) (add-zero (a .a))) i;
+      forward = part-at f 1 i;
+      back = part-at f 2 i;
+    })
 
 pub cell-at-spec : {M : Type 1} → statement M
-cell-at-spec =
-    tie.close (tie.spec word-requires add-link link-requires add-link-2 link-requires-2 returns)
+cell-at-spec = tie.close (tie.spec from-requires links-of-requires returns)

@@ -6,7 +6,7 @@ use lib.ListN.{getD}
 use borrow.Author.Needs.{needs}
 use Rattle.byte_form.specs.Bytes.{wordsIn}
 use Rattle.layout.specs.Words.{countWord}
-use Rattle.spans.proofs.Places.{head-words}
+use Rattle.layout.proofs.Places.{head-words}
 use Rattle.byte_walks.proofs.count.Statement.{statement}
 use Rattle.byte_walks.proofs.count.Tie as tie
 

@@ -1,5 +1,5 @@
--- `byte_walks::few_blank` meets its contract. The loop's invariant: the first i words are added up. The words are half as many as the bytes, so
--- their numbers fit.
+-- `byte_walks::few_blank` meets its contract. The loop's invariant: the first i words are added up. There are no more words than
+-- fit in memory, so their numbers fit.
 use Prim.Native.Nat.{_-_}
 use native.Mathlib.Omega.{arith}
 use Rattle.byte_form.specs.Bytes.{wordsIn}

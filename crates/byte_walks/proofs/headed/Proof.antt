@@ -1,7 +1,7 @@
 -- `byte_walks::headed` meets its contract.
 use mathlib.Core.Path.{ap, _∙_, sym}
 use borrow.Author.Needs.{needs}
-use Rattle.spans.specs.declared.Cell.{Cell}
+use Rattle.layout.specs.declared.Cell.{Cell}
 use Rattle.spans.proofs.Decided.{tested}
 use Rattle.byte_walks.proofs.headed.Statement.{statement}
 use Rattle.byte_walks.proofs.headed.Tie as tie

@@ -4,8 +4,8 @@ use native.Mathlib.Omega.{arith}
 use borrow.Author.Needs.{needs}
 use Rattle.byte_form.specs.Bytes.{wordsIn}
 use Rattle.layout.proofs.Laws.{cell-header}
-use Rattle.spans.specs.Spans.{cellOf}
-use Rattle.spans.proofs.Places.{head-words}
+use Rattle.layout.specs.Cells.{cellOf}
+use Rattle.layout.proofs.Places.{head-words}
 use Rattle.byte_walks.proofs.header.Statement.{statement}
 use Rattle.byte_walks.proofs.header.Tie as tie
 

@@ -3,8 +3,8 @@ use mathlib.Core.Path.{ap, _∙_}
 use native.Mathlib.Omega.{arith}
 use borrow.Author.Needs.{needs}
 use Rattle.byte_form.specs.Bytes.{wordsIn}
-use Rattle.spans.specs.Spans.{cellOf}
-use Rattle.spans.proofs.Places.{in-words}
+use Rattle.layout.specs.Cells.{cellOf}
+use Rattle.layout.proofs.Places.{in-words}
 use Rattle.byte_walks.proofs.node.Statement.{statement}
 use Rattle.byte_walks.proofs.node.Tie as tie
 

@@ -11,7 +11,8 @@ use Rattle.layout.specs.Words.{Laid, firstNode}
 use Rattle.lists.specs.Decide.{View, viewOf, countIn, allHold, used, unwiped}
 use Rattle.lists.proofs.Stepwise.{all-hold-none, all-hold-more}
 use Rattle.spans.specs.declared.Tally.{Tally}
-use Rattle.spans.specs.Spans.{Gridded, countSum}
+use Rattle.layout.specs.Cells.{Gridded}
+use Rattle.spans.specs.Spans.{countSum}
 use Rattle.spans.proofs.Decided.{denied, granted}
 use Rattle.spans.proofs.Counts.{sum-not, unwiped-not, pair-not, sum-sound, last-sound}
 use Rattle.byte_walks.proofs.sound_in.Statement.{statement}

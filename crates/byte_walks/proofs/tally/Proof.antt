@@ -9,8 +9,9 @@ use Rattle.byte_form.specs.Bytes.{wordsIn}
 use Rattle.layout.specs.declared.Layout.{Layout}
 use Rattle.layout.specs.Words.{Laid, linkWords, tailWords, firstNode, cellAt, recordAt}
 use Rattle.lists.specs.Decide.{View, viewOf, blankFrom}
-use Rattle.spans.specs.Spans.{Gridded, FewIn, tallied, tallyOf}
-use Rattle.spans.proofs.Places.{first-place, next-place, tail-words, words-few}
+use Rattle.layout.specs.Cells.{Gridded}
+use Rattle.spans.specs.Spans.{FewIn, tallied, tallyOf}
+use Rattle.layout.proofs.Places.{first-place, next-place, tail-words, words-few}
 use Rattle.spans.proofs.Counts.{tally-none, tally-more, tally-few}
 use Rattle.byte_walks.proofs.tally.Statement.{statement}
 use Rattle.byte_walks.proofs.tally.Tie as tie

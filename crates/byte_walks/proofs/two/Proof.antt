@@ -1,4 +1,4 @@
--- `byte_walks::two` meets its contract. The words are half as many as the bytes, so their numbers fit.
+-- `byte_walks::two` meets its contract. There are no more words than fit in memory, so their numbers fit.
 use native.Mathlib.Omega.{arith}
 use borrow.Author.Needs.{needs}
 use Rattle.byte_form.proofs.Laws.{length-words}

@@ -6,11 +6,11 @@ use mathlib.Core.Logic.{⊎-elim}
 use native.Mathlib.Omega.{arith}
 use lib.ListN.{length}
 use borrow.Author.Needs.{needs}
-use Rattle.stores.specs.declared.Answer.{Answer}
-use Rattle.stores.specs.declared.Answer.the-variants as A
-use Rattle.stores.specs.Stores.{Write, answerStores, more}
-use Rattle.stores.proofs.Laws.{answer-stopped}
-use Rattle.stores.proofs.Segments.{undone-short, done-whole}
+use Rattle.calls.specs.declared.Answer.{Answer}
+use Rattle.calls.specs.declared.Answer.the-variants as A
+use Rattle.calls.specs.Answers.{answerStores, more}
+use Rattle.stores.specs.Stores.{Write}
+use Rattle.calls.proofs.Answers.{answer-stopped, undone-short, done-whole}
 use Rattle.byte_form.specs.Bytes.{wordsIn}
 use Rattle.mending.specs.Mending.{wipes, answerOn}
 use Rattle.byte_wipes.specs.Wiping.{bytesOn}

@@ -7,14 +7,13 @@ use native.Mathlib.Omega.{arith}
 use native.Mathlib.Numerals.{add-one}
 use lib.ListN.{length, take}
 use borrow.Author.Needs.{needs}
-use Rattle.stores.specs.declared.Answer.the-variants as A
+use Rattle.calls.specs.declared.Answer.the-variants as A
 use Rattle.stores.specs.Stores.{Write, applied}
-use Rattle.stores.proofs.Laws.{answer-done}
-use Rattle.stores.proofs.Segments.{done-whole, undone-short}
+use Rattle.calls.proofs.Answers.{answer-done, done-whole, undone-short}
 use Rattle.byte_form.specs.Bytes.{wordsIn, appliedBytes}
 use Rattle.byte_form.proofs.Laws.{same-words, words-run, bytes-none, bytes-all}
 use Rattle.layout.specs.Words.{firstNode, cellCount, Laid}
-use Rattle.spans.specs.Spans.{Gridded}
+use Rattle.layout.specs.Cells.{Gridded}
 use Rattle.mending.specs.Mending.{wipesOf, wipesFrom, wipes}
 use Rattle.mending.proofs.Making.{Making, making-none, making-all, making-on, making-stopped}
 use Rattle.mending.proofs.Wiping.{wipes-next, wipes-none, wipes-kept}
@@ -139,14 +138,14 @@ loop-again c =
     let y = wordsIn (x .wipe-node .last .0) in
     let bytes : x .wipe-node .last .0 ≡ appliedBytes (all s) (t .loop .made + length (own x)) (a .bytes .now) =
     x .wipe-node .ensures .1 ∙ ap (appliedBytes (own x) left) (i .5) ∙ bytes-on (own x) (behind x) (making x) (a .bytes .now) left (d .0) in
-    let words : y ≡ applied (own x) left w = ap wordsIn (x .wipe-node .ensures .1) ∙ words-run (take left (own x)) (t .loop .bytes) in
+    let read : y ≡ applied (own x) left w = ap wordsIn (x .wipe-node .ensures .1) ∙ words-run (take left (own x)) (t .loop .bytes) in
     let kept : behind x ≡ wipesFrom l y (t .loop .c + 1) m =
     ap (λ (b : ℕ). wipesFrom l w b m) (add-one (t .loop .c))
     ∙ sym (wipes-kept l w (t .loop .c) low left m)
-    ∙ ap (λ (v : List ℕ). wipesFrom l v (suc (t .loop .c)) m) (sym words)
+    ∙ ap (λ (v : List ℕ). wipesFrom l v (suc (t .loop .c)) m) (sym read)
     ∙ ap (λ (b : ℕ). wipesFrom l y b m) (sym (add-one (t .loop .c))) in
     let same = x .wipe-node .kept .0 in (
-      (i .0 .0, record { inRange = i .0 .1 .inRange; exact = same-words _ _ same ∙ i .0 .1 .exact }),
+      (i .0 .0, record { inRange = i .0 .1 .inRange; exact = same-words (x .wipe-node .last .0) (t .loop .bytes) same ∙ i .0 .1 .exact }),
       omega (arith, low),
       omega (arith, high (x .before .before)),
       omega (arith, d, i .3),

@@ -5,14 +5,15 @@ use mathlib.Core.List.{List}
 use native.Mathlib.Omega.{arith}
 use lib.ListN.{length, replicate}
 use borrow.Author.Needs.{needs}
-use Rattle.stores.specs.Stores.{Write, inRow, stores, answerOf}
+use Rattle.calls.specs.Answers.{answerOf}
+use Rattle.stores.specs.Stores.{Write, inRow, stores}
 use Rattle.byte_form.specs.Bytes.{wordsIn, appliedBytes}
 use Rattle.layout.specs.Words.{tailWords, recordAt, linkWords, isFree}
 use Rattle.layout.proofs.Laws.{answered-yes, answered-no}
 use Rattle.lists.specs.Decide.{viewOf, blankFrom}
 use Rattle.recovery.specs.Fits.{wrong}
-use Rattle.spans.specs.declared.Cell.{Cell}
-use Rattle.spans.proofs.Places.{tail-words, words-few}
+use Rattle.layout.specs.declared.Cell.{Cell}
+use Rattle.layout.proofs.Places.{tail-words, words-few}
 use Rattle.mending.specs.Mending.{wipesOf}
 use Rattle.mending.proofs.Wiping.{wipes-skip, wipes-free, wipes-blank}
 use Rattle.byte_wipes.proofs.Making.{none-made}

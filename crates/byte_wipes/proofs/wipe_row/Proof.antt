@@ -5,9 +5,9 @@ use mathlib.Core.List.{List, [], _∷_}
 use mathlib.Core.Logic.{⊎-elim}
 use native.Mathlib.Omega.{arith}
 use lib.ListN.{length, replicate, set}
-use Rattle.stores.specs.declared.Answer.the-variants as A
+use Rattle.calls.specs.declared.Answer.the-variants as A
 use Rattle.stores.specs.Stores.{Write, write, inRow, run}
-use Rattle.stores.proofs.Laws.{answer-done}
+use Rattle.calls.proofs.Answers.{answer-done}
 use Rattle.byte_form.specs.Bytes.{wordsIn, byteWrites, appliedBytes}
 use Rattle.byte_form.proofs.Laws.{length-words, same-words, words-run, bytes-none, bytes-all}
 use Rattle.recovery.specs.Fits.{wrong}

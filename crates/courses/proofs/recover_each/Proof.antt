@@ -5,7 +5,7 @@ use mathlib.Core.Path.{_≡_, refl, ap, _∙_}
 use mathlib.Core.List.{List}
 use native.Mathlib.Omega.{arith}
 use lib.ListN.{length, take}
-use Rattle.stores.specs.Stores.{answerOf}
+use Rattle.calls.specs.Answers.{answerOf}
 use Rattle.recovery.specs.Plan.{recoverPlan}
 use Rattle.courses.specs.Course.{wordsThrough}
 use Rattle.courses.proofs.Each.{each-none, each-more, each-all, each-last, each-demanded}

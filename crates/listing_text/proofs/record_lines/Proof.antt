@@ -7,7 +7,7 @@ use native.Mathlib.Omega.{arith}
 use lib.ListN.{getD, drop}
 use Rattle.layout.specs.Words.{Node}
 use Rattle.lists.specs.Decide.{sequenceOf}
-use Rattle.spans.specs.declared.Cell.{Cell}
+use Rattle.layout.specs.declared.Cell.{Cell}
 use Rattle.requests.proofs.Sites.{gap-cell, member-node}
 use Rattle.writing.proofs.Writing.{Writing, writing-start, writing-room, writing-step, writing-done, writing-length}
 use Rattle.listing_text.specs.Listing.{recordLine, recordLines}

@@ -1,13 +1,16 @@
+-- Made from crates/byte_clears/proofs/clear/Proof.antt by tools/twins.
 -- `word_clears::clear`: at cell i the first n clears are made.
 use Prim.Native.Nat.{ℕ, _-_, _≤_}
 use mathlib.Core.Path.{_≡_, refl, ap, ap₂, sym, _∙_}
-use mathlib.Core.List.{List}
+use mathlib.Core.List.{List, [], _∷_}
 use mathlib.Core.Logic.{⊎-elim}
 use native.Mathlib.Omega.{arith}
 use lib.ListN.{length}
-use Rattle.stores.specs.declared.Answer.the-variants as A
-use Rattle.stores.specs.Stores.{Write, store, applied}
-use Rattle.stores.proofs.Laws.{applied-none, applied-more, applied-all, answer-stopped, answer-done}
+use Rattle.calls.specs.declared.Answer.the-variants as A
+use Rattle.stores.specs.Stores.{Write, run}
+use Rattle.calls.proofs.Answers.{answer-stopped, answer-done}
+use Rattle.word_form.specs.Words.{wordWrites, appliedWords}
+use Rattle.word_form.proofs.Laws.{same-words, words-none, words-more, words-all}
 use Rattle.layout.specs.Words.{firstNode, cellCount}
 use Rattle.mending.specs.Mending.{clears}
 use Rattle.mending.proofs.Clearing.{Clearing, clearing-none, clearing-one, clearing-skip, clearing-all}
@@ -17,7 +20,7 @@ use Rattle.word_clears.proofs.clear.Tie as tie
 abbrev Inv-loop : tie.InvT-loop
 Inv-loop words₀ idents l allowance n₀ i₀ end words n i =
     (firstNode l ≤ i) × (i ≤ end) × (end ≡ cellCount l) × (n ≤ allowance) × Clearing l idents n i
-    × (words ≡ applied (clears l idents) n words₀) × (length words ≡ length words₀)
+    × (words ≡ appliedWords (clears l idents) n words₀) × (length words ≡ length words₀)
 
 abbrev μ-loop : tie.MeasureT-loop
 μ-loop words₀ idents l allowance n₀ i₀ end words n i = end - i
@@ -43,7 +46,7 @@ loop-holds c =
       c .cell-count .ensures,
       omega arith,
       rw (c .before .first-node .ensures) (clearing-none (s .args .l) (s .args .idents .now)),
-      sym (applied-none (all s) (s .args .words .now)),
+      sym (words-none (all s) (s .args .words .now)),
       refl,
     )
 
@@ -68,14 +71,14 @@ returns c =
     let s = start t in
     let p = clearing-one (s .args .l) (s .args .idents .now) (t .loop .n) (t .loop .i) (t .loop .inv .4) (omega arith) (sym (c .before .before .in-use .ensures) ∙ c .before .if1 .taken) in (
       ap A.Stopped (c .if2 .taken) ∙ answer-stopped (all s) (s .args .allowance) (omega (arith, p .0, c .if2 .taken)),
-      t .loop .inv .5 ∙ ap (λ (m : ℕ). applied (all s) m (s .args .words .now)) (c .if2 .taken),
+      t .loop .inv .5 ∙ ap (λ (m : ℕ). appliedWords (all s) m (s .args .words .now)) (c .if2 .taken),
     )
 
 step-requires : tie.Need-step-requires Inv-loop μ-loop
 step-requires c κs =
     let t = c .before .before .before .before .before .before in
     let s = start t in
-    (record { inRange = s .pre .inRange; exact = t .loop .inv .6 ∙ s .pre .exact }, record { low = t .loop .inv .0; high = omega arith })
+    (record { inRange = s .pre .inRange; exact = same-words (t .loop .words) (s .args .words .now) (t .loop .inv .6) ∙ s .pre .exact }, record { low = t .loop .inv .0; high = omega arith })
 
 add-n : tie.Need-add-n Inv-loop μ-loop
 add-n c = omega arith
@@ -99,7 +102,9 @@ loop-again c =
       t .loop .inv .2,
       omega arith,
       p .2,
-      w .3 .ensures ∙ ap₂ store (t .loop .inv .5) (sym (p .1)) ∙ sym (applied-more (all s) (t .loop .n) (s .args .words .now) (p .0)),
+      w .3 .ensures
+          ∙ ap₂ (λ (q : Write) (b : List ℕ). run (wordWrites (q ∷ [])) b) (sym (p .1)) (t .loop .inv .5)
+          ∙ sym (words-more (all s) (t .loop .n) (s .args .words .now) (p .0)),
       w .3 .kept .0 ∙ t .loop .inv .6,
     ))
     (λ w. rw (w .1, w .2) (
@@ -122,7 +127,7 @@ returns-2 c =
     let s = start t in
     let e = clearing-all (s .args .l) (s .args .idents .now) (t .loop .n) (t .loop .i) (t .loop .inv .4) (omega arith) in (
       ap A.Done e ∙ answer-done (all s) (s .args .allowance) (omega (arith, e)),
-      t .loop .inv .5 ∙ applied-all (all s) (t .loop .n) (s .args .words .now) (omega (arith, e)) ∙ sym (applied-all (all s) (s .args .allowance) (s .args .words .now) (omega (arith, e))),
+      t .loop .inv .5 ∙ words-all (all s) (t .loop .n) (s .args .words .now) (omega (arith, e)) ∙ sym (words-all (all s) (s .args .allowance) (s .args .words .now) (omega (arith, e))),
     )
 
 pub clear-spec : {M : Type 1} → statement M

@@ -1,14 +1,16 @@
+-- Made from crates/byte_clears/proofs/erase/Proof.antt by tools/twins.
 -- `word_clears::erase` meets its contract. The loop's invariant: what is still to be erased makes the column all that is asked.
 use Prim.Native.Nat.{ℕ, _-_, _<_}
 use mathlib.Core.Path.{_≡_, refl, ap, _∙_, sym}
 use mathlib.Core.Bool.{true, cond}
 use native.Mathlib.Omega.{arith}
 use lib.ListN.{set}
+use Rattle.word_form.specs.Words.{wordsIn}
 use Rattle.layout.specs.Words.{mostCells, wornIdent, Laid, isNode}
 use Rattle.layout.proofs.Laws.{is-node, answered-no, answered-yes}
 use Rattle.lists.specs.Decide.{View, viewOf}
-use Rattle.spans.specs.declared.Cell.{Cell}
-use Rattle.spans.specs.Spans.{Gridded}
+use Rattle.layout.specs.declared.Cell.{Cell}
+use Rattle.layout.specs.Cells.{Gridded}
 use Rattle.mending.specs.Mending.{linkBy, erasedAlong}
 use Rattle.mending.proofs.Erasing.{erased-on, erased-out, erased-none}
 use Rattle.word_clears.proofs.erase.Statement.{statement}
@@ -16,8 +18,8 @@ use Rattle.word_clears.proofs.erase.Tie as tie
 
 abbrev Inv-loop : tie.InvT-loop
 Inv-loop idents₀ words l g back first n y₀ more₀ idents y more =
-    (Gridded l g × Laid l words)
-    × (erasedAlong l (viewOf l words) back more y idents ≡ erasedAlong l (viewOf l words) back more₀ y₀ idents₀)
+    (Gridded l g × Laid l (wordsIn words))
+    × (erasedAlong l (viewOf l (wordsIn words)) back more y idents ≡ erasedAlong l (viewOf l (wordsIn words)) back more₀ y₀ idents₀)
 
 abbrev μ-loop : tie.MeasureT-loop
 μ-loop idents₀ words l g back first n y₀ more₀ idents y more = more
@@ -27,7 +29,7 @@ abbrev start : tie.At-loop Inv-loop μ-loop → tie.Start Inv-loop μ-loop
 start c = c .before .before
 
 abbrev view : tie.Start Inv-loop μ-loop → View
-view s = viewOf (s .args .l) (s .args .words .now)
+view s = viewOf (s .args .l) (wordsIn (s .args .words .now))
 
 loop-holds : tie.Need-loop-holds Inv-loop μ-loop
 loop-holds c = (c .before .pre, refl)

@@ -1,3 +1,4 @@
+-- Made from crates/byte_clears/proofs/erase_all/Proof.antt by tools/twins.
 -- `word_clears::erase_all` meets its contract. The loop's invariant: what is still to be erased makes the column all that is asked.
 use Prim.Native.Nat.{ℕ, _+_, _-_, _≤_}
 use mathlib.Core.Path.{_≡_, ap, sym, _∙_}
@@ -5,10 +6,11 @@ use mathlib.Core.List.{List}
 use mathlib.Core.Bool.{Bool, false, cond}
 use native.Mathlib.Omega.{arith}
 use lib.ListN.{getD}
+use Rattle.word_form.specs.Words.{wordsIn}
 use Rattle.layout.specs.Words.{Laid}
 use Rattle.lists.specs.Decide.{View, viewOf}
-use Rattle.spans.specs.declared.Cell.{Cell}
-use Rattle.spans.specs.Spans.{Gridded}
+use Rattle.layout.specs.declared.Cell.{Cell}
+use Rattle.layout.specs.Cells.{Gridded}
 use Rattle.fitting.specs.Fitting.{membersBy}
 use Rattle.mending.specs.Mending.{erased, linkBy, erasedAlong, erasedFrom}
 use Rattle.mending.proofs.Erasing.{erased-members}
@@ -19,8 +21,8 @@ use Rattle.word_clears.proofs.erase_all.Tie as tie
 abbrev Inv-loop : tie.InvT-loop
 Inv-loop idents₀ words l g back k₀ idents k =
     let ways : ℕ → Bool = λ k. getD back k false in
-    (Gridded l g × Laid l words)
-    × (erasedFrom l (viewOf l words) ways k (l .lists - k) idents ≡ erasedFrom l (viewOf l words) ways 0 (l .lists) idents₀)
+    (Gridded l g × Laid l (wordsIn words))
+    × (erasedFrom l (viewOf l (wordsIn words)) ways k (l .lists - k) idents ≡ erasedFrom l (viewOf l (wordsIn words)) ways 0 (l .lists) idents₀)
     × (k ≤ l .lists)
 
 abbrev μ-loop : tie.MeasureT-loop
@@ -31,7 +33,7 @@ abbrev start : tie.At-loop Inv-loop μ-loop → tie.Start Inv-loop μ-loop
 start c = c .before .before
 
 abbrev view : tie.Start Inv-loop μ-loop → View
-view s = viewOf (s .args .l) (s .args .words .now)
+view s = viewOf (s .args .l) (wordsIn (s .args .words .now))
 
 abbrev ways : tie.Start Inv-loop μ-loop → ℕ → Bool
 ways s k = getD (s .args .t5) k false

@@ -1,3 +1,4 @@
+-- Made from crates/byte_clears/proofs/erase_two/Proof.antt by tools/twins.
 -- `word_clears::erase_two` meets its contract. The loop's invariant: what is still to be erased makes the column all that is asked.
 use Prim.Native.Nat.{ℕ, _-_, _<_}
 use mathlib.Core.Path.{_≡_, ap, ap₂, _∙_, sym}
@@ -5,12 +6,14 @@ use mathlib.Core.List.{List}
 use mathlib.Core.Bool.{Bool, true, cond}
 use native.Mathlib.Omega.{arith}
 use lib.ListN.{set}
+use Rattle.word_form.specs.Words.{wordsIn}
 use Rattle.layout.specs.declared.Layout.{Layout}
 use Rattle.layout.specs.Words.{mostCells, wornIdent, Laid, isNode}
 use Rattle.layout.proofs.Laws.{is-node, answered-yes}
 use Rattle.lists.specs.Decide.{View, viewOf}
-use Rattle.spans.specs.declared.Cell.{Cell}
-use Rattle.spans.specs.Spans.{Gridded, cellIn}
+use Rattle.layout.specs.declared.Cell.{Cell}
+use Rattle.layout.specs.Cells.{Gridded}
+use Rattle.spans.specs.Spans.{cellIn}
 use Rattle.fitting.specs.Fitting.{membersBy}
 use Rattle.mending.specs.Mending.{erased, linkBy, erasedAlong}
 use Rattle.mending.proofs.Erasing.{erased-members, erased-both}
@@ -23,8 +26,8 @@ left l v back other n y z idents = erasedAlong l v other n z (erasedAlong l v ba
 
 abbrev Inv-loop : tie.InvT-loop
 Inv-loop idents₀ words l g k back j other y₀ z₀ more₀ idents y z more =
-    let v = viewOf l words in
-    (Gridded l g × Laid l words)
+    let v = viewOf l (wordsIn words) in
+    (Gridded l g × Laid l (wordsIn words))
     × (left l v back other more y z idents ≡ erased (membersBy l v other j) (erased (membersBy l v back k) idents₀))
 
 abbrev μ-loop : tie.MeasureT-loop
@@ -35,7 +38,7 @@ abbrev start : tie.At-loop Inv-loop μ-loop → tie.Start Inv-loop μ-loop
 start c = c .before .before .before .before .before .before
 
 abbrev view : tie.Start Inv-loop μ-loop → View
-view s = viewOf (s .args .l) (s .args .words .now)
+view s = viewOf (s .args .l) (wordsIn (s .args .words .now))
 
 header-requires : tie.Need-header-requires Inv-loop μ-loop
 header-requires c κs = let p = c .before .pre in (p .1, p .2)

@@ -1,19 +1,21 @@
+-- Made from crates/byte_clears/proofs/read_nodes/Proof.antt by tools/twins.
 -- `word_clears::read_nodes` meets its contract. The loop's invariant: the nodes below c are read.
 use Prim.Native.Nat.{_-_, _≤_, _<_}
 use mathlib.Core.Path.{_≡_, ap, _∙_, sym}
 use native.Mathlib.Omega.{arith}
 use lib.ListN.{length, length-set}
+use Rattle.word_form.specs.Words.{wordsIn}
 use Rattle.layout.specs.Words.{mostCells, firstNode, cellCount, Laid}
 use Rattle.lists.specs.Decide.{viewOf}
-use Rattle.spans.specs.declared.Cell.{Cell}
-use Rattle.spans.specs.Spans.{Gridded}
+use Rattle.layout.specs.declared.Cell.{Cell}
+use Rattle.layout.specs.Cells.{Gridded}
 use Rattle.mending.proofs.Erasing.{ReadTo, read-more}
 use Rattle.word_clears.proofs.read_nodes.Statement.{statement}
 use Rattle.word_clears.proofs.read_nodes.Tie as tie
 
 abbrev Inv-loop : tie.InvT-loop
 Inv-loop idents₀ words l g c₀ idents c =
-    (Gridded l g × Laid l words) × (firstNode l ≤ c) × (c ≤ cellCount l) × ReadTo l (viewOf l words) idents c × (mostCells ≡ length idents)
+    (Gridded l g × Laid l (wordsIn words)) × (firstNode l ≤ c) × (c ≤ cellCount l) × ReadTo l (viewOf l (wordsIn words)) idents c × (mostCells ≡ length idents)
 
 abbrev μ-loop : tie.MeasureT-loop
 μ-loop idents₀ words l g c₀ idents c = g .to - c
@@ -55,7 +57,7 @@ loop-again c =
       i .0,
       omega (arith, i .1),
       omega (arith, high (c .before)),
-      read-more (a .l) (viewOf (a .l) (a .words .now)) (t .loop .idents) (t .loop .c) (c .node .result .ident)
+      read-more (a .l) (viewOf (a .l) (wordsIn (a .words .now))) (t .loop .idents) (t .loop .c) (c .node .result .ident)
           (omega (arith, entry (c .before), i .4)) (ap (λ (x : Cell). x .ident) (c .node .ensures)) (i .3),
       i .4 ∙ sym (length-set (t .loop .idents) (t .loop .c) (c .node .result .ident)),
     )

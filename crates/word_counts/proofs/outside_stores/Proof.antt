@@ -1,9 +1,11 @@
+-- Made from crates/byte_counts/proofs/outside_stores/Proof.antt by tools/twins.
 -- `word_counts::outside_stores`: at cell c the stores to the nodes before it are counted, and the count with those left is all.
 use Prim.Native.Nat.{_+_, _-_, _≤_, _<_}
 use mathlib.Core.Path.{_≡_, ap}
 use native.Mathlib.Omega.{arith}
+use Rattle.word_form.specs.Words.{wordsIn}
 use Rattle.layout.specs.Words.{mostCells, firstNode, cellCount, Laid}
-use Rattle.spans.specs.Spans.{Gridded}
+use Rattle.layout.specs.Cells.{Gridded}
 use Rattle.mending.specs.Mending.{outsideFrom}
 use Rattle.mending.proofs.Counting.{outsideLeft, outside-all, outside-next, outside-none, outside-few}
 use Rattle.word_counts.proofs.outside_stores.Statement.{statement}
@@ -11,8 +13,8 @@ use Rattle.word_counts.proofs.outside_stores.Tie as tie
 
 abbrev Inv-loop : tie.InvT-loop
 Inv-loop words idents l g count₀ c₀ count c =
-    (Gridded l g × Laid l words) × (firstNode l ≤ c) × (c ≤ cellCount l)
-    × (count + outsideLeft l words idents c ≡ outsideFrom l words idents (firstNode l) (l .nodes))
+    (Gridded l g × Laid l (wordsIn words)) × (firstNode l ≤ c) × (c ≤ cellCount l)
+    × (count + outsideLeft l (wordsIn words) idents c ≡ outsideFrom l (wordsIn words) idents (firstNode l) (l .nodes))
 
 abbrev μ-loop : tie.MeasureT-loop
 μ-loop words idents l g count₀ c₀ count c = g .to - c
@@ -25,7 +27,7 @@ loop-holds : tie.Need-loop-holds Inv-loop μ-loop
 loop-holds c =
     let s = c .before in
     let l = s .args .l in
-    let w = s .args .words .now in
+    let w = wordsIn (s .args .words .now) in
     let idents = s .args .idents .now in
     let f = s .pre .0 .from in
     (s .pre, omega (arith, f), omega (arith, f), omega (arith, ap (outsideLeft l w idents) f, outside-all l w idents))
@@ -48,8 +50,8 @@ node-stores-requires c κs = let i = c .before .before .before .loop .inv in (i 
 
 -- the count with the stores to cell c, and with those behind it
 on : (c : tie.After-node-stores Inv-loop μ-loop) → let t = c .before .before .before .before in let a = start t .args in
-    t .loop .count + c .node-stores .result + outsideLeft (a .l) (a .words .now) (a .idents .now) (t .loop .c + 1)
-    ≡ outsideFrom (a .l) (a .words .now) (a .idents .now) (firstNode (a .l)) (a .l .nodes)
+    t .loop .count + c .node-stores .result + outsideLeft (a .l) (wordsIn (a .words .now)) (a .idents .now) (t .loop .c + 1)
+    ≡ outsideFrom (a .l) (wordsIn (a .words .now)) (a .idents .now) (firstNode (a .l)) (a .l .nodes)
 on c =
     let t = c .before .before .before .before in
     let a = start t .args in
@@ -57,7 +59,7 @@ on c =
       arith,
       t .loop .inv .3,
       c .node-stores .ensures,
-      outside-next (a .l) (a .words .now) (a .idents .now) (t .loop .c) (high (c .before .before)),
+      outside-next (a .l) (wordsIn (a .words .now)) (a .idents .now) (t .loop .c) (high (c .before .before)),
     )
 
 add-count : tie.Need-add-count Inv-loop μ-loop
@@ -65,7 +67,7 @@ add-count c =
     let t = c .before .before .before .before in
     let a = start t .args in
     let r = t .loop .inv .0 .1 .inRange in
-    omega (arith, on c, outside-few (a .l) (a .words .now) r (a .idents .now) (firstNode (a .l)) (a .l .nodes), r .nodes)
+    omega (arith, on c, outside-few (a .l) (wordsIn (a .words .now)) r (a .idents .now) (firstNode (a .l)) (a .l .nodes), r .nodes)
 
 add-c : tie.Need-add-c Inv-loop μ-loop
 add-c c = omega (arith, entry (c .before .before))
@@ -83,7 +85,7 @@ returns c =
     let t = c .before .before in
     let a = start t .args in
     let i = t .loop .inv in
-    omega (arith, i .3, outside-none (a .l) (a .words .now) (a .idents .now) (t .loop .c) (omega (arith, c .if1 .left, i .0 .0 .to)))
+    omega (arith, i .3, outside-none (a .l) (wordsIn (a .words .now)) (a .idents .now) (t .loop .c) (omega (arith, c .if1 .left, i .0 .0 .to)))
 
 pub outside-stores-spec : {M : Type 1} → statement M
 outside-stores-spec =

@@ -1,17 +1,22 @@
--- `delete_at`: the links and the wiping of the record are two segments of one run.
-use Prim.Native.Nat.{ℕ, _+_, _-_, _≤_}
+-- Made from crates/byte_edits/proofs/delete_at/Proof.antt by tools/twins.
+-- `word_edits::delete_at`: the links and the wiping of the record are two segments of one run.
+use Prim.Native.Nat.{ℕ, _+_, _*_, _-_, _≤_}
 use mathlib.Core.Path.{_≡_, ap, ap₂, sym, subst, _∙_}
 use mathlib.Core.List.{List, _++_}
 use mathlib.Core.Logic.{⊎-elim}
 use native.Mathlib.Omega.{arith}
 use native.Mathlib.Nat.{add-sub-cancel-left}
-use lib.ListN.{length, replicate, length-append}
+use lib.ListN.{length, take, replicate, length-append}
 use lib.Seq.{length-take-le}
 use borrow.Author.Needs.{needs}
-use Rattle.stores.specs.declared.Answer.the-variants as A
-use Rattle.stores.specs.Stores.{Write, Planned, stores, applied, answerOf}
-use Rattle.stores.proofs.Laws.{listed-planned, answer-stopped, answer-done}
-use Rattle.stores.proofs.Segments.{applied-append, applied-first, undone-short, done-whole}
+use Rattle.calls.specs.declared.Answer.the-variants as A
+use Rattle.calls.specs.Answers.{answerOf}
+use Rattle.stores.specs.Stores.{Write, Planned, stores}
+use Rattle.calls.proofs.Answers.{answer-stopped, answer-done, undone-short, done-whole}
+use Rattle.stores.proofs.Laws.{listed-planned}
+use Rattle.word_form.specs.Words.{wordSize, wordsIn, appliedWords}
+use Rattle.word_form.proofs.Laws.{same-words, length-words, words-take, words-zeros}
+use Rattle.word_form.proofs.Segments.{words-append, words-first}
 use Rattle.layout.specs.Words.{mostWidth}
 use Rattle.lists.specs.Lists.{blankAsked}
 use Rattle.edits.specs.Edits.{deleteLinks, deleteWrites}
@@ -27,7 +32,7 @@ abbrev links : tie.After-run → List Write
 links c = let a = start c .args in deleteLinks (a .l) (a .list) (a .t)
 
 tried : (c : tie.After-run) → let a = start c .args in
-    (c .run .result ≡ answerOf (stores (links c)) (a .allowance)) × (c .run .last .0 ≡ applied (links c) (a .allowance) (a .words .now))
+    (c .run .result ≡ answerOf (stores (links c)) (a .allowance)) × (c .run .last .0 ≡ appliedWords (links c) (a .allowance) (a .words .now))
 tried c = rw (c .before .before .before .before .before .before .delete-links .ensures .same) at (c .run .ensures)
 
 -- the stores that wipe the record
@@ -64,7 +69,7 @@ returns c =
     let a = start x .args in
     let h = undone-short (links x) (a .allowance) (λ n q. ⊎-elim (λ z. absurd (omega arith)) (λ z. absurd (omega arith)) (rw (tried x .0 ∙ q) at (c .match .keys2))) in (
       answer-stopped (links x ++ wipes x) (a .allowance) (omega (arith, h, length-append (links x) (wipes x))),
-      tried x .1 ∙ sym (applied-first (links x) (wipes x) (a .allowance) (a .words .now) (omega (arith, h))),
+      tried x .1 ∙ sym (words-first (links x) (wipes x) (a .allowance) (a .words .now) (omega (arith, h))),
     )
 
 -- the links are made: all of them
@@ -86,6 +91,9 @@ node-words-requires c κs = search needs
 sub-size : tie.Need-sub-size
 sub-size c = omega (arith, c .node-words .ensures)
 
+mul-size : tie.Need-mul-size
+mul-size c = omega (arith, c .node-words .ensures, start (linked (c .before .before .before)) .pre .0 .inRange .tail)
+
 array-share-prefix-zeros : tie.Need-array-share-prefix-zeros
 array-share-prefix-zeros c =
     omega (arith, c .before .node-words .ensures, start (linked (c .before .before .before .before)) .pre .0 .inRange .tail)
@@ -95,7 +103,7 @@ abbrev after : tie.After-zeros → tie.After-n
 after c = c .before .before .before .before .before
 
 slice-aggregate-put-row : tie.Need-slice-aggregate-put-row
-slice-aggregate-put-row c = sym (length-take-le _ (replicate mostWidth 0) (array-share-prefix-zeros (c .before)))
+slice-aggregate-put-row c = sym (length-take-le _ (replicate (wordSize * mostWidth) 0) (array-share-prefix-zeros (c .before)))
 
 sub-put-row : tie.Need-sub-put-row
 sub-put-row c = omega (arith, whole (after c))
@@ -104,20 +112,26 @@ put-row-requires : tie.Need-put-row-requires
 put-row-requires c κs =
     let x = linked (after c) in
     let p = start x .pre in
+    let size = wordSize * (c .before .before .node-words .result - 3) in
     omega (
       arith,
       slice-aggregate-put-row c,
+      length-words (take size (replicate (wordSize * mostWidth) 0)),
       c .before .before .node-words .ensures,
       c .before .before .before .node .ensures,
       record-fits (p .0),
-      x .run .kept .0,
+      same-words (x .run .last .0) (start x .args .words .now) (x .run .kept .0),
       p .1,
     )
 
--- the zeros are as many as the record has words; what was made of the wiping
+-- the words of a part of the zeros are zeros
+zeros : (n : ℕ) → wordsIn (take (wordSize * n) (replicate (wordSize * mostWidth) 0)) ≡ take n (replicate mostWidth 0)
+zeros n = words-take n (replicate (wordSize * mostWidth) 0) ∙ ap (take n) (words-zeros mostWidth)
+
+-- they are as many as the record has words; what was made of the wiping
 wiped : (c : tie.After-put-row) → let x = linked (after (c .before)) in let a = start x .args in
     (c .put-row .result ≡ answerOf (stores (wipes x)) (a .allowance - after (c .before) .n .given .0 .0))
-    × (c .put-row .last .0 ≡ applied (links x ++ wipes x) (a .allowance) (a .words .now))
+    × (c .put-row .last .0 ≡ appliedWords (links x ++ wipes x) (a .allowance) (a .words .now))
 wiped c =
     let x = linked (after (c .before)) in
     let a = start x .args in
@@ -125,12 +139,13 @@ wiped c =
       c .before .before .before .before .node .ensures,
       c .before .before .before .node-words .ensures,
       add-sub-cancel-left,
+      zeros,
       blank-row (start x .pre .0),
     ) at (c .put-row .ensures) in (
       r .0,
       r .1
-          ∙ ap₂ (λ (n : ℕ) (w : List ℕ). applied (wipes x) (a .allowance - n) w) (whole (after (c .before)) .1) (tried x .1)
-          ∙ sym (applied-append (links x) (wipes x) (a .allowance) (a .words .now)),
+          ∙ ap₂ (λ (n : ℕ) (w : List ℕ). appliedWords (wipes x) (a .allowance - n) w) (whole (after (c .before)) .1) (tried x .1)
+          ∙ sym (words-append (links x) (wipes x) (a .allowance) (a .words .now)),
     )
 
 enum-known-m : tie.Need-enum-known-m
@@ -154,8 +169,8 @@ all : (c : tie.After-m) → let y = c .before .before .before .before in let n =
     (length (wipes (linked n)) ≤ start (linked n) .args .allowance - n .n .given .0 .0) × (c .m .given .0 .0 ≡ length (wipes (linked n)))
 all c = let y = c .before .before .before .before in done-whole (wipes (linked (after (y .before)))) _ _ (sym (wiped y .0) ∙ c .m .given .1)
 
-add-t27 : tie.Need-add-t27
-add-t27 c = omega (arith, whole (after (c .before .before .before .before .before .before)), all (c .before))
+add-t28 : tie.Need-add-t28
+add-t28 c = omega (arith, whole (after (c .before .before .before .before .before .before)), all (c .before))
 
 same-length-3 : tie.Need-same-length-3
 same-length-3 c = search needs
@@ -187,6 +202,7 @@ delete-at-spec =
     add-row
     node-words-requires
     sub-size
+    mul-size
     array-share-prefix-zeros
     slice-aggregate-put-row
     sub-put-row
@@ -194,6 +210,6 @@ delete-at-spec =
     enum-known-m
     same-length-2
     returns-2
-    add-t27
+    add-t28
     same-length-3
     returns-3)

@@ -1,4 +1,5 @@
--- `insert_all`: the records' stores are segments of one run. The loop's invariant: what is made and what is left is the plan (`Underway`).
+-- Made from crates/byte_edits/proofs/insert_all/Proof.antt by tools/twins.
+-- `word_edits::insert_all`: the records' stores are segments of one run. The loop's invariant: what is made and what is left is the plan (`Underway`).
 use Prim.Native.Nat.{ℕ, _+_, _/_, _-_, _≤_}
 use mathlib.Core.Path.{_≡_, refl, ap, sym, subst, _∙_}
 use mathlib.Core.List.{List, [], _++_}
@@ -7,116 +8,127 @@ use native.Mathlib.Omega.{arith}
 use lib.ListN.{length, take, drop, length-append, length-drop}
 use lib.Seq.{drop-drop}
 use borrow.Author.Needs.{needs}
-use Rattle.stores.specs.declared.Answer.the-variants as A
-use Rattle.stores.specs.Stores.{Write, run, stores, applied, answerOf}
-use Rattle.stores.proofs.Segments.{undone-short, done-whole}
+use Rattle.calls.specs.declared.Answer.the-variants as A
+use Rattle.calls.specs.Answers.{answerOf}
+use Rattle.stores.specs.Stores.{Write, run, stores}
+use Rattle.stores.proofs.Laws.{length-run}
+use Rattle.calls.proofs.Answers.{answer-stopped, answer-done, undone-short, done-whole}
+use Rattle.word_form.specs.Words.{wordsIn, wordWrites, appliedWords}
+use Rattle.word_form.proofs.Laws.{length-words, same-words, words-after, words-nil}
 use Rattle.lists.specs.Lists.{KeepsWorn}
 use Rattle.edits.specs.Edits.{insertWrites, chainFrom}
 use Rattle.edits.proofs.Worn.{room-keeps}
-use Rattle.edits.proofs.Underway.{Underway, underway-start, underway-fits, underway-words, underway-stopped, underway-done, underway-next, words-stopped, words-done, words-next}
+use Rattle.edits.proofs.Underway.{Underway, underway-start, underway-fits, underway-words, underway-short, underway-whole, underway-next}
+use Rattle.word_edits.proofs.Several.{words-stopped, words-done, words-next}
 use Rattle.word_edits.proofs.insert_all.Statement.{statement}
 use Rattle.word_edits.proofs.insert_all.Tie as tie
 
 abbrev Inv-loop : tie.InvT-loop
-Inv-loop words₀ l list records allowance width t₀ at₀ made₀ words t at made =
+Inv-loop words₀ l list records allowance width whole t₀ at₀ made₀ words t at made =
+    let ws = wordsIn records in
     (ps : List Write)
-    × (Underway l list (chainFrom l words₀ list t₀ (length records / l .width) records) ps words t (drop at records)
-    × (made ≡ length ps) × (made ≤ allowance) × (words ≡ run ps words₀))
+    × (Underway l list (chainFrom l (wordsIn words₀) list t₀ (length ws / l .width) ws) ps (wordsIn words) t (drop at ws)
+    × (made ≡ length ps) × (made ≤ allowance) × (words ≡ run (wordWrites ps) words₀))
 
 abbrev μ-loop : tie.MeasureT-loop
-μ-loop words₀ l list records allowance width t₀ at₀ made₀ words t at made = length records - at
+μ-loop words₀ l list records allowance width whole t₀ at₀ made₀ words t at made = length (wordsIn records) - at
 
 cast-width : tie.Need-cast-width Inv-loop μ-loop
 cast-width c = search needs
 
+size-requires : tie.Need-size-requires Inv-loop μ-loop
+size-requires c κs = search needs
+
 loop-holds : tie.Need-loop-holds Inv-loop μ-loop
-unfolding run
 loop-holds c =
-    let s = c .before .before .before in
-    let a = s .args in
-    ([], (underway-start (a .l) (a .list) (a .words .now) (a .first) (a .records .now) (s .pre .0) (s .pre .1) (s .pre .2), refl, omega arith, refl))
+    let s = c .before .before .before .before in
+    let a = s .args in (
+      [],
+      (
+        underway-start (a .l) (a .list) (wordsIn (a .words .now)) (a .first) (wordsIn (a .records .now)) (s .pre .0) (s .pre .1) (s .pre .2),
+        refl,
+        omega arith,
+        sym (words-nil (a .words .now)),
+      ),
+    )
 
 -- the places in the loop; the words of the records left, and the stores of the first of them
 abbrev At : Type 0
 At = tie.At-loop Inv-loop μ-loop
 
 abbrev start : At → tie.Start Inv-loop μ-loop
-start h = h .before .before .before .before
+start h = h .before .before .before .before .before
 
 abbrev left : At → List ℕ
-left h = drop (h .loop .at) (start h .args .records .now)
+left h = drop (h .loop .at) (wordsIn (start h .args .records .now))
 
 abbrev first : At → List Write
 first h = let a = start h .args in insertWrites (a .l) (a .list) (h .loop .t) (take (a .l .width) (left h))
 
+-- as many as are behind those made
+left-length : (h : At) → length (left h) ≡ length (wordsIn (start h .args .records .now)) - h .loop .at
+left-length h = length-drop (h .loop .at) (wordsIn (start h .args .records .now))
+
 -- the record lies in the words given
-record-in : (h : At) → h .loop .at + start h .args .l .width ≤ length (start h .args .records .now)
-record-in h =
-    omega (
-      arith,
-      underway-fits (h .loop .inv .1 .0),
-      length-drop (h .loop .at) (start h .args .records .now),
-      h .loop .inv .1 .0 .room .placed .inRange .someWidth,
-    )
+record-in : (h : At) → h .loop .at + start h .args .l .width ≤ length (wordsIn (start h .args .records .now))
+record-in h = omega (arith, underway-fits (h .loop .inv .1 .0), left-length h, h .loop .inv .1 .0 .room .placed .inRange .someWidth)
 
 add-e : tie.Need-add-e Inv-loop μ-loop
-add-e c = omega (arith, record-in c)
+add-e c = omega (arith, record-in c, length-words (start c .args .records .now))
 
-mul-insert-at : tie.Need-mul-insert-at Inv-loop μ-loop
-mul-insert-at c = omega (arith, record-in (c .before))
+part-requires : tie.Need-part-requires Inv-loop μ-loop
+part-requires c κs = record-in c
 
 sub-insert-at : tie.Need-sub-insert-at Inv-loop μ-loop
-sub-insert-at c = omega arith
-
-part-insert-at-start : tie.Need-part-insert-at-start Inv-loop μ-loop
-part-insert-at-start c = omega arith
-
-part-insert-at-end : tie.Need-part-insert-at-end Inv-loop μ-loop
-part-insert-at-end c = omega (arith, record-in (c .before))
-
-sub-insert-at-2 : tie.Need-sub-insert-at-2 Inv-loop μ-loop
-sub-insert-at-2 c = omega (arith, c .before .before .loop .inv .1 .2)
-
--- the part of the words that is lent has the words of one record
-part : (h : At) → h .loop .at + start h .args .l .width - h .loop .at ≡ start h .args .l .width
-part h = omega arith
+sub-insert-at c = omega (arith, c .before .before .loop .inv .1 .2)
 
 insert-at-requires : tie.Need-insert-at-requires Inv-loop μ-loop
 insert-at-requires c κs =
-    let h = c .before .before in
-    let u = h .loop .inv .1 .0 in
-    (u .room .placed, ap (λ (n : ℕ). length (take n (left h))) (part h) ∙ underway-words u, u .room .exact)
+    let p = c .before in
+    let u = p .before .loop .inv .1 .0 in
+    (u .room .placed, ap length (p .part .ensures) ∙ underway-words u, u .room .exact)
 
 -- the place in the loop by that where the record was tried, and what was made of it
 abbrev at : tie.After-insert-at Inv-loop μ-loop → At
 at x = x .before .before .before
 
 tried : (x : tie.After-insert-at Inv-loop μ-loop) → let h = at x in let m = start h .args .allowance - h .loop .made in
-    (x .insert-at .result ≡ answerOf (stores (first h)) m) × (x .insert-at .last .0 ≡ applied (first h) m (h .loop .words))
+    (x .insert-at .result ≡ answerOf (stores (first h)) m) × (x .insert-at .last .0 ≡ appliedWords (first h) m (h .loop .words))
 tried x =
     let h = at x in
     let a = start h .args in
     let m = a .allowance - h .loop .made in
     subst
-    (λ (n : ℕ).
-    let ps : List Write = insertWrites (a .l) (a .list) (h .loop .t) (take n (left h)) in
-    (x .insert-at .result ≡ answerOf (stores ps) m) × (x .insert-at .last .0 ≡ applied ps m (h .loop .words)))
-    (part h) (x .insert-at .ensures)
+    (λ (ws : List ℕ).
+    let ps : List Write = insertWrites (a .l) (a .list) (h .loop .t) ws in
+    (x .insert-at .result ≡ answerOf (stores ps) m) × (x .insert-at .last .0 ≡ appliedWords ps m (h .loop .words)))
+    (x .before .before .part .ensures) (x .insert-at .ensures)
+
+-- as many words as at the start
+kept : (h : At) → length (h .loop .words) ≡ length (start h .args .words .now)
+kept h = ap length (h .loop .inv .1 .3) ∙ length-run (wordWrites (h .loop .inv .0)) (start h .args .words .now)
 
 -- the worn nodes are kept
-kept : (s : tie.Start Inv-loop μ-loop) {w : List ℕ} → let a = s .args in
-    w ≡ applied (chainFrom (a .l) (a .words .now) (a .list) (a .first) (length (a .records .now) / a .l .width) (a .records .now)) (a .allowance) (a .words .now)
-    → KeepsWorn (a .l) (a .words .now) w
-kept s e =
+worn : (s : tie.Start Inv-loop μ-loop) {b : List ℕ} → let a = s .args in let w = wordsIn (a .words .now) in let ws = wordsIn (a .records .now) in
+    b ≡ appliedWords (chainFrom (a .l) w (a .list) (a .first) (length ws / a .l .width) ws) (a .allowance) (a .words .now)
+    → KeepsWorn (a .l) w (wordsIn b)
+worn s e =
     let a = s .args in
-    subst (KeepsWorn (a .l) (a .words .now)) (sym e)
-    (room-keeps (a .l) (a .words .now) (a .list) (a .first) (length (a .records .now) / a .l .width) (s .pre .0) (a .records .now) (sym (s .pre .2)) (a .allowance))
+    let w = wordsIn (a .words .now) in
+    let ws = wordsIn (a .records .now) in
+    let ps = chainFrom (a .l) w (a .list) (a .first) (length ws / a .l .width) ws in
+    subst (KeepsWorn (a .l) w) (sym (ap wordsIn e ∙ words-after (stores ps) (a .allowance) (a .words .now)))
+    (room-keeps (a .l) w (a .list) (a .first) (length ws / a .l .width) (s .pre .0) ws (sym (s .pre .2)) (a .allowance))
 
 enum-known-n : tie.Need-enum-known-n Inv-loop μ-loop
 enum-known-n c = search needs
 
+-- all stores of the call
+abbrev plan : tie.Start Inv-loop μ-loop → List Write
+plan s = let a = s .args in let ws = wordsIn (a .records .now) in chainFrom (a .l) (wordsIn (a .words .now)) (a .list) (a .first) (length ws / a .l .width) ws
+
 same-length : tie.Need-same-length Inv-loop μ-loop
-same-length c = search needs
+same-length c = let x = c .before .before .before in x .insert-at .kept .0 ∙ kept (at x)
 
 returns : tie.Need-returns Inv-loop μ-loop
 returns c =
@@ -126,7 +138,7 @@ returns c =
     let i = h .loop .inv .1 in
     let a = start h .args in
     let e = tried x .1 ∙ words-stopped (i .0) (a .allowance) (i .1) (i .2) (a .words .now) (i .3) s in
-    (underway-stopped (i .0) (a .allowance) (i .1) (i .2) s, (e, kept (start h) e))
+    (answer-stopped (plan (start h)) (a .allowance) (underway-short (i .0) (a .allowance) (i .1) (i .2) s), (e, worn (start h) e))
 
 -- all of its stores are made
 abbrev stored : tie.After-n Inv-loop μ-loop → tie.After-insert-at Inv-loop μ-loop
@@ -140,7 +152,7 @@ add-made : tie.Need-add-made Inv-loop μ-loop
 add-made c = omega (arith, whole (c .before), at (stored (c .before)) .loop .inv .1 .2)
 
 same-length-2 : tie.Need-same-length-2 Inv-loop μ-loop
-same-length-2 c = search needs
+same-length-2 c = let x = stored (c .before .before) in x .insert-at .kept .0 ∙ kept (at x)
 
 returns-2 : tie.Need-returns-2 Inv-loop μ-loop
 returns-2 c =
@@ -149,17 +161,18 @@ returns-2 c =
     let h = at x in
     let i = h .loop .inv .1 in
     let a = start h .args in
-    let z : length (left h) ≡ a .l .width = omega (arith, length-drop (h .loop .at) (a .records .now), c .if1 .taken) in
-    let e = tried x .1 ∙ words-done (i .0) (a .allowance) (i .1) (i .2) (a .words .now) (i .3) z in (
-      ap (λ (n : ℕ). A.Done (h .loop .made + n)) (whole n .1) ∙ underway-done (i .0) (a .allowance) (i .1) (i .2) (whole n .0) z,
-      (e, kept (start h) e),
+    let z : length (left h) ≡ a .l .width = omega (arith, left-length h, record-in h, h .before .size .ensures, c .if1 .taken) in
+    let e = tried x .1 ∙ words-done (i .0) (a .allowance) (i .1) (i .2) (a .words .now) (i .3) z in
+    let f = underway-whole (i .0) (a .allowance) (i .1) (i .2) (whole n .0) z in (
+      ap (λ (n : ℕ). A.Done (h .loop .made + n)) (whole n .1) ∙ ap A.Done (f .0) ∙ answer-done (plan (start h)) (a .allowance) (f .1),
+      (e, worn (start h) e),
     )
 
 next-site-requires : tie.Need-next-site-requires Inv-loop μ-loop
 next-site-requires c κs =
     let x = stored (c .before .before .before) in
     let r = at x .loop .inv .1 .0 .room in
-    (record { inRange = r .placed .inRange; exact = x .insert-at .kept .0 ∙ r .exact }, r .placed .cell, r .placed .count)
+    (record { inRange = r .placed .inRange; exact = same-words (x .insert-at .last .0) (at x .loop .words) (x .insert-at .kept .0) ∙ r .exact }, r .placed .cell, r .placed .count)
 
 loop-less : tie.Need-loop-less Inv-loop μ-loop
 loop-less c =
@@ -173,14 +186,14 @@ loop-again c =
     let h = at x in
     let a = start h .args in
     let i = h .loop .inv .1 in
-    let w = words-next (i .0) (a .allowance) (i .1) (i .2) (a .words .now) (i .3) (whole n .0) (tried x .1) in (
+    let b = words-next (i .0) (a .allowance) (i .1) (i .2) (a .words .now) (i .3) (whole n .0) (tried x .1) in (
       h .loop .inv .0 ++ first h,
       (
-        underway-next (i .0) (λ z. c .before .before .if1 .left (omega (arith, length-drop (h .loop .at) (a .records .now), record-in h)))
-            (w .0) (c .next-site .ensures .0) (sym (drop-drop (a .l .width) (h .loop .at) (a .records .now))),
+        underway-next (i .0) (λ z. c .before .before .if1 .left (omega (arith, z, left-length h, record-in h, h .before .size .ensures)))
+            (b .0) (c .next-site .ensures .0) (sym (drop-drop (a .l .width) (h .loop .at) (wordsIn (a .records .now)))),
         omega (arith, i .1, whole n, length-append (h .loop .inv .0) (first h)),
         omega (arith, i .2, whole n),
-        w .1,
+        b .1,
       ),
     )
 
@@ -191,13 +204,11 @@ insert-all-spec =
     Inv-loop
     μ-loop
     cast-width
+    size-requires
     loop-holds
     add-e
-    mul-insert-at
+    part-requires
     sub-insert-at
-    part-insert-at-start
-    part-insert-at-end
-    sub-insert-at-2
     insert-at-requires
     enum-known-n
     same-length

@@ -1,4 +1,5 @@
--- `insert_at`: the record and the links are two segments of one run.
+-- Made from crates/byte_edits/proofs/insert_at/Proof.antt by tools/twins.
+-- `word_edits::insert_at`: the record and the links are two segments of one run.
 use Prim.Native.Nat.{ℕ, _+_, _-_, _≤_}
 use mathlib.Core.Path.{_≡_, ap, ap₂, sym, subst, _∙_}
 use mathlib.Core.List.{List, _++_}
@@ -6,10 +7,14 @@ use mathlib.Core.Logic.{⊎-elim}
 use native.Mathlib.Omega.{arith}
 use lib.ListN.{length, length-append}
 use borrow.Author.Needs.{needs}
-use Rattle.stores.specs.declared.Answer.the-variants as A
-use Rattle.stores.specs.Stores.{Write, Planned, inRow, stores, applied, answerOf}
-use Rattle.stores.proofs.Laws.{listed-planned, answer-stopped, answer-done}
-use Rattle.stores.proofs.Segments.{applied-append, applied-first, undone-short, done-whole}
+use Rattle.calls.specs.declared.Answer.the-variants as A
+use Rattle.calls.specs.Answers.{answerOf}
+use Rattle.stores.specs.Stores.{Write, Planned, inRow, stores}
+use Rattle.calls.proofs.Answers.{answer-stopped, answer-done, undone-short, done-whole}
+use Rattle.stores.proofs.Laws.{listed-planned}
+use Rattle.word_form.specs.Words.{wordsIn, appliedWords}
+use Rattle.word_form.proofs.Laws.{same-words}
+use Rattle.word_form.proofs.Segments.{words-append, words-first}
 use Rattle.layout.specs.Words.{recordAt}
 use Rattle.edits.specs.Edits.{insertLinks, insertWrites}
 use Rattle.edits.proofs.Inside.{record-fits}
@@ -21,10 +26,10 @@ abbrev start : tie.After-put-row → tie.Start
 start c = c .before .before .before .before .before
 
 abbrev row : tie.After-put-row → List Write
-row c = let a = start c .args in inRow (recordAt (a .l) (a .t .cell)) (a .rec .now)
+row c = let a = start c .args in inRow (recordAt (a .l) (a .t .cell)) (wordsIn (a .rec .now))
 
 tried : (c : tie.After-put-row) → let a = start c .args in
-    (c .put-row .result ≡ answerOf (stores (row c)) (a .allowance)) × (c .put-row .last .0 ≡ applied (row c) (a .allowance) (a .words .now))
+    (c .put-row .result ≡ answerOf (stores (row c)) (a .allowance)) × (c .put-row .last .0 ≡ appliedWords (row c) (a .allowance) (a .words .now))
 tried c = rw (c .before .before .node .ensures) at (c .put-row .ensures)
 
 node-requires : tie.Need-node-requires
@@ -53,7 +58,7 @@ returns c =
     let qs = insertLinks (a .l) (a .list) (a .t) in
     let h = undone-short ps (a .allowance) (λ n q. ⊎-elim (λ z. absurd (omega arith)) (λ z. absurd (omega arith)) (rw (tried x .0 ∙ q) at (c .match .keys2))) in (
       answer-stopped (ps ++ qs) (a .allowance) (omega (arith, h, length-append ps qs)),
-      tried x .1 ∙ sym (applied-first ps qs (a .allowance) (a .words .now) (omega (arith, h))),
+      tried x .1 ∙ sym (words-first ps qs (a .allowance) (a .words .now) (omega (arith, h))),
     )
 
 -- the record is stored: all of it
@@ -82,7 +87,7 @@ run-requires c κs =
     let s = start x in
     let r = c .before .before .before .before .before .insert-links in
     let p = listed-planned (r .ensures) in
-    (subst (λ (n : ℕ). Planned n (r .result .at) (r .result .values)) (sym (s .pre .2) ∙ sym (x .put-row .kept .0)) (p .0), omega (arith, p .1))
+    (subst (λ (n : ℕ). Planned n (r .result .at) (r .result .values)) (sym (s .pre .2) ∙ same-words (s .args .words .now) (x .put-row .last .0) (sym (x .put-row .kept .0))) (p .0), omega (arith, p .1))
 
 -- the place where the record is stored, by that where the links were tried; the links; what was made of them
 abbrev after : tie.After-run → tie.After-n
@@ -93,15 +98,15 @@ links c = let a = start (stored (after c)) .args in insertLinks (a .l) (a .list)
 
 linked : (c : tie.After-run) → let x = stored (after c) in let a = start x .args in
     (c .run .result ≡ answerOf (stores (links c)) (a .allowance - after c .n .given .0 .0))
-    × (c .run .last .0 ≡ applied (row x ++ links c) (a .allowance) (a .words .now))
+    × (c .run .last .0 ≡ appliedWords (row x ++ links c) (a .allowance) (a .words .now))
 linked c =
     let x = stored (after c) in
     let a = start x .args in
     let r = rw (c .before .before .before .before .before .before .insert-links .ensures .same) at (c .run .ensures) in (
       r .0,
       r .1
-          ∙ ap₂ (λ (m : ℕ) (w : List ℕ). applied (links c) (a .allowance - m) w) (whole (after c) .1) (tried x .1)
-          ∙ sym (applied-append (row x) (links c) (a .allowance) (a .words .now)),
+          ∙ ap₂ (λ (m : ℕ) (w : List ℕ). appliedWords (links c) (a .allowance - m) w) (whole (after c) .1) (tried x .1)
+          ∙ sym (words-append (row x) (links c) (a .allowance) (a .words .now)),
     )
 
 enum-known-m : tie.Need-enum-known-m

@@ -1,6 +1,8 @@
+-- Made from crates/byte_fitting/proofs/fit_one/Proof.antt by tools/twins.
 -- `word_fitting::fit_one` meets its contract. A list that holds fits as it is; else the two walks and the count decide.
 use mathlib.Core.Path.{sym, ap, _∙_}
 use borrow.Author.Needs.{needs}
+use Rattle.word_form.specs.Words.{wordsIn}
 use Rattle.lists.specs.Decide.{viewOf, countIn}
 use Rattle.fitting.specs.declared.Faults.the-variants as F
 use Rattle.fitting.specs.declared.Fitted.the-variants as G
@@ -24,7 +26,7 @@ returns c =
     let t = n .before in
     let d = t .before in
     let a = d .before .before .args in
-    let w = a .words .now in
+    let w = wordsIn (a .words .now) in
     ap G.Forward (c .right .ensures ∙ ap (walkWith F.None) (n .count .ensures))
     ∙ sym (held-fits (a .l) (viewOf (a .l) w) (countIn (a .l) w) (a .k) (d .one-holds .ensures .right (t .if1 .taken)))
 

@@ -1,8 +1,10 @@
+-- Made from crates/byte_fitting/proofs/fit_two/Proof.antt by tools/twins.
 -- `word_fitting::fit_two` meets its contract. Lists that hold fit as they are; else the walks and the counts decide, the second walk only where it is
 -- asked.
 use Prim.Native.Nat.{ℕ}
 use mathlib.Core.Path.{sym, ap, _∙_}
 use borrow.Author.Needs.{needs}
+use Rattle.word_form.specs.Words.{wordsIn}
 use Rattle.lists.specs.Decide.{viewOf, countIn}
 use Rattle.fitting.specs.declared.Faults.the-variants as F
 use Rattle.fitting.specs.declared.Fitted.the-variants as G
@@ -19,7 +21,7 @@ returns : tie.Need-returns
 returns c =
     let d = c .before in
     let a = d .before .before .args in
-    let w = a .words .now in
+    let w = wordsIn (a .words .now) in
     let e = c .fit-one .ensures in
     (e, e ∙ ap (λ (k : ℕ). fitIn (a .l) (viewOf (a .l) w) k (countIn (a .l) w k)) (d .if1 .taken))
 
@@ -45,8 +47,8 @@ returns-2 c =
     let d = t .before in
     let n = d .before in
     let a = n .before .before .before .before .args in
-    let v = viewOf (a .l) (a .words .now) in
-    let count = countIn (a .l) (a .words .now) in
+    let v = viewOf (a .l) (wordsIn (a .words .now)) in
+    let count = countIn (a .l) (wordsIn (a .words .now)) in
     let h = d .two-hold .ensures .right (t .if2 .taken) in (
       ap G.Forward (x .right .ensures ∙ ap (walkWith F.None) (n .before .count .ensures)) ∙ sym (held-fits (a .l) v count (a .k) (h .0)),
       ap G.Forward (c .right2 .ensures ∙ ap (walkWith F.None) (n .count2 .ensures)) ∙ sym (held-fits (a .l) v count (a .j) (h .1)),
@@ -67,8 +69,8 @@ returns-3 c =
     let d = e .before .before in
     let t = d .before .before .before in
     let a = t .before .before .before .before .before .before .before .args in
-    let v = viewOf (a .l) (a .words .now) in
-    let n = countIn (a .l) (a .words .now) in (
+    let v = viewOf (a .l) (wordsIn (a .words .now)) in
+    let n = countIn (a .l) (wordsIn (a .words .now)) in (
       fit-alone (a .l) v (a .k) (n (a .k)) (t .walk-two .ensures .0) (sym (d .decides .ensures) ∙ e .before .if3 .taken),
       fit-alone (a .l) v (a .j) (n (a .j)) (t .walk-two .ensures .1) (sym (e .decides2 .ensures) ∙ c .if4 .taken),
     )

@@ -1,13 +1,15 @@
+-- Made from crates/byte_fitting/proofs/rest/Proof.antt by tools/twins.
 -- `word_fitting::rest` meets its contract. The loop's invariant: what the trail has met and what it has yet to meet are the faults of the
 -- whole walk.
 use Prim.Native.Nat.{_<_}
 use mathlib.Core.Bool.{Bool, true}
 use mathlib.Core.Path.{_≡_, refl, ap, sym, _∙_}
 use native.Mathlib.Omega.{arith}
+use Rattle.word_form.specs.Words.{wordsIn}
 use Rattle.layout.specs.Words.{Laid}
 use Rattle.lists.specs.Decide.{viewOf}
-use Rattle.spans.specs.declared.Cell.{Cell}
-use Rattle.spans.specs.Spans.{Gridded}
+use Rattle.layout.specs.declared.Cell.{Cell}
+use Rattle.layout.specs.Cells.{Gridded}
 use Rattle.fitting.specs.declared.Trail.{Trail}
 use Rattle.fitting.specs.Fitting.{Trailing, isOpen, endOf, wayOf}
 use Rattle.fitting.proofs.Trails.{open-node, trail-next, trail-end}
@@ -16,7 +18,7 @@ use Rattle.word_fitting.proofs.rest.Tie as tie
 
 abbrev Inv-loop : tie.InvT-loop
 Inv-loop words l g k t₀ t =
-    (Gridded l g × Laid l words × (k < l .lists)) × Trailing l (viewOf l words) k t × (t .back ≡ t₀ .back)
+    (Gridded l g × Laid l (wordsIn words) × (k < l .lists)) × Trailing l (viewOf l (wordsIn words)) k t × (t .back ≡ t₀ .back)
 
 abbrev μ-loop : tie.MeasureT-loop
 μ-loop words l g k t₀ t = t .left
@@ -47,7 +49,7 @@ loop-again c =
     let h = c .before in
     let a = h .before .before .before .before .args in
     let i = at h .loop .inv in
-    rw (c .step .ensures) (i .0, trail-next (a .l) (viewOf (a .l) (a .words .now)) (a .k) (at h .loop .t) (i .1) (opened h), i .2)
+    rw (c .step .ensures) (i .0, trail-next (a .l) (viewOf (a .l) (wordsIn (a .words .now))) (a .k) (at h .loop .t) (i .1) (opened h), i .2)
 
 header-requires : tie.Need-header-requires Inv-loop μ-loop
 header-requires c κs = let i = c .before .before .loop .inv .0 in (i .1, i .2)
@@ -61,7 +63,7 @@ returns c =
     let e = h .before in
     let i = e .before .before .loop in
     let a = e .before .before .before .before .args in
-    let v = viewOf (a .l) (a .words .now) in
+    let v = viewOf (a .l) (wordsIn (a .words .now)) in
     c .end .ensures
     ∙ ap (λ (x : Cell). endOf (a .l) (a .k) x (i .t)) (h .header .ensures)
     ∙ trail-end (a .l) v (a .k) (i .t) (i .inv .1) (sym (e .before .open .ensures) ∙ e .if1 .left)

@@ -1,10 +1,11 @@
+-- Made from crates/byte_fitting/proofs/step/Proof.antt by tools/twins.
 -- `word_fitting::step` meets its contract. An open trail comes to a node.
 use Prim.Native.Nat.{_<_}
 use mathlib.Core.Path.{ap, _∙_}
 use native.Mathlib.Omega.{arith}
 use Rattle.layout.specs.Words.{Node}
 use Rattle.layout.proofs.Laws.{is-node}
-use Rattle.spans.specs.declared.Cell.{Cell}
+use Rattle.layout.specs.declared.Cell.{Cell}
 use Rattle.fitting.specs.Fitting.{nextTrail}
 use Rattle.fitting.proofs.Trails.{open-node}
 use Rattle.word_fitting.proofs.step.Statement.{statement}

@@ -1,14 +1,17 @@
+-- Made from crates/byte_fitting/proofs/walk_two/Proof.antt by tools/twins.
 -- `word_fitting::walk_two` meets its contract. The loop's invariant: each trail stands where its walk does.
 use Prim.Native.Nat.{ℕ, _<_}
 use mathlib.Core.Bool.{Bool, true}
 use mathlib.Core.Path.{_≡_, refl, ap, sym, _∙_}
 use native.Mathlib.Omega.{arith}
+use Rattle.word_form.specs.Words.{wordsIn}
 use Rattle.layout.specs.declared.Layout.{Layout}
 use Rattle.layout.specs.Words.{Laid}
 use Rattle.layout.proofs.Laws.{answered-yes}
 use Rattle.lists.specs.Decide.{View, viewOf}
-use Rattle.spans.specs.declared.Cell.{Cell}
-use Rattle.spans.specs.Spans.{Gridded, cellIn}
+use Rattle.layout.specs.declared.Cell.{Cell}
+use Rattle.layout.specs.Cells.{Gridded}
+use Rattle.spans.specs.Spans.{cellIn}
 use Rattle.fitting.specs.declared.Trail.{Trail}
 use Rattle.fitting.specs.declared.Walk.{Walk}
 use Rattle.fitting.specs.Fitting.{Trailing, isOpen, firstTrail, nextTrail, wayOf}
@@ -18,9 +21,9 @@ use Rattle.word_fitting.proofs.walk_two.Tie as tie
 
 abbrev Inv-loop : tie.InvT-loop
 Inv-loop words l g k back j other s₀ t₀ s t =
-    (Gridded l g × Laid l words × (k < l .lists) × (j < l .lists))
-    × (Trailing l (viewOf l words) k s × (s .back ≡ back))
-    × (Trailing l (viewOf l words) j t × (t .back ≡ other))
+    (Gridded l g × Laid l (wordsIn words) × (k < l .lists) × (j < l .lists))
+    × (Trailing l (viewOf l (wordsIn words)) k s × (s .back ≡ back))
+    × (Trailing l (viewOf l (wordsIn words)) j t × (t .back ≡ other))
 
 abbrev μ-loop : tie.MeasureT-loop
 μ-loop words l g k back j other s₀ t₀ s t = s .left
@@ -50,7 +53,7 @@ loop-holds c =
     let f = h .before in
     let s = f .before .before .before in
     let p = s .pre in
-    let v = viewOf (s .args .l) (s .args .words .now) in (
+    let v = viewOf (s .args .l) (wordsIn (s .args .words .now)) in (
       (p .0, p .1, p .2, p .3),
       begun v (s .args .back) (s .args .k) (f .before .header .ensures) (f .first .ensures),
       begun v (s .args .other) (s .args .j) (h .header2 .ensures) (c .first2 .ensures),
@@ -101,7 +104,7 @@ loop-again c =
     let e = f .before in
     let i = at e .loop .inv in
     let a = start (at e) .args in
-    let v = viewOf (a .l) (a .words .now) in (
+    let v = viewOf (a .l) (wordsIn (a .words .now)) in (
       i .0,
       further v (a .k) (at e .loop .s) (i .1) (opened e) (f .step .ensures),
       further v (a .j) (at e .loop .t) (i .2) (opened-other e) (c .step2 .ensures),
@@ -118,7 +121,7 @@ returns c =
     let r = c .before in
     let h = r .before .before .before in
     let a = start h .args in
-    let w = a .words .now in
+    let w = wordsIn (a .words .now) in
     let by : ℕ → Bool → Walk = λ k b. wayOf (a .l) (viewOf (a .l) w) b k in
     (r .rest .ensures ∙ ap (by (a .k)) (h .loop .inv .1 .1), c .rest2 .ensures ∙ ap (by (a .j)) (h .loop .inv .2 .1))
 

@@ -1,6 +1,7 @@
+-- Made from crates/byte_mending/proofs/decide/Proof.antt by tools/twins.
 -- `word_mending::decide` meets its contract: the tally and what is found of all lists say it.
 use Prim.Native.Nat.{ℕ, _-_}
-use mathlib.Core.Path.{_≡_, ap, subst, _∙_}
+use mathlib.Core.Path.{_≡_, ap, sym, subst, _∙_}
 use mathlib.Core.List.{List}
 use mathlib.Core.Bool.{not, _&&_}
 use native.Mathlib.Omega.{arith}
@@ -8,7 +9,8 @@ use lib.Dec.{eqb}
 use lib.ListN.{length, take}
 use lib.Seq.{take-all}
 use borrow.Author.Needs.{needs}
-use Rattle.layout.specs.Words.{firstNode}
+use Rattle.word_form.specs.Words.{wordsIn}
+use Rattle.layout.specs.Words.{firstNode, Laid}
 use Rattle.lists.specs.Decide.{viewOf, countIn}
 use Rattle.spans.specs.declared.Tally.{Tally}
 use Rattle.spans.specs.Spans.{tallyOf}
@@ -36,10 +38,15 @@ whole : (c : tie.After-part) → let x = start c .args .words .now in take (leng
 whole c = let x = start c .args .words .now in take-all (length x - 0) x (omega arith)
 
 tally-requires : tie.Need-tally-requires
-tally-requires c κs = search needs
+tally-requires c κs =
+    let s = start c in
+    (c .before .of .ensures, subst (λ (b : List ℕ). Laid (s .args .l) (wordsIn b)) (sym (whole c)) (s .pre))
 
 all-mends-requires : tie.Need-all-mends-requires
-all-mends-requires c κs = search needs
+all-mends-requires c κs =
+    let p = c .before in
+    let s = start p in
+    (p .before .of .ensures, subst (λ (b : List ℕ). Laid (s .args .l) (wordsIn b)) (sym (whole p)) (s .pre))
 
 none-left-requires : tie.Need-none-left-requires
 none-left-requires c κs = search needs
@@ -52,9 +59,9 @@ returns c =
     let t = f .before in
     let l = start (t .before) .args .l in
     let e = whole (t .before) in
-    let s = t .tally .ensures ∙ ap (λ (w : List ℕ). tallyOf (viewOf l w) (firstNode l) (l .nodes)) e in
+    let s = t .tally .ensures ∙ ap (λ (b : List ℕ). tallyOf (viewOf l (wordsIn b)) (firstNode l) (l .nodes)) e in
     record {
-      mends = subst (λ (w : List ℕ). MendsOf l (viewOf l w) (countIn l w) m) e (f .all-mends .ensures);
+      mends = subst (λ (b : List ℕ). MendsOf l (viewOf l (wordsIn b)) (countIn l (wordsIn b)) m) e (f .all-mends .ensures);
       left = ap not (n .none-left .ensures ∙ ap (λ (t : Tally). m .carried && eqb (m .members) (t .used)) s);
       unwiped = ap (λ (t : Tally). not (eqb (t .unwiped) 0)) s;
     }

@@ -1,3 +1,4 @@
+-- Made from crates/byte_mending/proofs/make/Proof.antt by tools/twins.
 -- `word_mending::make`: the mends and the clears are two segments of one run.
 use Prim.Native.Nat.{ℕ, _+_, _-_, _≤_}
 use mathlib.Core.Path.{_≡_, ap, ap₂, sym, subst, _∙_}
@@ -6,10 +7,13 @@ use mathlib.Core.Logic.{⊎-elim}
 use native.Mathlib.Omega.{arith}
 use lib.ListN.{length}
 use borrow.Author.Needs.{needs}
-use Rattle.stores.specs.declared.Answer.the-variants as A
-use Rattle.stores.specs.Stores.{Write, Held, writesIn, stores, answerOf, applied, more}
-use Rattle.stores.proofs.Laws.{answer-stopped}
-use Rattle.stores.proofs.Segments.{applied-append, applied-first, answer-first, answer-second, undone-short, done-whole}
+use Rattle.calls.specs.declared.Answer.the-variants as A
+use Rattle.calls.specs.Answers.{answerOf, more}
+use Rattle.stores.specs.Stores.{Write, Held, writesIn, stores}
+use Rattle.calls.proofs.Answers.{answer-stopped, answer-first, answer-second, undone-short, done-whole}
+use Rattle.word_form.specs.Words.{appliedWords}
+use Rattle.word_form.proofs.Laws.{same-words}
+use Rattle.word_form.proofs.Segments.{words-append, words-first}
 use Rattle.mending.specs.Mending.{clears}
 use Rattle.word_mending.proofs.make.Statement.{statement}
 use Rattle.word_mending.proofs.make.Tie as tie
@@ -38,7 +42,7 @@ returns c =
     let a = start x .args in
     let h = undone-short (mends x) (a .allowance) (λ n q. ⊎-elim (λ z. absurd (omega arith)) (λ z. absurd (omega arith)) (rw (x .run-rows .ensures .0 ∙ q) at (c .match .keys2))) in (
       sym (answer-first (mends x) _ (a .allowance) h),
-      x .run-rows .ensures .1 ∙ sym (applied-first (mends x) _ (a .allowance) (a .words .now) (omega (arith, h))),
+      x .run-rows .ensures .1 ∙ sym (words-first (mends x) _ (a .allowance) (a .words .now) (omega (arith, h))),
     )
 
 -- the mends are made: all of them
@@ -56,7 +60,7 @@ clear-requires : tie.Need-clear-requires
 clear-requires c κs =
     let x = tried (c .before .before) in
     let s = start x in
-    record { inRange = s .pre .0 .inRange; exact = x .run-rows .kept .0 ∙ s .pre .0 .exact }
+    record { inRange = s .pre .0 .inRange; exact = same-words (x .run-rows .last .0) (s .args .words .now) (x .run-rows .kept .0) ∙ s .pre .0 .exact }
 
 enum-known-m : tie.Need-enum-known-m
 enum-known-m c = search needs
@@ -73,13 +77,13 @@ cleared c = let a = start (tried (mended c)) .args in clears (a .l) (a .idents .
 
 -- the words after both
 both : (c : tie.After-clear) → let x = tried (mended c) in let a = start x .args in
-    c .clear .last .0 ≡ applied (mends x ++ cleared c) (a .allowance) (a .words .now)
+    c .clear .last .0 ≡ appliedWords (mends x ++ cleared c) (a .allowance) (a .words .now)
 both c =
     let x = tried (mended c) in
     let a = start x .args in
     c .clear .ensures .1
-    ∙ ap₂ (λ (m : ℕ) (w : List ℕ). applied (cleared c) (a .allowance - m) w) (made (mended c) .1) (x .run-rows .ensures .1)
-    ∙ sym (applied-append (mends x) (cleared c) (a .allowance) (a .words .now))
+    ∙ ap₂ (λ (m : ℕ) (b : List ℕ). appliedWords (cleared c) (a .allowance - m) b) (made (mended c) .1) (x .run-rows .ensures .1)
+    ∙ sym (words-append (mends x) (cleared c) (a .allowance) (a .words .now))
 
 -- the answer to both
 answered : (c : tie.After-clear) → let x = tried (mended c) in

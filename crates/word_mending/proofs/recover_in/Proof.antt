@@ -1,9 +1,12 @@
+-- Made from crates/byte_mending/proofs/recover_in/Proof.antt by tools/twins.
 -- `word_mending::recover_in` meets its contract: what is found of the store is a refusal, the mends with clears and wipes, with the wipes, or
 -- alone.
 use Prim.Native.Nat.{ℕ}
 use mathlib.Core.Path.{ap, sym, subst, _∙_}
 use borrow.Author.Needs.{needs}
-use Rattle.stores.specs.Stores.{Plan, Held, answerOf, wordsAfter, writesIn}
+use Rattle.calls.specs.Answers.{answerOf}
+use Rattle.stores.specs.Stores.{Plan, Held, writesIn}
+use Rattle.word_form.specs.Words.{wordsIn, wordsAfter}
 use Rattle.mending.proofs.Recovered.{recover-refused, recover-mends, recover-wipes}
 use Rattle.mending.proofs.Finding.{none-left, none-unwiped}
 use Rattle.word_mending.proofs.recover_in.Statement.{statement}
@@ -26,7 +29,7 @@ returns : tie.Need-returns
 returns c =
     let d = c .before .before .before in
     let a = start d .args in
-    let e = sym (recover-refused (a .l) (a .words .now) (d .decide .result .mends) (d .decide .ensures .mends) (c .if1 .taken)) in (
+    let e = sym (recover-refused (a .l) (wordsIn (a .words .now)) (d .decide .result .mends) (d .decide .ensures .mends) (c .if1 .taken)) in (
       ap (λ (p : Plan). answerOf p (a .allowance)) e,
       ap (λ (p : Plan). wordsAfter p (a .allowance) (a .words .now)) e,
     )
@@ -63,8 +66,8 @@ returns-3 c =
     let f = d .decide .result in
     let s = start d in
     let a = s .args in
-    let n = none-left (a .l) (a .words .now) f (d .decide .ensures) (x .before .if2 .left) in
-    let e = sym (recover-wipes (a .l) (a .words .now) (f .mends) (d .decide .ensures .mends) (x .before .before .if1 .left) (s .pre .exact) (s .pre .inRange) n) in (
+    let n = none-left (a .l) (wordsIn (a .words .now)) f (d .decide .ensures) (x .before .if2 .left) in
+    let e = sym (recover-wipes (a .l) (wordsIn (a .words .now)) (f .mends) (d .decide .ensures .mends) (x .before .before .if1 .left) (s .pre .exact) (s .pre .inRange) n) in (
       r .recover-none-left .ensures .0 ∙ ap (λ (p : Plan). answerOf p (a .allowance)) e,
       r .recover-none-left .ensures .1 ∙ ap (λ (p : Plan). wordsAfter p (a .allowance) (a .words .now)) e,
     )
@@ -87,9 +90,9 @@ returns-4 c =
     let f = d .decide .result in
     let s = start d in
     let a = s .args in
-    let n = none-left (a .l) (a .words .now) f (d .decide .ensures) (x .before .if2 .left) in
-    let b = none-unwiped (a .l) (a .words .now) f (d .decide .ensures) (u .if3 .left) in
-    let e = sym (recover-mends (a .l) (a .words .now) (f .mends) (d .decide .ensures .mends) (x .before .before .if1 .left) (s .pre .exact) (s .pre .inRange) n b) in (
+    let n = none-left (a .l) (wordsIn (a .words .now)) f (d .decide .ensures) (x .before .if2 .left) in
+    let b = none-unwiped (a .l) (wordsIn (a .words .now)) f (d .decide .ensures) (u .if3 .left) in
+    let e = sym (recover-mends (a .l) (wordsIn (a .words .now)) (f .mends) (d .decide .ensures .mends) (x .before .before .if1 .left) (s .pre .exact) (s .pre .inRange) n b) in (
       r .run-rows .ensures .0 ∙ ap (λ (p : Plan). answerOf p (a .allowance)) e,
       r .run-rows .ensures .1 ∙ ap (λ (p : Plan). wordsAfter p (a .allowance) (a .words .now)) e,
     )

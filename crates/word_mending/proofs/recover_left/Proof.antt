@@ -1,3 +1,4 @@
+-- Made from crates/byte_mending/proofs/recover_left/Proof.antt by tools/twins.
 -- `word_mending::recover_left` meets its contract: what is left of the identifiers tells the clears of recovery's plan, and what mends and
 -- clears leave tells the wipes.
 use Prim.Native.Nat.{ℕ}
@@ -5,12 +6,17 @@ use mathlib.Core.Path.{_≡_, ap, ap₂, sym, _∙_}
 use mathlib.Core.List.{List, _++_}
 use native.Mathlib.Omega.{arith}
 use borrow.Author.Needs.{needs}
-use Rattle.stores.specs.declared.Answer.{Answer}
-use Rattle.stores.specs.Stores.{Write, Plan, run, stores, answerOf, wordsAfter, writesIn, answerStores}
+use Rattle.calls.specs.declared.Answer.{Answer}
+use Rattle.calls.specs.Answers.{answerOf, answerStores}
+use Rattle.stores.specs.Stores.{Write, Plan, run, stores, writesIn}
+use Rattle.word_form.specs.Words.{wordsIn, wordsAfter}
+use Rattle.word_form.proofs.Laws.{same-words}
 use Rattle.recovery.specs.Plan.{recoverOf}
-use Rattle.mending.specs.Mending.{clears, wipes, answerOn, wordsOn}
-use Rattle.mending.proofs.Making.{made-within, on-answer, on-words}
+use Rattle.mending.specs.Mending.{clears, wipes, answerOn}
+use Rattle.mending.proofs.Making.{made-within}
 use Rattle.mending.proofs.Recovered.{recover-stores}
+use Rattle.word_wipes.specs.Wiping.{wordsOn}
+use Rattle.word_wipes.proofs.Making.{on-answer-words, on-words}
 use Rattle.word_mending.proofs.recover_left.Statement.{statement}
 use Rattle.word_mending.proofs.recover_left.Tie as tie
 
@@ -32,13 +38,13 @@ both c = let a = start c .args in writesIn (a .m .rows) ++ clears (a .l) (c .era
 
 -- the plan, as the column tells it
 planned : (c : tie.After-erase-all) → let a = start c .args in
-    recoverOf (a .l) (a .words .now) ≡ stores (both c ++ wipes (a .l) (run (both c) (a .words .now)))
+    recoverOf (a .l) (wordsIn (a .words .now)) ≡ stores (both c ++ wipes (a .l) (run (both c) (wordsIn (a .words .now))))
 planned c =
     let s = start c in
     let a = s .args in
     let r = c .before .before .before in
-    recover-stores (a .l) (a .words .now) (a .m) (s .pre .2) (s .pre .3) (s .pre .1 .exact) (s .pre .1 .inRange) (r .read-nodes .last .0) (r .read-nodes .ensures .1) (r .read-nodes .ensures .0)
-    ∙ ap (λ (i : List ℕ). let ps = writesIn (a .m .rows) ++ clears (a .l) i in stores (ps ++ wipes (a .l) (run ps (a .words .now)))) (sym (c .erase-all .ensures))
+    recover-stores (a .l) (wordsIn (a .words .now)) (a .m) (s .pre .2) (s .pre .3) (s .pre .1 .exact) (s .pre .1 .inRange) (r .read-nodes .last .0) (r .read-nodes .ensures .1) (r .read-nodes .ensures .0)
+    ∙ ap (λ (i : List ℕ). let ps = writesIn (a .m .rows) ++ clears (a .l) i in stores (ps ++ wipes (a .l) (run ps (wordsIn (a .words .now))))) (sym (c .erase-all .ensures))
 
 -- the place where the members are erased, by that where mends and clears are made
 abbrev erased : tie.After-make → tie.After-erase-all
@@ -50,7 +56,7 @@ go-on-requires c κs =
     let x = erased m in
     let s = start x in (
       s .pre .0,
-      record { inRange = s .pre .1 .inRange; exact = m .make .kept .0 ∙ s .pre .1 .exact },
+      record { inRange = s .pre .1 .inRange; exact = same-words (m .make .last .0) (s .args .words .now) (m .make .kept .0) ∙ s .pre .1 .exact },
       omega (arith, ap answerStores (m .make .ensures .0), made-within (both x) (s .args .allowance)),
     )
 
@@ -65,11 +71,11 @@ returns c =
     let a = start x .args in
     let e = m .make .ensures in (
       g .go-on .ensures .0
-          ∙ ap₂ (λ (r : Answer) (w : List ℕ). answerOn r (wipes (a .l) w) (a .allowance)) (e .0) (e .1)
-          ∙ on-answer (both x) (wipes (a .l)) (a .allowance) (a .words .now)
+          ∙ ap₂ (λ (r : Answer) (b : List ℕ). answerOn r (wipes (a .l) (wordsIn b)) (a .allowance)) (e .0) (e .1)
+          ∙ on-answer-words (both x) (wipes (a .l)) (a .allowance) (a .words .now)
           ∙ ap (λ (p : Plan). answerOf p (a .allowance)) (sym (planned x)),
       g .go-on .ensures .1
-          ∙ ap₂ (λ (r : Answer) (w : List ℕ). wordsOn r (wipes (a .l) w) (a .allowance) w) (e .0) (e .1)
+          ∙ ap₂ (λ (r : Answer) (b : List ℕ). wordsOn r (wipes (a .l) (wordsIn b)) (a .allowance) b) (e .0) (e .1)
           ∙ on-words (both x) (wipes (a .l)) (a .allowance) (a .words .now)
           ∙ ap (λ (p : Plan). wordsAfter p (a .allowance) (a .words .now)) (sym (planned x)),
     )

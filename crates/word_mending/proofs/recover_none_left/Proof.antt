@@ -1,13 +1,19 @@
+-- Made from crates/byte_mending/proofs/recover_none_left/Proof.antt by tools/twins.
 -- `word_mending::recover_none_left`: the mends and the wipes of what they leave are one run.
 use Prim.Native.Nat.{ℕ}
 use mathlib.Core.Path.{ap, ap₂, sym, subst, _∙_}
 use mathlib.Core.List.{List}
 use native.Mathlib.Omega.{arith}
 use borrow.Author.Needs.{needs}
-use Rattle.stores.specs.declared.Answer.{Answer}
-use Rattle.stores.specs.Stores.{Write, Held, writesIn, answerStores}
-use Rattle.mending.specs.Mending.{wipes, answerOn, wordsOn}
-use Rattle.mending.proofs.Making.{made-within, on-answer, on-words}
+use Rattle.calls.specs.declared.Answer.{Answer}
+use Rattle.calls.specs.Answers.{answerStores}
+use Rattle.stores.specs.Stores.{Write, Held, writesIn}
+use Rattle.word_form.specs.Words.{wordsIn}
+use Rattle.word_form.proofs.Laws.{same-words}
+use Rattle.mending.specs.Mending.{wipes, answerOn}
+use Rattle.mending.proofs.Making.{made-within}
+use Rattle.word_wipes.specs.Wiping.{wordsOn}
+use Rattle.word_wipes.proofs.Making.{on-answer-words, on-words}
 use Rattle.word_mending.proofs.recover_none_left.Statement.{statement}
 use Rattle.word_mending.proofs.recover_none_left.Tie as tie
 
@@ -28,7 +34,7 @@ go-on-requires c κs =
     let x = c .before .before .before in
     let s = start x in (
       s .pre .0,
-      record { inRange = s .pre .1 .inRange; exact = x .run-rows .kept .0 ∙ s .pre .1 .exact },
+      record { inRange = s .pre .1 .inRange; exact = same-words (x .run-rows .last .0) (s .args .words .now) (x .run-rows .kept .0) ∙ s .pre .1 .exact },
       omega (arith, ap answerStores (x .run-rows .ensures .0), made-within (mends x) (s .args .allowance)),
     )
 
@@ -42,10 +48,10 @@ returns c =
     let a = start x .args in
     let e = x .run-rows .ensures in (
       g .go-on .ensures .0
-          ∙ ap₂ (λ (r : Answer) (w : List ℕ). answerOn r (wipes (a .l) w) (a .allowance)) (e .0) (e .1)
-          ∙ on-answer (mends x) (wipes (a .l)) (a .allowance) (a .words .now),
+          ∙ ap₂ (λ (r : Answer) (b : List ℕ). answerOn r (wipes (a .l) (wordsIn b)) (a .allowance)) (e .0) (e .1)
+          ∙ on-answer-words (mends x) (wipes (a .l)) (a .allowance) (a .words .now),
       g .go-on .ensures .1
-          ∙ ap₂ (λ (r : Answer) (w : List ℕ). wordsOn r (wipes (a .l) w) (a .allowance) w) (e .0) (e .1)
+          ∙ ap₂ (λ (r : Answer) (b : List ℕ). wordsOn r (wipes (a .l) (wordsIn b)) (a .allowance) b) (e .0) (e .1)
           ∙ on-words (mends x) (wipes (a .l)) (a .allowance) (a .words .now),
     )
 

@@ -1,10 +1,12 @@
+-- Made from crates/byte_mending/proofs/stores_in/Proof.antt by tools/twins.
 -- `word_mending::stores_in` meets its contract: what is found of the store tells a refusal, or how many stores recovery makes.
 use Prim.Native.Nat.{ℕ, _+_}
 use mathlib.Core.Path.{ap, ap₂, sym, _∙_}
 use native.Mathlib.Omega.{arith}
 use borrow.Author.Needs.{needs}
 use borrow.Author.Tests.{not-true}
-use Rattle.stores.specs.declared.Needed.the-variants as N
+use Rattle.calls.specs.declared.Needed.the-variants as N
+use Rattle.word_form.specs.Words.{wordsIn}
 use Rattle.layout.specs.Words.{firstNode}
 use Rattle.mending.proofs.Finding.{none-left, none-unwiped}
 use Rattle.mending.proofs.Counting.{wipes-few}
@@ -26,7 +28,7 @@ returns : tie.Need-returns
 returns c =
     let d = c .before .before .before in
     let a = start d .args in
-    sym (needed-refused (a .l) (a .words .now) (d .decide .result .mends) (d .decide .ensures .mends) (c .if1 .taken))
+    sym (needed-refused (a .l) (wordsIn (a .words .now)) (d .decide .result .mends) (d .decide .ensures .mends) (c .if1 .taken))
 
 column-requires : tie.Need-column-requires
 column-requires c κs = search needs
@@ -50,10 +52,10 @@ returns-3 c =
     let f = d .decide .result in
     let s = start d in
     let a = s .args in
-    let n = none-left (a .l) (a .words .now) f (d .decide .ensures) (x .before .if2 .left) in
-    let b = none-unwiped (a .l) (a .words .now) f (d .decide .ensures) (not-true _ (c .if3 .taken)) in
+    let n = none-left (a .l) (wordsIn (a .words .now)) f (d .decide .ensures) (x .before .if2 .left) in
+    let b = none-unwiped (a .l) (wordsIn (a .words .now)) f (d .decide .ensures) (not-true _ (c .if3 .taken)) in
     ap N.Stores (d .decide .ensures .mends .held .len)
-    ∙ sym (needed-mends (a .l) (a .words .now) (f .mends) (d .decide .ensures .mends) (x .before .before .if1 .left) (s .pre .exact) (s .pre .inRange) n b)
+    ∙ sym (needed-mends (a .l) (wordsIn (a .words .now)) (f .mends) (d .decide .ensures .mends) (x .before .before .if1 .left) (s .pre .exact) (s .pre .inRange) n b)
 
 of-requires-2 : tie.Need-of-requires-2
 of-requires-2 c κs = search needs
@@ -70,7 +72,7 @@ add-t14 c =
     let d = decided (known c) in
     let s = start d in
     let a = s .args in
-    omega (arith, d .decide .ensures .mends .held .few, wipes-few (a .l) (a .words .now) (s .pre .inRange) (firstNode (a .l)) (a .l .nodes), s .pre .inRange .nodes)
+    omega (arith, d .decide .ensures .mends .held .few, wipes-few (a .l) (wordsIn (a .words .now)) (s .pre .inRange) (firstNode (a .l)) (a .l .nodes), s .pre .inRange .nodes)
 
 returns-4 : tie.Need-returns-4
 returns-4 c =
@@ -79,9 +81,9 @@ returns-4 c =
     let f = d .decide .result in
     let s = start d in
     let a = s .args in
-    let n = none-left (a .l) (a .words .now) f (d .decide .ensures) (x .before .if2 .left) in
+    let n = none-left (a .l) (wordsIn (a .words .now)) f (d .decide .ensures) (x .before .if2 .left) in
     ap₂ (λ (n k : ℕ). N.Stores (n + k)) (d .decide .ensures .mends .held .len) (c .free-wipes .ensures)
-    ∙ sym (needed-wipes (a .l) (a .words .now) (f .mends) (d .decide .ensures .mends) (x .before .before .if1 .left) (s .pre .exact) (s .pre .inRange) n)
+    ∙ sym (needed-wipes (a .l) (wordsIn (a .words .now)) (f .mends) (d .decide .ensures .mends) (x .before .before .if1 .left) (s .pre .exact) (s .pre .inRange) n)
 
 pub stores-in-spec : {M : Type 1} → statement M
 stores-in-spec =

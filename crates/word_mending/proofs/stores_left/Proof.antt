@@ -1,10 +1,12 @@
+-- Made from crates/byte_mending/proofs/stores_left/Proof.antt by tools/twins.
 -- `word_mending::stores_left` meets its contract: the mends, and what is left of the identifiers tells how many stores go outside the lists.
 use Prim.Native.Nat.{ℕ, _+_}
 use mathlib.Core.Path.{ap, ap₂, sym, _∙_}
 use mathlib.Core.List.{List}
 use native.Mathlib.Omega.{arith}
 use borrow.Author.Needs.{needs}
-use Rattle.stores.specs.declared.Needed.the-variants as N
+use Rattle.calls.specs.declared.Needed.the-variants as N
+use Rattle.word_form.specs.Words.{wordsIn}
 use Rattle.layout.specs.Words.{firstNode}
 use Rattle.mending.specs.Mending.{outsideFrom}
 use Rattle.mending.proofs.Counting.{outside-few}
@@ -36,7 +38,7 @@ add-t14 c =
     let x = erased c in
     let s = start x in
     let a = s .args in
-    omega (arith, s .pre .2 .held .few, outside-few (a .l) (a .words .now) (s .pre .1 .inRange) (x .erase-all .last .0) (firstNode (a .l)) (a .l .nodes), s .pre .1 .inRange .nodes)
+    omega (arith, s .pre .2 .held .few, outside-few (a .l) (wordsIn (a .words .now)) (s .pre .1 .inRange) (x .erase-all .last .0) (firstNode (a .l)) (a .l .nodes), s .pre .1 .inRange .nodes)
 
 returns : tie.Need-returns
 returns c =
@@ -44,7 +46,7 @@ returns c =
     let r = x .before .before in
     let s = start x in
     let a = s .args in
-    let w = a .words .now in
+    let w = wordsIn (a .words .now) in
     ap₂ (λ (n k : ℕ). N.Stores (n + k)) (s .pre .2 .held .len) (c .outside-stores .ensures ∙ ap (λ (i : List ℕ). outsideFrom (a .l) w i (firstNode (a .l)) (a .l .nodes)) (x .erase-all .ensures))
     ∙ sym (needed-left (a .l) w (a .m) (s .pre .2) (s .pre .3) (s .pre .1 .exact) (s .pre .1 .inRange) (r .read-nodes .last .0) (r .read-nodes .ensures .1) (r .read-nodes .ensures .0))
 

@@ -1,3 +1,4 @@
+-- Made from crates/byte_mends/proofs/all_mends/Proof.antt by tools/twins.
 -- `word_mends::all_mends` meets its contract. The loop's invariant: where the search stands at list k, and what fits it, if known.
 use Prim.Native.Nat.{ℕ, _+_, _-_, _*_, _≤_, _<_}
 use mathlib.Core.Path.{_≡_, refl, ap, sym, subst, _∙_}
@@ -8,9 +9,10 @@ use lib.ListN.{length, set}
 use Rattle.stores.specs.declared.Rows.{Rows}
 use Rattle.stores.specs.Stores.{mostRows, writesIn, Held}
 use Rattle.stores.proofs.Laws.{held-none, held-maybe}
+use Rattle.word_form.specs.Words.{wordsIn}
 use Rattle.layout.specs.Words.{Laid, sizeOf}
 use Rattle.lists.specs.Decide.{View, viewOf, countIn}
-use Rattle.spans.specs.Spans.{Gridded}
+use Rattle.layout.specs.Cells.{Gridded}
 use Rattle.fitting.specs.Fitting.{fitIn, mendOf, countMend, walkIn, FaultFits}
 use Rattle.fitting.specs.declared.Walk.{Walk}
 use Rattle.fitting.proofs.Inside.{fit-fits}
@@ -21,10 +23,10 @@ use Rattle.word_mends.proofs.all_mends.Tie as tie
 
 abbrev Inv-loop : tie.InvT-loop
 Inv-loop words l g members₀ whole₀ back₀ at₀ values₀ len₀ next₀ known₀ k₀ members whole back at values len next known k =
-    (Gridded l g × Laid l words)
-    × Found l (viewOf l words) (countIn l words) members whole back (record { at = at; values = values; len = len }) k
+    (Gridded l g × Laid l (wordsIn words))
+    × Found l (viewOf l (wordsIn words)) (countIn l (wordsIn words)) members whole back (record { at = at; values = values; len = len }) k
     × (members ≤ 65535 * k)
-    × (known ≡ true → k < l .lists → next ≡ fitIn l (viewOf l words) k (countIn l words k))
+    × (known ≡ true → k < l .lists → next ≡ fitIn l (viewOf l (wordsIn words)) k (countIn l (wordsIn words) k))
 
 abbrev μ-loop : tie.MeasureT-loop
 μ-loop words l g members₀ whole₀ back₀ at₀ values₀ len₀ next₀ known₀ k₀ members whole back at values len next known k = l .lists - k
@@ -34,10 +36,10 @@ abbrev start : tie.At-loop Inv-loop μ-loop → tie.Start Inv-loop μ-loop
 start c = c .before .before
 
 abbrev view : tie.Start Inv-loop μ-loop → View
-view s = viewOf (s .args .l) (s .args .words .now)
+view s = viewOf (s .args .l) (wordsIn (s .args .words .now))
 
 abbrev count : tie.Start Inv-loop μ-loop → ℕ → ℕ
-count s = countIn (s .args .l) (s .args .words .now)
+count s = countIn (s .args .l) (wordsIn (s .args .words .now))
 
 abbrev rows : tie.At-loop Inv-loop μ-loop → Rows
 rows c = record { at = c .loop .at; values = c .loop .values; len = c .loop .len }

@@ -1,3 +1,4 @@
+-- Made from crates/byte_mends/proofs/carried/Proof.antt by tools/twins.
 -- `word_mends::carried` meets its contract. Each return is one case of `carries`.
 use borrow.Author.Needs.{needs}
 use borrow.Author.Tests.{eq-eqb, ne-eqb}

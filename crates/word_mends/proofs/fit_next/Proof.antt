@@ -1,8 +1,10 @@
+-- Made from crates/byte_mends/proofs/fit_next/Proof.antt by tools/twins.
 -- `word_mends::fit_next` meets its contract.
 use mathlib.Core.Path.{_≡_, sym, subst, _∙_}
 use mathlib.Core.Bool.{false≢true}
 use Prim.Native.Nat.{ℕ}
 use borrow.Author.Needs.{needs}
+use Rattle.word_form.specs.Words.{wordsIn}
 use Rattle.lists.specs.Decide.{viewOf, countIn}
 use Rattle.fitting.specs.Fitting.{fitIn}
 use Rattle.word_mends.proofs.fit_next.Statement.{statement}
@@ -23,7 +25,7 @@ returns-2 c =
     let a = b .before .before .before .args in (
       c .fit-two .ensures .0,
       λ e h.
-          subst (λ (j : ℕ). c .fit-two .result .second ≡ fitIn (a .l) (viewOf (a .l) (a .words .now)) j (countIn (a .l) (a .words .now) j))
+          subst (λ (j : ℕ). c .fit-two .result .second ≡ fitIn (a .l) (viewOf (a .l) (wordsIn (a .words .now))) j (countIn (a .l) (wordsIn (a .words .now)) j))
           (b .beside .ensures .1 h) (c .fit-two .ensures .1),
     )
 

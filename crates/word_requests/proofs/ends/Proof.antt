@@ -1,9 +1,11 @@
+-- Made from crates/byte_requests/proofs/ends/Proof.antt by tools/twins.
 -- `word_requests::ends` meets its contract: questions 7 to 9, the first free cell, and the last of so many, searched from the first on.
 use Prim.Native.Nat.{ℕ, _-_, _/_}
 use mathlib.Core.Path.{_≡_, ap, _∙_, sym, subst}
 use mathlib.Core.List.{List}
 use native.Mathlib.Omega.{arith}
 use borrow.Author.Needs.{needs}
+use Rattle.word_form.specs.Words.{wordsIn}
 use Rattle.layout.specs.Words.{Node}
 use Rattle.lists.specs.Decide.{viewOf}
 use Rattle.requests.specs.declared.Free.the-variants.{Cell}
@@ -16,7 +18,7 @@ use Rattle.word_requests.proofs.ends.Tie as tie
 
 -- what is known at the start
 abbrev ident : tie.Start → ℕ → ℕ
-ident s = viewOf (s .args .l) (s .args .words .now) .ident
+ident s = viewOf (s .args .l) (wordsIn (s .args .words .now)) .ident
 
 abbrev met : tie.Start → List ℕ
 met s = freeCells (ident s) (around (s .args .l) (s .args .start) (s .args .l .nodes))

@@ -1,3 +1,4 @@
+-- Made from crates/byte_requests/proofs/free_cell/Proof.antt by tools/twins.
 -- `word_requests::free_cell` meets its contract. The loop's invariant: the node that is searched is at place `before` of the free ones among
 -- the `rest` nodes from c on.
 use Prim.Native.Nat.{ℕ, _-_}
@@ -5,11 +6,12 @@ use mathlib.Core.Path.{_≡_, refl, ap, _∙_, sym}
 use mathlib.Core.Bool.{Bool}
 use mathlib.Core.Logic.{⊎-elim}
 use native.Mathlib.Omega.{arith}
+use Rattle.word_form.specs.Words.{wordsIn}
 use Rattle.layout.specs.declared.Layout.{Layout}
 use Rattle.layout.specs.Words.{Laid, Node, isFree}
 use Rattle.lists.specs.Decide.{viewOf}
-use Rattle.spans.specs.declared.Cell.{Cell}
-use Rattle.spans.specs.Spans.{Gridded}
+use Rattle.layout.specs.declared.Cell.{Cell}
+use Rattle.layout.specs.Cells.{Gridded}
 use Rattle.requests.specs.declared.Free.{Free}
 use Rattle.requests.specs.Requests.{nextCell, around, freeCells, nth}
 use Rattle.requests.proofs.Laws.{next-node, free-here, free-passed, free-later, free-none}
@@ -19,8 +21,8 @@ use Rattle.word_requests.proofs.free_cell.Tie as tie
 
 abbrev Inv-loop : tie.InvT-loop
 Inv-loop words l g start i c₀ before₀ rest₀ c before rest =
-    let ident : ℕ → ℕ = viewOf l words .ident in
-    (Gridded l g × Laid l words) × Node l c
+    let ident : ℕ → ℕ = viewOf l (wordsIn words) .ident in
+    (Gridded l g × Laid l (wordsIn words)) × Node l c
     × (nth (freeCells ident (around l start (l .nodes))) i ≡ nth (freeCells ident (around l c rest)) before)
 
 abbrev μ-loop : tie.MeasureT-loop
@@ -37,7 +39,7 @@ abbrev layout : At → Layout
 layout h = h .before .before .args .l
 
 abbrev ident : At → ℕ → ℕ
-ident h = viewOf (layout h) (h .before .before .args .words .now) .ident
+ident h = viewOf (layout h) (wordsIn (h .before .before .args .words .now)) .ident
 
 -- the identifier that is read
 read : (c : tie.After-node Inv-loop μ-loop) → let h = c .before .before in c .node .result .ident ≡ ident h (h .loop .c)

@@ -1,8 +1,10 @@
+-- Made from crates/byte_requests/proofs/free_gap/Proof.antt by tools/twins.
 -- `word_requests::free_gap` meets its contract: no cell is free, or the site has the first that is.
 use Prim.Native.Nat.{ℕ}
 use mathlib.Core.Path.{_≡_, ap, _∙_, sym}
 use mathlib.Core.List.{List}
 use borrow.Author.Needs.{needs}
+use Rattle.word_form.specs.Words.{wordsIn}
 use Rattle.lists.specs.Decide.{viewOf, sequenceOf}
 use Rattle.requests.specs.declared.Sited.the-variants.{At}
 use Rattle.requests.specs.Requests.{around, firstFree}
@@ -14,10 +16,10 @@ use Rattle.word_requests.proofs.free_gap.Tie as tie
 
 -- what is known at the start
 abbrev ident : tie.Start → ℕ → ℕ
-ident s = viewOf (s .args .l) (s .args .words .now) .ident
+ident s = viewOf (s .args .l) (wordsIn (s .args .words .now)) .ident
 
 abbrev members : tie.Start → List ℕ
-members s = sequenceOf (s .args .l) (s .args .words .now) (s .args .k)
+members s = sequenceOf (s .args .l) (wordsIn (s .args .words .now)) (s .args .k)
 
 free-cell-requires : tie.Need-free-cell-requires
 free-cell-requires c κs = let s = c .before in (s .pre .0, s .pre .1, s .pre .4)

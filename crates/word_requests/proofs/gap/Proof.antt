@@ -1,7 +1,9 @@
+-- Made from crates/byte_requests/proofs/gap/Proof.antt by tools/twins.
 -- `word_requests::gap` meets its contract: questions 7 to 9, and then question 10.
 use Prim.Native.Nat.{ℕ}
 use mathlib.Core.Path.{_∙_}
 use mathlib.Core.List.{List}
+use Rattle.word_form.specs.Words.{wordsIn}
 use Rattle.lists.specs.Decide.{viewOf, sequenceOf}
 use Rattle.lists.proofs.Ring.{held-count}
 use Rattle.requests.proofs.Laws.{gap-asked}
@@ -12,10 +14,10 @@ use Rattle.word_requests.proofs.gap.Tie as tie
 
 -- what is known at the start
 abbrev ident : tie.Start → ℕ → ℕ
-ident s = viewOf (s .args .l) (s .args .words .now) .ident
+ident s = viewOf (s .args .l) (wordsIn (s .args .words .now)) .ident
 
 abbrev members : tie.Start → List ℕ
-members s = sequenceOf (s .args .l) (s .args .words .now) (s .args .k)
+members s = sequenceOf (s .args .l) (wordsIn (s .args .words .now)) (s .args .k)
 
 gap-number-requires : tie.Need-gap-number-requires
 gap-number-requires c κs = c .before .pre .1 .inRange

@@ -1,10 +1,11 @@
+-- Made from crates/byte_requests/proofs/gap_site/Proof.antt by tools/twins.
 -- `word_requests::gap_site` meets its contract. The cell in front of the position leads to the one behind it.
 use Prim.Native.Nat.{_<_}
 use mathlib.Core.Path.{ap, _∙_}
 use native.Mathlib.Omega.{arith}
 use borrow.Author.Needs.{needs}
 use Rattle.layout.specs.Words.{cellCount}
-use Rattle.spans.specs.declared.Cell.{Cell}
+use Rattle.layout.specs.declared.Cell.{Cell}
 use Rattle.requests.specs.declared.Site.{Site}
 use Rattle.requests.proofs.Sites.{gap-cell, gap-link, gap-found}
 use Rattle.word_requests.proofs.gap_site.Statement.{statement}

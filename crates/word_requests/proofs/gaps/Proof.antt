@@ -1,8 +1,10 @@
+-- Made from crates/byte_requests/proofs/gaps/Proof.antt by tools/twins.
 -- `word_requests::gaps` meets its contract: refused as the cells are, or the gap with the first of them.
 use Prim.Native.Nat.{ℕ}
 use mathlib.Core.Path.{_≡_, ap, _∙_, sym}
 use mathlib.Core.List.{List}
 use borrow.Author.Needs.{needs}
+use Rattle.word_form.specs.Words.{wordsIn}
 use Rattle.lists.specs.Decide.{viewOf, sequenceOf}
 use Rattle.lists.proofs.Ring.{held-count}
 use Rattle.requests.specs.declared.Ends.{Ends}
@@ -16,10 +18,10 @@ use Rattle.word_requests.proofs.gaps.Tie as tie
 
 -- what is known at the start
 abbrev ident : tie.Start → ℕ → ℕ
-ident s = viewOf (s .args .l) (s .args .words .now) .ident
+ident s = viewOf (s .args .l) (wordsIn (s .args .words .now)) .ident
 
 abbrev members : tie.Start → List ℕ
-members s = sequenceOf (s .args .l) (s .args .words .now) (s .args .k)
+members s = sequenceOf (s .args .l) (wordsIn (s .args .words .now)) (s .args .k)
 
 ends-requires : tie.Need-ends-requires
 ends-requires c κs = search needs

@@ -1,11 +1,13 @@
+-- Made from crates/byte_requests/proofs/mark/Proof.antt by tools/twins.
 -- `word_requests::mark` meets its contract: questions 8 and 13.
 use mathlib.Core.Path.{_≡_, ap, _∙_}
 use mathlib.Core.Bool.{true}
 use borrow.Author.Needs.{needs}
+use Rattle.word_form.specs.Words.{wordsIn}
 use Rattle.layout.specs.Words.{isNode, isFree}
 use Rattle.layout.proofs.Laws.{is-node, answered-no, answered-yes}
 use Rattle.lists.specs.Decide.{viewOf}
-use Rattle.spans.specs.declared.Cell.{Cell}
+use Rattle.layout.specs.declared.Cell.{Cell}
 use Rattle.word_requests.proofs.mark.Statement.{statement}
 use Rattle.word_requests.proofs.mark.Tie as tie
 
@@ -30,7 +32,7 @@ is-free-requires c κs = search needs
 
 -- what is asked of its identifier
 asked : (c : tie.After-is-free) → let s = start (c .before .before) in
-    c .is-free .result ≡ isFree (viewOf (s .args .l) (s .args .words .now) .ident (s .args .cell))
+    c .is-free .result ≡ isFree (viewOf (s .args .l) (wordsIn (s .args .words .now)) .ident (s .args .cell))
 asked c = c .is-free .ensures ∙ ap (λ (x : Cell). isFree (x .ident)) (c .before .node .ensures)
 
 returns-2 : tie.Need-returns-2

@@ -1,10 +1,11 @@
+-- Made from crates/byte_requests/proofs/member/Proof.antt by tools/twins.
 -- `word_requests::member` meets its contract. The member's own links say what stands before and after it.
 use Prim.Native.Nat.{_<_}
 use mathlib.Core.Path.{ap, _∙_}
 use native.Mathlib.Omega.{arith}
 use borrow.Author.Needs.{needs}
 use Rattle.layout.specs.Words.{cellCount}
-use Rattle.spans.specs.declared.Cell.{Cell}
+use Rattle.layout.specs.declared.Cell.{Cell}
 use Rattle.requests.specs.declared.Sited.the-variants.{At}
 use Rattle.requests.proofs.Sites.{member-past, member-node, member-links, member-found}
 use Rattle.word_requests.proofs.member.Statement.{statement}

@@ -1,9 +1,11 @@
+-- Made from crates/byte_requests/proofs/site_of/Proof.antt by tools/twins.
 -- `word_requests::site_of` meets its contract. Questions 5 and 6 are those of every request, and then its own follow.
 use Prim.Native.Nat.{ℕ, _<_}
 use mathlib.Core.Path.{_≡_, _∙_, sym, ap}
 use mathlib.Core.Bool.{true}
 use native.Mathlib.Omega.{arith}
 use borrow.Author.Needs.{needs}
+use Rattle.word_form.specs.Words.{wordsIn}
 use Rattle.layout.proofs.Laws.{answered-no, answered-yes}
 use Rattle.lists.specs.Decide.{View, viewOf, countIn, soundIn, HeldList}
 use Rattle.lists.proofs.Ring.{sound-held}
@@ -15,10 +17,10 @@ use Rattle.word_requests.proofs.site_of.Tie as tie
 
 -- what is known at the start
 abbrev view : tie.Start → View
-view s = viewOf (s .args .l) (s .args .words .now)
+view s = viewOf (s .args .l) (wordsIn (s .args .words .now))
 
 abbrev counts : tie.Start → ℕ → ℕ
-counts s = countIn (s .args .l) (s .args .words .now)
+counts s = countIn (s .args .l) (wordsIn (s .args .words .now))
 
 -- the start, from behind questions 5 and 6, and their answers
 abbrev asked : tie.After-count → tie.After-list-of

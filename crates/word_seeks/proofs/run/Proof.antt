@@ -1,12 +1,15 @@
+-- Made from crates/byte_seeks/proofs/run/Proof.antt by tools/twins.
 -- `word_seeks::run` meets its contract. The loop's invariant: with the rest of the budget the walk from here comes to what the walk behind the
 -- header comes to with the budget left there.
 use Prim.Native.Nat.{_-_}
 use mathlib.Core.Path.{_≡_, refl, ap, _∙_, sym, subst⁻¹}
 use native.Mathlib.Omega.{arith}
+use Rattle.word_form.specs.Words.{wordsIn}
 use Rattle.layout.specs.Words.{Laid}
 use Rattle.lists.specs.Decide.{View, viewOf}
-use Rattle.spans.specs.declared.Cell.{Cell}
-use Rattle.spans.specs.Spans.{Gridded, cellIn}
+use Rattle.layout.specs.declared.Cell.{Cell}
+use Rattle.layout.specs.Cells.{Gridded}
+use Rattle.spans.specs.Spans.{cellIn}
 use Rattle.seeks.specs.declared.Seek.{Seek}
 use Rattle.seeks.specs.Seeks.{stepped, runWith, Inside}
 use Rattle.seeks.proofs.Walk.{run-arrived, run-spent, run-step, inside-here, inside-step}
@@ -15,14 +18,14 @@ use Rattle.word_seeks.proofs.run.Tie as tie
 
 abbrev Inv-loop : tie.InvT-loop
 Inv-loop words l g budget t₀ rest₀ t rest =
-    (Gridded l g × Laid l words × Inside l (viewOf l words) t) × (runWith (viewOf l words) rest t ≡ runWith (viewOf l words) rest₀ t₀)
+    (Gridded l g × Laid l (wordsIn words) × Inside l (viewOf l (wordsIn words)) t) × (runWith (viewOf l (wordsIn words)) rest t ≡ runWith (viewOf l (wordsIn words)) rest₀ t₀)
 
 abbrev μ-loop : tie.MeasureT-loop
 μ-loop words l g budget t₀ rest₀ t rest = t .left
 
 -- what the cells of the store name
 abbrev view : tie.Start Inv-loop μ-loop → View
-view s = viewOf (s .args .l) (s .args .words .now)
+view s = viewOf (s .args .l) (wordsIn (s .args .words .now))
 
 returns : tie.Need-returns Inv-loop μ-loop
 returns c =

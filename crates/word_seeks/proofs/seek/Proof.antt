@@ -1,9 +1,11 @@
+-- Made from crates/byte_seeks/proofs/seek/Proof.antt by tools/twins.
 -- `word_seeks::seek` meets its contract: half of the list's length, rounded up, arrives, so the budget is never spent.
 use mathlib.Core.Path.{_≡_, ap, _∙_, sym}
 use mathlib.Core.List.{_∷_}
 use native.Mathlib.Omega.{arith}
 use lib.ListN.{getD}
 use borrow.Author.Needs.{needs}
+use Rattle.word_form.specs.Words.{wordsIn}
 use Rattle.lists.specs.Decide.{View, viewOf, sequenceOf}
 use Rattle.seeks.specs.declared.Sought.the-variants.{At}
 use Rattle.seeks.specs.Seeks.{runWith}
@@ -23,7 +25,7 @@ budget-requires c κs = search needs
 
 -- what the cells of the store name
 abbrev view : tie.Start → View
-view s = viewOf (s .args .l) (s .args .words .now)
+view s = viewOf (s .args .l) (wordsIn (s .args .words .now))
 
 run-requires : tie.Need-run-requires
 run-requires c κs =
@@ -33,7 +35,7 @@ run-requires c κs =
     (s .pre .0, s .pre .1, b .0, b .1)
 
 arrived : (c : tie.After-run) → let a = c .before .before .before .before .before .args in
-    c .run .result ≡ At (getD (a .k ∷ sequenceOf (a .l) (a .words .now) (a .k)) (a .q) 0)
+    c .run .result ≡ At (getD (a .k ∷ sequenceOf (a .l) (wordsIn (a .words .now)) (a .k)) (a .q) 0)
 arrived c =
     let t = c .before .before in
     let s = t .before .before .before in

@@ -1,13 +1,16 @@
+-- Made from crates/byte_walks/proofs/both_spanned/Proof.antt by tools/twins.
 -- `word_walks::both_spanned` meets its contract. The loop's invariant: each span is spanned exactly if what the rounds have left of
 -- it is; `both` is no more than the cells that either has left.
 use Prim.Native.Nat.{_≤_, _<_}
 use mathlib.Core.Path.{subst}
 use mathlib.Core.Logic.{⊎-elim}
 use native.Mathlib.Omega.{arith}
+use Rattle.word_form.specs.Words.{wordsIn}
 use Rattle.layout.specs.Words.{Laid}
 use Rattle.lists.specs.Decide.{viewOf}
 use Rattle.spans.specs.declared.Round.{Round}
-use Rattle.spans.specs.Spans.{Gridded, rounded}
+use Rattle.layout.specs.Cells.{Gridded}
+use Rattle.spans.specs.Spans.{rounded}
 use Rattle.spans.proofs.Decided.{refused, denied, granted}
 use Rattle.spans.proofs.Ends.{Reduced, reduced-first, rounded-count, reduced-broken, reduced-next}
 use Rattle.word_walks.proofs.both_spanned.Statement.{statement}
@@ -15,8 +18,8 @@ use Rattle.word_walks.proofs.both_spanned.Tie as tie
 
 abbrev Inv-loop : tie.InvT-loop
 Inv-loop words l g k j s₀ t₀ both₀ s t both =
-    (Gridded l g × Laid l words × (k < l .lists) × (j < l .lists))
-    × Reduced l (viewOf l words) k s₀ s × Reduced l (viewOf l words) j t₀ t
+    (Gridded l g × Laid l (wordsIn words) × (k < l .lists) × (j < l .lists))
+    × Reduced l (viewOf l (wordsIn words)) k s₀ s × Reduced l (viewOf l (wordsIn words)) j t₀ t
     × (both ≤ s .count) × (both ≤ t .count)
 
 abbrev μ-loop : tie.MeasureT-loop
@@ -27,7 +30,7 @@ loop-holds c =
     let s = c .before .before .before .before in
     let p = s .pre in
     let a = s .args in
-    let v = viewOf (a .l) (a .words .now) in (
+    let v = viewOf (a .l) (wordsIn (a .words .now)) in (
       (p .0, p .1, p .2, p .3),
       reduced-first (a .l) v (a .k) (a .s) (p .4),
       reduced-first (a .l) v (a .j) (a .t) (p .5),
@@ -43,10 +46,10 @@ abbrev start : At → tie.Start Inv-loop μ-loop
 start h = h .before .before .before .before .before
 
 abbrev says : At → Round → Type 0
-says h = let a = start h .args in rounded (a .l) (viewOf (a .l) (a .words .now)) (a .k) (h .loop .s)
+says h = let a = start h .args in rounded (a .l) (viewOf (a .l) (wordsIn (a .words .now))) (a .k) (h .loop .s)
 
 abbrev says-other : At → Round → Type 0
-says-other h = let a = start h .args in rounded (a .l) (viewOf (a .l) (a .words .now)) (a .j) (h .loop .t)
+says-other h = let a = start h .args in rounded (a .l) (viewOf (a .l) (wordsIn (a .words .now))) (a .j) (h .loop .t)
 
 -- the loop's test, from behind the second round: two cells and more are left of either
 abbrev tested : tie.After-round2 Inv-loop μ-loop → tie.In-loop Inv-loop μ-loop

@@ -1,11 +1,13 @@
+-- Made from crates/byte_walks/proofs/count/Proof.antt by tools/twins.
 -- `word_walks::count` meets its contract. The count stands within the header, and the header within the store.
 use Prim.Native.Nat.{ℕ, _+_}
 use mathlib.Core.Path.{ap, _∙_}
 use native.Mathlib.Omega.{arith}
 use lib.ListN.{getD}
 use borrow.Author.Needs.{needs}
+use Rattle.word_form.specs.Words.{wordsIn}
 use Rattle.layout.specs.Words.{countWord}
-use Rattle.spans.proofs.Places.{head-words}
+use Rattle.layout.proofs.Places.{head-words}
 use Rattle.word_walks.proofs.count.Statement.{statement}
 use Rattle.word_walks.proofs.count.Tie as tie
 
@@ -23,7 +25,7 @@ word-requires c κs =
 returns : tie.Need-returns
 returns c =
     let h = c .before in
-    c .word .ensures ∙ ap (λ (a : ℕ). getD (h .before .before .args .words .now) (a + countWord) 0) (h .header .ensures)
+    c .word .ensures ∙ ap (λ (a : ℕ). getD (wordsIn (h .before .before .args .words .now)) (a + countWord) 0) (h .header .ensures)
 
 pub count-spec : {M : Type 1} → statement M
 count-spec = tie.close (tie.spec header-requires add-word word-requires returns)

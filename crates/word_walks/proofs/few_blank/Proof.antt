@@ -1,12 +1,16 @@
--- `word_walks::few_blank` meets its contract. The loop's invariant: the first i words are added up.
+-- Made from crates/byte_walks/proofs/few_blank/Proof.antt by tools/twins.
+-- `word_walks::few_blank` meets its contract. The loop's invariant: the first i words are added up. There are no more words than
+-- fit in memory, so their numbers fit.
 use Prim.Native.Nat.{_-_}
 use native.Mathlib.Omega.{arith}
+use Rattle.word_form.specs.Words.{wordsIn}
+use Rattle.word_form.proofs.Laws.{length-words}
 use Rattle.spans.proofs.Sums.{Adding, adding-first, adding-next, adding-done}
 use Rattle.word_walks.proofs.few_blank.Statement.{statement}
 use Rattle.word_walks.proofs.few_blank.Tie as tie
 
 abbrev Inv-loop : tie.InvT-loop
-Inv-loop words a n sum₀ i₀ sum i = Adding words a n i sum
+Inv-loop words a n sum₀ i₀ sum i = Adding (wordsIn words) a n i sum
 
 abbrev μ-loop : tie.MeasureT-loop
 μ-loop words a n sum₀ i₀ sum i = n - i
@@ -14,13 +18,13 @@ abbrev μ-loop : tie.MeasureT-loop
 loop-holds : tie.Need-loop-holds Inv-loop μ-loop
 loop-holds c =
     let a = c .before .args in
-    adding-first (a .words .now) (a .a) (a .n)
+    adding-first (wordsIn (a .words .now)) (a .a) (a .n)
 
 cast-word : tie.Need-cast-word Inv-loop μ-loop
 cast-word c = omega arith
 
 add-word : tie.Need-add-word Inv-loop μ-loop
-add-word c = omega arith
+add-word c = omega (arith, length-words (c .before .before .before .args .words .now))
 
 word-requires : tie.Need-word-requires Inv-loop μ-loop
 word-requires c κs = omega arith
@@ -41,13 +45,13 @@ loop-again : tie.Need-loop-again Inv-loop μ-loop
 loop-again c =
     let h = c .before .before in
     let a = h .before .before .args in
-    adding-next (a .words .now) (a .a) (a .n) (h .loop .i) (h .loop .sum) (c .word .result) (h .loop .inv) (omega arith) (c .word .ensures) (omega arith)
+    adding-next (wordsIn (a .words .now)) (a .a) (a .n) (h .loop .i) (h .loop .sum) (c .word .result) (h .loop .inv) (omega arith) (c .word .ensures) (omega arith)
 
 returns : tie.Need-returns Inv-loop μ-loop
 returns c =
     let h = c .before in
     let a = h .before .before .args in
-    adding-done (a .words .now) (a .a) (a .n) (h .loop .i) (h .loop .sum) (h .loop .inv) (omega arith)
+    adding-done (wordsIn (a .words .now)) (a .a) (a .n) (h .loop .i) (h .loop .sum) (h .loop .inv) (omega arith)
 
 pub few-blank-spec : {M : Type 1} → statement M
 few-blank-spec =

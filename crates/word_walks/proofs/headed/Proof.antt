@@ -1,7 +1,8 @@
+-- Made from crates/byte_walks/proofs/headed/Proof.antt by tools/twins.
 -- `word_walks::headed` meets its contract.
 use mathlib.Core.Path.{ap, _∙_, sym}
 use borrow.Author.Needs.{needs}
-use Rattle.spans.specs.declared.Cell.{Cell}
+use Rattle.layout.specs.declared.Cell.{Cell}
 use Rattle.spans.proofs.Decided.{tested}
 use Rattle.word_walks.proofs.headed.Statement.{statement}
 use Rattle.word_walks.proofs.headed.Tie as tie

@@ -1,3 +1,4 @@
+-- Made from crates/byte_walks/proofs/links_of/Proof.antt by tools/twins.
 -- `word_walks::links_of` meets its contract.
 use borrow.Author.Needs.{needs}
 use Rattle.word_walks.proofs.links_of.Statement.{statement}

@@ -1,3 +1,4 @@
+-- Made from crates/byte_walks/proofs/middle/Proof.antt by tools/twins.
 -- `word_walks::middle` meets its contract. Where no cell is left, the ends lead to each other; where one is left, both lead to it.
 use mathlib.Core.Path.{_≡_, _∙_, sym}
 use mathlib.Core.Bool.{true, true≢false}

@@ -1,9 +1,11 @@
+-- Made from crates/byte_walks/proofs/node/Proof.antt by tools/twins.
 -- `word_walks::node` meets its contract. A node's words stand within the store.
 use mathlib.Core.Path.{ap, _∙_}
 use native.Mathlib.Omega.{arith}
 use borrow.Author.Needs.{needs}
-use Rattle.spans.specs.Spans.{cellOf}
-use Rattle.spans.proofs.Places.{in-words}
+use Rattle.word_form.specs.Words.{wordsIn}
+use Rattle.layout.specs.Cells.{cellOf}
+use Rattle.layout.proofs.Places.{in-words}
 use Rattle.word_walks.proofs.node.Statement.{statement}
 use Rattle.word_walks.proofs.node.Tie as tie
 
@@ -16,7 +18,7 @@ cell-at-requires c κs =
     omega (arith, c .place .ensures, in-words (s .pre .1) (s .args .y) (s .pre .2 .high))
 
 returns : tie.Need-returns
-returns c = let p = c .before in c .cell-at .ensures ∙ ap (cellOf (p .before .before .args .words .now)) (p .place .ensures)
+returns c = let p = c .before in c .cell-at .ensures ∙ ap (cellOf (wordsIn (p .before .before .args .words .now))) (p .place .ensures)
 
 pub node-spec : {M : Type 1} → statement M
 node-spec = tie.close (tie.spec place-requires cell-at-requires returns)

@@ -1,7 +1,9 @@
+-- Made from crates/byte_walks/proofs/round/Proof.antt by tools/twins.
 -- `word_walks::round` meets its contract. The first and the last cell are nodes, and what is said of them is said of the view.
 use mathlib.Core.Path.{_≡_, _∙_, sym}
 use mathlib.Core.Bool.{true, true≢false}
 use borrow.Author.Needs.{needs}
+use Rattle.word_form.specs.Words.{wordsIn}
 use Rattle.layout.specs.Words.{isNode}
 use Rattle.layout.proofs.Laws.{is-node, answered-no, answered-yes}
 use Rattle.lists.specs.Decide.{viewOf}
@@ -49,7 +51,7 @@ returns-3 c =
     let d = c .before in
     let e = d .before .before in
     let a = start e .args in
-    narrowed-rounded (a .l) (viewOf (a .l) (a .words .now)) (a .k) (a .s) (c .round .result) (first-node e) (last-node e)
+    narrowed-rounded (a .l) (viewOf (a .l) (wordsIn (a .words .now))) (a .k) (a .s) (c .round .result) (first-node e) (last-node e)
     (d .before .node .ensures) (d .node2 .ensures) (c .round .ensures)
 
 pub round-spec : {M : Type 1} → statement M

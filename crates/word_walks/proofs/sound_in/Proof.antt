@@ -1,3 +1,4 @@
+-- Made from crates/byte_walks/proofs/sound_in/Proof.antt by tools/twins.
 -- `word_walks::sound_in` meets its contract. As many nodes are in use as the counts say in sum, and no free node has a record, or the store is
 -- not sound. The loop's invariant: the lists below k hold.
 use Prim.Native.Nat.{ℕ, _+_, _-_, _≤_}
@@ -5,12 +6,14 @@ use mathlib.Core.Path.{_≡_, ap, _∙_, sym, subst}
 use mathlib.Core.Bool.{true}
 use native.Mathlib.Omega.{arith}
 use lib.ListN.{length}
+use Rattle.word_form.specs.Words.{wordsIn}
 use Rattle.layout.specs.declared.Layout.{Layout}
 use Rattle.layout.specs.Words.{Laid, firstNode}
 use Rattle.lists.specs.Decide.{View, viewOf, countIn, allHold, used, unwiped}
 use Rattle.lists.proofs.Stepwise.{all-hold-none, all-hold-more}
 use Rattle.spans.specs.declared.Tally.{Tally}
-use Rattle.spans.specs.Spans.{Gridded, countSum}
+use Rattle.layout.specs.Cells.{Gridded}
+use Rattle.spans.specs.Spans.{countSum}
 use Rattle.spans.proofs.Decided.{denied, granted}
 use Rattle.spans.proofs.Counts.{sum-not, unwiped-not, pair-not, sum-sound, last-sound}
 use Rattle.word_walks.proofs.sound_in.Statement.{statement}
@@ -18,7 +21,7 @@ use Rattle.word_walks.proofs.sound_in.Tie as tie
 
 abbrev Inv-loop : tie.InvT-loop
 Inv-loop words l g k₀ k =
-    Gridded l g × Laid l words × (k ≤ l .lists) × (allHold l (viewOf l words) (countIn l words) k ≡ true)
+    Gridded l g × Laid l (wordsIn words) × (k ≤ l .lists) × (allHold l (viewOf l (wordsIn words)) (countIn l (wordsIn words)) k ≡ true)
 
 abbrev μ-loop : tie.MeasureT-loop
 μ-loop words l g k₀ k = l .lists - k
@@ -36,21 +39,21 @@ returns : tie.Need-returns Inv-loop μ-loop
 returns c =
     let d = c .before in
     let a = d .before .before .before .before .before .args in
-    sum-not (a .l) (viewOf (a .l) (a .words .now)) (countIn (a .l) (a .words .now))
+    sum-not (a .l) (viewOf (a .l) (wordsIn (a .words .now))) (countIn (a .l) (wordsIn (a .words .now)))
     (λ e. c .if1 .taken (ap (λ (t : Tally). t .used) (d .before .before .tally .ensures) ∙ e ∙ sym (d .before .counted .ensures)))
 
 returns-2 : tie.Need-returns-2 Inv-loop μ-loop
 returns-2 c =
     let d = c .before .before .before in
     let a = d .before .before .before .before .before .args in
-    unwiped-not (a .l) (viewOf (a .l) (a .words .now)) (countIn (a .l) (a .words .now))
+    unwiped-not (a .l) (viewOf (a .l) (wordsIn (a .words .now))) (countIn (a .l) (wordsIn (a .words .now)))
     (λ e. c .if2 .taken (ap (λ (t : Tally). t .unwiped) (d .before .before .tally .ensures) ∙ e))
 
 loop-holds : tie.Need-loop-holds Inv-loop μ-loop
 loop-holds c =
     let g = c .before .before .before .before .before .before in
     let s = g .before .before in
-    let w = s .args .words .now in
+    let w = wordsIn (s .args .words .now) in
     (g .of .ensures, s .pre, omega arith, all-hold-none (s .args .l) (viewOf (s .args .l) w) (countIn (s .args .l) w))
 
 -- the places in the loop, and what is known there
@@ -64,10 +67,10 @@ abbrev layout : At → Layout
 layout c = start c .args .l
 
 abbrev counts : At → ℕ → ℕ
-counts c = countIn (layout c) (start c .args .words .now)
+counts c = countIn (layout c) (wordsIn (start c .args .words .now))
 
 abbrev view : At → View
-view c = viewOf (layout c) (start c .args .words .now)
+view c = viewOf (layout c) (wordsIn (start c .args .words .now))
 
 -- the sum of the counts is right
 sum : (c : At) → length (used (view c) (firstNode (layout c)) (layout c .nodes)) ≡ countSum (counts c) (layout c .lists)

@@ -1,18 +1,21 @@
+-- Made from crates/byte_walks/proofs/spanned/Proof.antt by tools/twins.
 -- `word_walks::spanned` meets its contract. The loop's invariant: the span is spanned exactly if what the rounds have left of it is.
 use Prim.Native.Nat.{_<_}
 use mathlib.Core.Path.{subst}
 use native.Mathlib.Omega.{arith}
+use Rattle.word_form.specs.Words.{wordsIn}
 use Rattle.layout.specs.Words.{Laid}
 use Rattle.lists.specs.Decide.{viewOf}
 use Rattle.spans.specs.declared.Round.{Round}
-use Rattle.spans.specs.Spans.{Gridded, rounded}
+use Rattle.layout.specs.Cells.{Gridded}
+use Rattle.spans.specs.Spans.{rounded}
 use Rattle.spans.proofs.Decided.{refused, decides-same}
 use Rattle.spans.proofs.Ends.{Reduced, reduced-first, rounded-count, reduced-broken, reduced-next}
 use Rattle.word_walks.proofs.spanned.Statement.{statement}
 use Rattle.word_walks.proofs.spanned.Tie as tie
 
 abbrev Inv-loop : tie.InvT-loop
-Inv-loop words l g k s₀ s = (Gridded l g × Laid l words × (k < l .lists)) × Reduced l (viewOf l words) k s₀ s
+Inv-loop words l g k s₀ s = (Gridded l g × Laid l (wordsIn words) × (k < l .lists)) × Reduced l (viewOf l (wordsIn words)) k s₀ s
 
 abbrev μ-loop : tie.MeasureT-loop
 μ-loop words l g k s₀ s = s .count
@@ -22,14 +25,14 @@ loop-holds c =
     let s = c .before in
     let p = s .pre in
     let a = s .args in
-    ((p .0, p .1, p .2), reduced-first (a .l) (viewOf (a .l) (a .words .now)) (a .k) (a .s) (p .3))
+    ((p .0, p .1, p .2), reduced-first (a .l) (viewOf (a .l) (wordsIn (a .words .now))) (a .k) (a .s) (p .3))
 
 -- what a round in the loop says
 abbrev says : tie.After-round Inv-loop μ-loop → Round → Type 0
 says c r =
     let h = c .before .before .before in
     let a = h .before .before .args in
-    rounded (a .l) (viewOf (a .l) (a .words .now)) (a .k) (h .loop .s) r
+    rounded (a .l) (viewOf (a .l) (wordsIn (a .words .now))) (a .k) (h .loop .s) r
 
 round-requires : tie.Need-round-requires Inv-loop μ-loop
 round-requires c κs =

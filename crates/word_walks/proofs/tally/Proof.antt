@@ -1,3 +1,4 @@
+-- Made from crates/byte_walks/proofs/tally/Proof.antt by tools/twins.
 -- `word_walks::tally` meets its contract. The loop's invariant: a is the place of node i, and t is the tally of the nodes before it.
 use Prim.Native.Nat.{ℕ, _+_, _-_, _≤_}
 use mathlib.Core.Path.{_≡_, ap, _∙_, sym, subst}
@@ -5,18 +6,20 @@ use mathlib.Core.List.{List}
 use native.Mathlib.Omega.{arith}
 use borrow.Author.Needs.{needs}
 use lib.ListN.{length, getD}
+use Rattle.word_form.specs.Words.{wordsIn}
 use Rattle.layout.specs.declared.Layout.{Layout}
 use Rattle.layout.specs.Words.{Laid, linkWords, tailWords, firstNode, cellAt, recordAt}
 use Rattle.lists.specs.Decide.{View, viewOf, blankFrom}
-use Rattle.spans.specs.Spans.{Gridded, FewIn, tallied, tallyOf}
-use Rattle.spans.proofs.Places.{first-place, next-place, tail-words, words-few}
+use Rattle.layout.specs.Cells.{Gridded}
+use Rattle.spans.specs.Spans.{FewIn, tallied, tallyOf}
+use Rattle.layout.proofs.Places.{first-place, next-place, tail-words, words-few}
 use Rattle.spans.proofs.Counts.{tally-none, tally-more, tally-few}
 use Rattle.word_walks.proofs.tally.Statement.{statement}
 use Rattle.word_walks.proofs.tally.Tie as tie
 
 abbrev Inv-loop : tie.InvT-loop
 Inv-loop words l g tail a₀ t₀ i₀ a t i =
-    Gridded l g × Laid l words × (i ≤ l .nodes) × (a ≡ cellAt l (firstNode l + i)) × (t ≡ tallyOf (viewOf l words) (firstNode l) i)
+    Gridded l g × Laid l (wordsIn words) × (i ≤ l .nodes) × (a ≡ cellAt l (firstNode l + i)) × (t ≡ tallyOf (viewOf l (wordsIn words)) (firstNode l) i)
 
 abbrev μ-loop : tie.MeasureT-loop
 μ-loop words l g tail a₀ t₀ i₀ a t i = l .nodes - i
@@ -35,7 +38,7 @@ loop-holds c =
       s .pre .1,
       omega arith,
       s .pre .0 .first ∙ first-place l,
-      c .none .ensures ∙ tally-none (viewOf l (s .args .words .now)) (firstNode l),
+      c .none .ensures ∙ tally-none (viewOf l (wordsIn (s .args .words .now))) (firstNode l),
     )
 
 -- the places in the loop, and what is known there
@@ -49,7 +52,7 @@ abbrev layout : At → Layout
 layout h = start h .args .l
 
 abbrev words : At → List ℕ
-words h = start h .args .words .now
+words h = wordsIn (start h .args .words .now)
 
 abbrev view : At → View
 view h = viewOf (layout h) (words h)

@@ -1,6 +1,8 @@
+-- Made from crates/byte_walks/proofs/two_hold/Proof.antt by tools/twins.
 -- `word_walks::two_hold` meets its contract. Both headers have their list's identifier, and the walks that begin there decide.
 use Prim.Native.Nat.{ℕ}
 use borrow.Author.Needs.{needs}
+use Rattle.word_form.specs.Words.{wordsIn}
 use Rattle.lists.specs.Decide.{View, viewOf, countIn}
 use Rattle.spans.proofs.Decided.{refused, denied, granted, decides-same}
 use Rattle.spans.proofs.Ends.{held-ident, whole-led, whole-held, held-whole}
@@ -9,10 +11,10 @@ use Rattle.word_walks.proofs.two_hold.Tie as tie
 
 -- what is known at the start
 abbrev view : tie.Start → View
-view s = viewOf (s .args .l) (s .args .words .now)
+view s = viewOf (s .args .l) (wordsIn (s .args .words .now))
 
 abbrev counts : tie.Start → ℕ → ℕ
-counts s = countIn (s .args .l) (s .args .words .now)
+counts s = countIn (s .args .l) (wordsIn (s .args .words .now))
 
 headed-requires : tie.Need-headed-requires
 headed-requires c κs = search needs

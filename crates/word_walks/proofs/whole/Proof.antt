@@ -1,3 +1,4 @@
+-- Made from crates/byte_walks/proofs/whole/Proof.antt by tools/twins.
 -- `word_walks::whole` meets its contract.
 use mathlib.Core.Path.{ap₂, _∙_}
 use borrow.Author.Needs.{needs}

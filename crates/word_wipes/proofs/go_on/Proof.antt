@@ -1,3 +1,4 @@
+-- Made from crates/byte_wipes/proofs/go_on/Proof.antt by tools/twins.
 -- `word_wipes::go_on`: the wipes follow on other stores, if these are all made.
 use Prim.Native.Nat.{_+_, _-_, _≤_}
 use mathlib.Core.Path.{_≡_, ap, sym, _∙_}
@@ -6,13 +7,15 @@ use mathlib.Core.Logic.{⊎-elim}
 use native.Mathlib.Omega.{arith}
 use lib.ListN.{length}
 use borrow.Author.Needs.{needs}
-use Rattle.stores.specs.declared.Answer.{Answer}
-use Rattle.stores.specs.declared.Answer.the-variants as A
-use Rattle.stores.specs.Stores.{Write, answerStores, more}
-use Rattle.stores.proofs.Laws.{answer-stopped}
-use Rattle.stores.proofs.Segments.{undone-short, done-whole}
-use Rattle.mending.specs.Mending.{wipes, answerOn, wordsOn}
-use Rattle.mending.proofs.Making.{none-follow}
+use Rattle.calls.specs.declared.Answer.{Answer}
+use Rattle.calls.specs.declared.Answer.the-variants as A
+use Rattle.calls.specs.Answers.{answerStores, more}
+use Rattle.stores.specs.Stores.{Write}
+use Rattle.calls.proofs.Answers.{answer-stopped, undone-short, done-whole}
+use Rattle.word_form.specs.Words.{wordsIn}
+use Rattle.mending.specs.Mending.{wipes, answerOn}
+use Rattle.word_wipes.specs.Wiping.{wordsOn}
+use Rattle.word_wipes.proofs.Making.{none-follow}
 use Rattle.word_wipes.proofs.go_on.Statement.{statement}
 use Rattle.word_wipes.proofs.go_on.Tie as tie
 
@@ -21,7 +24,7 @@ enum-known-before c = search needs
 
 -- the wipes
 abbrev all : tie.Start → List Write
-all s = wipes (s .args .l) (s .args .words .now)
+all s = wipes (s .args .l) (wordsIn (s .args .words .now))
 
 returns : tie.Need-returns
 returns c =

@@ -1,7 +1,0 @@
-pub mod Laws
-pub mod Cases
-pub mod Numbers
-pub mod Sites
-pub mod Calls
-pub mod Worn
-pub mod Figures

@@ -1,0 +1,7 @@
+pub mod Answers
+pub mod Cases
+pub mod Numbers
+pub mod Sites
+pub mod Worn
+pub mod Figures
+pub mod Calls
