@@ -2,24 +2,24 @@
 use Prim.Native.Nat.{ℕ, zero, suc, ◌+◌, ◌*◌, ◌-◌, ◌≤◌, ◌<◌}
 use mathlib.Core.Path.{◌≡◌, refl, sym, ap, ◌∙◌}
 use mathlib.Core.List.{List, ◌++◌}
-use mathlib.Core.Bool.{Bool, true, false, cond, ◌&&◌, not, and-eq-true_iff}
+use mathlib.Core.Bool.{Bool, true, false, cond, ◌&&◌, and-eq-true_iff}
 use native.Mathlib.Omega.{arith}
 use native.Mathlib.Nat.{mul-le-mul, mul-le-mul_left, mul-suc}
 use lib.Dec.{eqb, leb, ltb}
 use lib.ListN.{length, get_or, replicate, length-append, length-replicate, get_or-append}
 use lib.Seq.{get_or-append-add}
-use borrow.Author.Tests.{lt-ltb, le-ltb, le-leb, eq-eqb, ltb-true, ltb-false, leb-true, eqb-true, not-true, not-false}
+use borrow.Author.Tests.{lt-ltb, le-ltb, le-leb, eq-eqb, ltb-true, ltb-false, leb-true, eqb-true}
 use Rattle.layout.specs.declared.Layout.{Layout}
 use Rattle.layout.specs.declared.Opened.{Opened}
 use Rattle.layout.specs.declared.Opened.TheVariants.{Open, Refused}
 use Rattle.layout.specs.Words.{newest, most_lists, most_nodes, most_width, head_words, header_words, link_words, header_at, first_node, cell_count, Node, is_node, check_words, tail_words, node_words, nodes_at, node_at, cell_at, size_of, marked, layout_of, InRange, between, in_range, opened_by, opened, head, empty_header, empty_headers, formatted}
 
 -- a test b that a call answered by r, where the code asked `!r`: it held, or it did not
-pub answered-no : {r b : Bool} → r ≡ b → not r ≡ true → b ≡ false
-answered-no {r} e h = sym e ∙ not-true r h
+pub answered-no : {r b : Bool} → r ≡ b → r ≡ false → b ≡ false
+answered-no e h = sym e ∙ h
 
-pub answered-yes : {r b : Bool} → r ≡ b → not r ≡ false → b ≡ true
-answered-yes {r} e h = sym e ∙ not-false r h
+pub answered-yes : {r b : Bool} → r ≡ b → r ≡ true → b ≡ true
+answered-yes e h = sym e ∙ h
 
 -- a record is all that version 1 has behind a node's links
 pub tail-width : (l : Layout) → tail_words l ≡ l.width

@@ -13,6 +13,7 @@ use Rattle.sequences.specs.Sequence.{◌∈◌, All, Different}
 pub all-at {ℓ} : {A : Type ℓ} (P : A → Type 0) (s : List A) {x : A} → All P s → Memᴰ x s → (y : A) × (x ≡ y) × P y
 all-at P (y ∷ s) h (Memᴰ.head e) = (y, e, h.0)
 all-at P (y ∷ s) h (Memᴰ.tail m) = all-at P s h.1 m
+all-at {A = A} P [] h x4 = elim x4 [ ]
 
 pub all_in {ℓ} : {A : Type ℓ} (P : A → Type 0) (s : List A) {x : A} → All P s → Memᴰ x s → P x
 all_in P s h m = let r = all-at P s h m in subst P (sym r.1) r.2
@@ -93,6 +94,7 @@ one-image f (z ∷ s) d (Memᴰ.head e) (Memᴰ.head e') q = e ∙ sym e'
 one-image f (z ∷ s) d (Memᴰ.head e) (Memᴰ.tail m) q = absurd (d.0 (Memᴰ.cast (ap f (sym e) ∙ q) (Memᴰ.map f m)))
 one-image f (z ∷ s) d (Memᴰ.tail m) (Memᴰ.head e) q = absurd (d.0 (Memᴰ.cast (ap f (sym e) ∙ sym q) (Memᴰ.map f m)))
 one-image f (z ∷ s) d (Memᴰ.tail m) (Memᴰ.tail m') q = one-image f s d.1 m m' q
+one-image {A = A} f [] d {y = y} x6 _ q = elim x6 [ ]
 
 -- a cell in front of a sequence or behind it
 pub in-front : (k : ℕ) (s : List ℕ) {x : ℕ} → x ∈ (s ++ k ∷ []) → x ∈ (k ∷ s)

@@ -21,6 +21,7 @@ length_without x (y ∷ t) m = by (λ q. length_without x t q) (ℕ_discrete x y
     by below (yes e) m = refl
     by below (no h) (Memᴰ.head e) = absurd (h e)
     by below (no h) (Memᴰ.tail m) = ap suc (below m)
+length_without x [] m = elim m [ ]
 
 in_without : (x z : ℕ) (t : List ℕ) → (z ≡ x → ⊥) → z ∈ t → z ∈ without x t
 unfolding without
@@ -31,6 +32,7 @@ in_without x z (y ∷ t) h m = by (λ q. in_without x z t h q) (ℕ_discrete x y
     by below (yes e) (Memᴰ.tail q) = q
     by below (no n) (Memᴰ.head q) = Memᴰ.head q
     by below (no n) (Memᴰ.tail q) = Memᴰ.tail (below q)
+in_without x z [] h m = elim m [ ]
 
 pub pigeonhole : (s t : List ℕ) → Different s → ((x : ℕ) → x ∈ s → x ∈ t) → length s ≤ length t
 pigeonhole [] t d h = zero-le

@@ -60,6 +60,7 @@ module _ (link : ℕ → ℕ) (inside : ℕ → Bool) where
       (s, h.1, subst (λ (a : ℕ). Forward link a s z) (sym e) p.1, omega arith)
   leads-from x (c ∷ s) z y h p (Memᴰ.tail m) =
       let r = leads-from c s z y h.1 p.1 m in (r.0, r.1, r.2, omega (arith, r.3))
+  leads-from x [] z y h p x5 = elim x5 [ ]
 
   -- so a cell is met once
   pub leads-different

@@ -2,20 +2,16 @@
 use native.Mathlib.Omega.{arith}
 use borrow.Author.Tests.{le-leb, lt-leb}
 use Rattle.layout.specs.Words.{first_node, is_node}
-use Rattle.layout.proofs.Grid.is_node.Statement.{statement}
-use Rattle.layout.proofs.Grid.is_node.Tie as tie
+use Rattle.layout.proofs.Grid.is_node.Goals as goal
 
-returns : tie.Need-returns
+pub returns-then-y-self : goal.returns-then-y-self
 unfolding is_node
-returns c =
-    let a = c.before.before.args in
+returns-then-y-self c =
+    let a = c.args in
     rw (lt-leb (first_node a.l) a.y (omega arith))
 
-returns-2 : tie.Need-returns-2
+pub returns : goal.returns
 unfolding is_node
-returns-2 c =
+returns c =
     let s = c.before.before.before in
     rw (s.requires.to, le-leb (first_node s.args.l) s.args.y (omega arith))
-
-pub is_node_spec : {M : Type 1} → statement M
-is_node_spec = tie.close (tie.spec returns returns-2)
