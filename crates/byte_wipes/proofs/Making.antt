@@ -35,8 +35,8 @@ module _ {ps : List Write} {n : ℕ} (qs left : List Write) (m : Making ps n (qs
       ∙ ap (λ (t : List Write). run t b) (sym (byte-append (take n ps) (take j qs)))
       ∙ ap (λ (t : List Write). run (byte_writes t) b) (sym (making-part qs left m j h))
 
-  pub bytes_on : (b : List ℕ) (a : ℕ) → length qs ≤ a → applied_bytes qs a (applied_bytes ps n b) ≡ applied_bytes ps (n + length qs) b
-  bytes_on b a h =
+  pub bytes-on : (b : List ℕ) (a : ℕ) → length qs ≤ a → applied_bytes qs a (applied_bytes ps n b) ≡ applied_bytes ps (n + length qs) b
+  bytes-on b a h =
       bytes-all qs a (applied_bytes ps n b) h ∙ sym (bytes-all qs (length qs) (applied_bytes ps n b) (omega arith)) ∙ part_bytes b (length qs) (omega arith)
 
   pub bytes-stopped : (b : List ℕ) (a : ℕ) → n ≤ a → a - n < length qs → applied_bytes qs (a - n) (applied_bytes ps n b) ≡ applied_bytes ps a b

@@ -22,7 +22,7 @@ use Rattle.layout.proofs.Laws.{open-opened}
 use Rattle.layout.proofs.Apart.{cell-behind, words-apart, links-words, words-header}
 use Rattle.lists.specs.Lists.{asked, Agrees, Sound}
 use Rattle.lists.specs.Decide.{view_of}
-use Rattle.lists.proofs.Same.{ident-word, count_word, same-opened}
+use Rattle.lists.proofs.Same.{ident-word, count-word, same-opened}
 use Rattle.recovery.specs.Plan.{joined, lists_asked, clears_asked, blanks_asked, wipes_asked, required, recover_stores, recover_plan, Accepted, differing}
 use Rattle.recovery.proofs.Required.{Right, wrong-in, wrong-agreed}
 use Rattle.recovery.proofs.Differing.{differing-self, differing-set, differ-none, differ-some}
@@ -51,7 +51,7 @@ module _ (w : List ℕ) (s : Sound w) (k c v n : ℕ) (h : k < (layout_of w).lis
   kept a p q = get_or-set_other (set w (ident_at l c) v) (count_at l k) a n 0 q ∙ get_or-set_other w (ident_at l c) a v 0 p
 
   head : (a : ℕ) → a < 8 → get_or w' a 0 ≡ get_or w a 0
-  head a g = kept a (λ e. omega (arith, cell-behind l c, ident-word l c)) (λ e. omega (arith, cell-behind l k, count_word l k h))
+  head a g = kept a (λ e. omega (arith, cell-behind l c, ident-word l c)) (λ e. omega (arith, cell-behind l k, count-word l k h))
 
   opens : opened w' ≡ O.Open l
   opens = same-opened w w' head size ∙ open-opened w s.ordered.marked s.ordered.in_range s.ordered.exact
@@ -68,7 +68,7 @@ module _ (w : List ℕ) (s : Sound w) (k c v n : ℕ) (h : k < (layout_of w).lis
       (links-words l c 0 (omega arith)) (sym (ident-word l x) ∙ e ∙ ident-word l c))
       (λ e.
       words-apart l x k 0 count_word (λ _ q. omega arith) (links-words l x 0 (omega arith)) (omega (arith, words-header l k h))
-      (sym (ident-word l x) ∙ e ∙ count_word l k h))
+      (sym (ident-word l x) ∙ e ∙ count-word l k h))
 
   same : required l w' t ≡ required l w t
   same =
@@ -110,7 +110,7 @@ module _ (w : List ℕ) (s : Sound w) (k c v n : ℕ) (h : k < (layout_of w).lis
       by e (yes p) q =
           subst (λ (b : ℕ). get_or w b 0 ≡ get_or Final b 0) (sym (p ∙ ident-word l c)) (its-word c 0 m (inl (omega arith)))
       by e (no p) (yes q) =
-          subst (λ (b : ℕ). get_or w b 0 ≡ get_or Final b 0) (sym (q ∙ count_word l k h)) (its-word k count_word (Memᴰ.head refl) (inr (refl, refl)))
+          subst (λ (b : ℕ). get_or w b 0 ≡ get_or Final b 0) (sym (q ∙ count-word l k h)) (its-word k count_word (Memᴰ.head refl) (inr (refl, refl)))
       by e (no p) (no q) = sym (e ∙ kept a p q)
 
   restored : Final ≡ w

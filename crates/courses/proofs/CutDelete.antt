@@ -22,7 +22,7 @@ use Rattle.layout.specs.Words.{tail_words, Node, size_of, cell_at, cell_words, i
 use Rattle.layout.proofs.Apart.{words-apart, links-words, words-header}
 use Rattle.lists.specs.Lists.{IsList, SoundLists, SameCells, blank_asked}
 use Rattle.lists.specs.Decide.{view_of}
-use Rattle.lists.proofs.Same.{ident-word, count_word, header-apart, list_same}
+use Rattle.lists.proofs.Same.{ident-word, count-word, header-apart, list_same}
 use Rattle.requests.specs.declared.Site.{Site}
 use Rattle.edits.specs.Edits.{delete_links, delete_writes, delete_central}
 use Rattle.edits.specs.Edited.{delete_at}
@@ -76,7 +76,7 @@ module _ (l : Layout) (w : List ℕ) (exact : length w ≡ size_of l) (s : Sound
       sym (run_out (drop 1 full) One (back_at l x) (
         (λ e. words-apart l x site.before 2 1 (λ _ b. omega arith) (links-words l x 2 (omega arith)) (links-words l site.before 1 (omega arith)) e),
         (
-          (λ e. words-apart l x k 2 3 (λ _ b. omega arith) (links-words l x 2 (omega arith)) (omega (arith, words-header l k hk)) (e ∙ count_word l k hk)),
+          (λ e. words-apart l x k 2 3 (λ _ b. omega arith) (links-words l x 2 (omega arith)) (omega (arith, words-header l k hk)) (e ∙ count-word l k hk)),
           (
             (λ e. words-apart l x c 2 0 (λ _ b. omega arith) (links-words l x 2 (omega arith)) (links-words l c 0 (omega arith)) (e ∙ ident-word l c)),
             wipe-spares x 2 (links-words l x 2 (omega arith)) (λ _ e. omega arith),
@@ -124,7 +124,7 @@ module _ (l : Layout) (w : List ℕ) (exact : length w ≡ size_of l) (s : Sound
   kept-late : (x f : ℕ) → x ∈ (k ∷ delete_at p S) → f < cell_words l x → ((x ≡ k) × (f ≡ 3) → ⊥) → Spares (cell_at l x + f) (drop delete_central full)
   unfolding delete_writes delete_links
   kept-late x f q g n = (
-    (λ e. words-apart l x k f 3 (λ a b. n (a, b)) g (omega (arith, words-header l k hk)) (e ∙ count_word l k hk)),
+    (λ e. words-apart l x k f 3 (λ a b. n (a, b)) g (omega (arith, words-header l k hk)) (e ∙ count-word l k hk)),
     (
       (λ e. words-apart l x c f 0 (λ a _. D.not-cell l w exact s k hk p hp x q a) g (links-words l c 0 (omega arith)) (e ∙ ident-word l c)),
       wipe-spares x f g (λ a _. D.not-cell l w exact s k hk p hp x q a),
@@ -166,7 +166,7 @@ module _ (l : Layout) (w : List ℕ) (exact : length w ≡ size_of l) (s : Sound
     (
       (λ e. absurd (word site.before 1 (omega arith) (links-words l site.before 1 (omega arith)) e)),
       (
-        (λ e. absurd (word k 3 (omega arith) (omega (arith, words-header l k hk)) (e ∙ count_word l k hk))),
+        (λ e. absurd (word k 3 (omega arith) (omega (arith, words-header l k hk)) (e ∙ count-word l k hk))),
         (
           (λ e. refl),
           in_all (λ (q : Write). ident_at l x ≡ q.at → q.value ≡ 0) (blank_asked l c)

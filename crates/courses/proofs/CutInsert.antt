@@ -23,7 +23,7 @@ use Rattle.layout.proofs.Apart.{words-apart, links-words, words-header, words-no
 use Rattle.lists.specs.Lists.{IsList, SoundLists, SameCells}
 use Rattle.lists.specs.Decide.{view_of}
 use Rattle.lists.proofs.Agree.{agrees-holds}
-use Rattle.lists.proofs.Same.{ident-word, count_word, header-apart}
+use Rattle.lists.proofs.Same.{ident-word, count-word, header-apart}
 use Rattle.requests.specs.declared.Site.{Site}
 use Rattle.edits.specs.Edits.{insert_links, insert_writes, insert_central}
 use Rattle.edits.specs.Edited.{insert_at}
@@ -202,7 +202,7 @@ module _ (l : Layout) (w : List ℕ) (exact : length w ≡ size_of l) (s : Sound
           (
             (λ e. refl),
             (
-              (λ e. absurd (other k 3 (omega arith) (omega (arith, words-header l k hk)) (e ∙ count_word l k hk))),
+              (λ e. absurd (other k 3 (omega arith) (omega (arith, words-header l k hk)) (e ∙ count-word l k hk))),
               (
                 (λ e. absurd (other site.before 1 (omega arith) (links-words l site.before 1 (omega arith)) e)),
                 ((λ e. absurd (other site.after 2 (omega arith) (links-words l site.after 2 (omega arith)) e)), tt),

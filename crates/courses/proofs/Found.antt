@@ -21,7 +21,7 @@ use Rattle.lists.specs.Lists.{IsList, SoundLists, SameCells}
 use Rattle.lists.specs.Decide.{view_of}
 use Rattle.lists.proofs.Nodes.{list-used}
 use Rattle.lists.proofs.Unique.{member-ident}
-use Rattle.lists.proofs.Same.{ident-word, count_word, lists-apart}
+use Rattle.lists.proofs.Same.{ident-word, count-word, lists-apart}
 use Rattle.edits.specs.Edited.{replaced}
 use Rattle.edits.proofs.Edited.{replaced-own, replaced-other}
 use Rattle.recovery.specs.Fits.{Fits, Chosen}
@@ -40,7 +40,7 @@ alter-out : (l : Layout) (j : ℕ) → j < l.lists → (x : Alteration) (w : Lis
 alter-out l j h untouched w a o = refl
 alter-out l j h (altered c f v) w a o = get_or-set_other w (cell_at l c + f) a v 0 (o c f (refl, refl))
 alter-out l j h (both c v n) w a o =
-    get_or-set_other (set w (ident_at l c) v) (count_at l j) a n 0 (λ e. o j count_word (inr (refl, refl)) (e ∙ count_word l j h))
+    get_or-set_other (set w (ident_at l c) v) (count_at l j) a n 0 (λ e. o j count_word (inr (refl, refl)) (e ∙ count-word l j h))
     ∙ get_or-set_other w (ident_at l c) a v 0 (λ e. o c 0 (inl (refl, refl)) (e ∙ ident-word l c))
 
 pub altered-out : (l : Layout) (k : ℕ) (alts : ℕ → Alteration) (n : ℕ) (w : List ℕ) (a : ℕ) → n ≤ l.lists → Out l k alts n a

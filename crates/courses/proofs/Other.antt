@@ -22,7 +22,7 @@ use Rattle.lists.specs.Lists.{idents_asked, forwards_asked, backs_asked, others_
 use Rattle.lists.specs.Decide.{view_of, count_in}
 use Rattle.lists.proofs.Agree.{Holds, agrees-holds}
 use Rattle.lists.proofs.Unique.{header-out, nodes-all}
-use Rattle.lists.proofs.Same.{ident-word, count_word}
+use Rattle.lists.proofs.Same.{ident-word, count-word}
 use Rattle.recovery.specs.Fits.{wrong, Fits, Counted, Chosen, counted}
 use Rattle.recovery.proofs.Required.{wrong-right, wrong-wrong}
 use Rattle.recovery.proofs.Candidates.{sequence-dec, wrong-others, right-forward, right-backward, Whole, rivals}
@@ -158,9 +158,9 @@ module _ (l : Layout) (w y : List ℕ) (j : ℕ) (h : j < l.lists) (s : List ℕ
 
   pub count-right : Spared j alt count_word → Counted l y j s
   count-right n =
-      ap (λ (b : ℕ). get_or y b 0) (count_word l j h)
+      ap (λ (b : ℕ). get_or y b 0) (count-word l j h)
       ∙ kept j count_word (Memᴰ.head refl) (omega (arith, words-header l j h)) (n j)
-      ∙ ap (λ (b : ℕ). get_or w b 0) (sym (count_word l j h))
+      ∙ ap (λ (b : ℕ). get_or w b 0) (sym (count-word l j h))
       ∙ right.count
 
   pub altered-fits : Fits l y j s

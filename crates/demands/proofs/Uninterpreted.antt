@@ -25,7 +25,7 @@ use Rattle.layout.proofs.Apart.{words-apart, words-header, words-node, links-wor
 use Rattle.lists.specs.Lists.{asked, others_asked, count_asked}
 use Rattle.lists.specs.Decide.{View, view_of, count_in, sequence_in, unwiped, sequence_of}
 use Rattle.lists.proofs.Decided.{sound-lists}
-use Rattle.lists.proofs.Same.{ident-word, count_word, same-opened}
+use Rattle.lists.proofs.Same.{ident-word, count-word, same-opened}
 use Rattle.requests.specs.declared.Site.{Site}
 use Rattle.requests.specs.declared.Sited.{Sited}
 use Rattle.requests.specs.declared.Request.{Request}
@@ -117,7 +117,7 @@ module _ (w w' : List ℕ) (s : SameButRecords w w') where
       by c h false q = refl
 
   same_count : (k : ℕ) → k < l.lists → count_in l w' k ≡ count_in l w k
-  same_count k h = moved (count_word l k h) (same-fourth k h)
+  same_count k h = moved (count-word l k h) (same-fourth k h)
 
   -- the same questions 1 to 4, and what follows them is asked of one layout
   opens : opened w' ≡ opened w
@@ -167,7 +167,7 @@ module _ (w w' : List ℕ) (s : SameButRecords w w') where
       few = fun_ext (λ t. ap (λ (ps : List Write). leb (length ps) 1) (wrong-same w w' (others_asked l k t) (λ p m. same_asked k h t p (Memᴰ.append_left (count_asked l k t) m))))
 
       has : has_count l w' k ≡ has_count l w k
-      has = fun_ext (λ t. ap (λ (n : ℕ). eqb n (length t)) (moved (count_word l k h) (same-fourth k h)))
+      has = fun_ext (λ t. ap (λ (n : ℕ). eqb n (length t)) (moved (count-word l k h) (same-fourth k h)))
 
   same-refusal : (k n : ℕ) → k + n ≤ l.lists → refusal_from l w' k n ≡ refusal_from l w k n
   unfolding refusal_from

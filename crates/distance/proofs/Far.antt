@@ -18,7 +18,7 @@ use Rattle.lists.specs.Decide.{view_of, count_in}
 use Rattle.lists.proofs.Agree.{Holds, agrees-holds}
 use Rattle.lists.proofs.Nodes.{list-used}
 use Rattle.lists.proofs.Unique.{header-out, nodes-all, member-ident}
-use Rattle.lists.proofs.Same.{ident-word, count_word, ring-cell}
+use Rattle.lists.proofs.Same.{ident-word, count-word, ring-cell}
 use Rattle.recovery.specs.Plan.{joined, differing}
 use Rattle.recovery.proofs.Differing.{differ-many}
 use Rattle.recovery.proofs.Joined.{one-joined, joined-one}
@@ -131,8 +131,8 @@ module _ (l : Layout) (range : InRange l) (w w' : List ℕ) (exact : length w �
           fits = omega (arith, words-header l k h);
           differs =
               λ e.
-              n (sym held.count ∙ ap (λ (a : ℕ). get_or w a 0) (count_word l k h) ∙ e
-              ∙ ap (λ (a : ℕ). get_or w' a 0) (sym (count_word l k h)) ∙ held'.count);
+              n (sym held.count ∙ ap (λ (a : ℕ). get_or w a 0) (count-word l k h) ∙ e
+              ∙ ap (λ (a : ℕ). get_or w' a 0) (sym (count-word l k h)) ∙ held'.count);
         }
 
     -- a member that left, and one that came

@@ -13,7 +13,7 @@ use Rattle.layout.specs.Words.{tail_words, cell_count, cell_at, cell_words, size
 use Rattle.layout.proofs.Laws.{cell-node, node-fits}
 use Rattle.layout.proofs.Apart.{words-apart, words-header, words-node, links-words, word_fits}
 use Rattle.lists.specs.Lists.{Blank, blank_asked}
-use Rattle.lists.proofs.Same.{ident-word, count_word}
+use Rattle.lists.proofs.Same.{ident-word, count-word}
 use Rattle.requests.specs.declared.Site.{Site}
 use Rattle.edits.specs.Edits.{insert_links, insert_writes, delete_links, delete_writes}
 use Rattle.edits.specs.Edited.{record_in}
@@ -67,7 +67,7 @@ module _ (l : Layout) (w : List ℕ) (exact : length w ≡ size_of l) (k : ℕ) 
   spare-ident i f j h n e = spare-link i f j 0 h (omega arith) n (e ∙ ident-word l j)
 
   pub spare-count : (i f : ℕ) → f < cell_words l i → (i ≡ k → f ≡ 3 → ⊥) → cell_at l i + f ≡ count_at l k → ⊥
-  spare-count i f h n e = words-apart l i k f 3 n h count-words (e ∙ count_word l k hk)
+  spare-count i f h n e = words-apart l i k f 3 n h count-words (e ∙ count-word l k hk)
 
   -- an insert
   module _ (words : List ℕ) (size : length words ≡ tail_words l) where
@@ -187,9 +187,9 @@ module _ (l : Layout) (w : List ℕ) (exact : length w ≡ size_of l) (k : ℕ) 
     insert-count =
         ap (λ (ps : List Write). get_or (run ps w) (count_at l k) 0) (sym (append_assoc Row Cell-writes _))
         ∙ run_in (Row ++ Cell-writes) (write (count_at l k) (t.count + 1)) _ w
-        (subst (λ (a : ℕ). a < length w) (sym (count_word l k hk)) (fits k 3 (omega arith) count-words)) (
-          (λ e. words-apart l k t.before 3 1 (λ _ q. omega arith) count-words (links-words l _ 1 (omega arith)) (sym (count_word l k hk) ∙ e)),
-          ((λ e. words-apart l k t.after 3 2 (λ _ q. omega arith) count-words (links-words l _ 2 (omega arith)) (sym (count_word l k hk) ∙ e)), tt),
+        (subst (λ (a : ℕ). a < length w) (sym (count-word l k hk)) (fits k 3 (omega arith) count-words)) (
+          (λ e. words-apart l k t.before 3 1 (λ _ q. omega arith) count-words (links-words l _ 1 (omega arith)) (sym (count-word l k hk) ∙ e)),
+          ((λ e. words-apart l k t.after 3 2 (λ _ q. omega arith) count-words (links-words l _ 2 (omega arith)) (sym (count-word l k hk) ∙ e)), tt),
         )
 
     pub insert-before : get_or Done (forward_at l t.before) 0 ≡ t.cell
@@ -307,9 +307,9 @@ module _ (l : Layout) (w : List ℕ) (exact : length w ≡ size_of l) (k : ℕ) 
   unfolding delete_writes delete_links
   delete-count =
       run_in (write (back_at l t.after) t.before ∷ write (forward_at l t.before) t.after ∷ []) (write (count_at l k) (t.count - 1)) _ w
-      (subst (λ (a : ℕ). a < length w) (sym (count_word l k hk)) (fits k 3 (omega arith) count-words)) (
-        (λ e. spare-ident k 3 t.cell count-words (λ _ q. omega arith) (sym (count_word l k hk) ∙ e)),
-        subst (λ (a : ℕ). Spares a (blank_asked l t.cell)) (sym (count_word l k hk)) (blank-spares k 3 count-words (λ q _. not-header (sym q))),
+      (subst (λ (a : ℕ). a < length w) (sym (count-word l k hk)) (fits k 3 (omega arith) count-words)) (
+        (λ e. spare-ident k 3 t.cell count-words (λ _ q. omega arith) (sym (count-word l k hk) ∙ e)),
+        subst (λ (a : ℕ). Spares a (blank_asked l t.cell)) (sym (count-word l k hk)) (blank-spares k 3 count-words (λ q _. not-header (sym q))),
       )
 
   pub delete-ident : get_or Gone (ident_at l t.cell) 0 ≡ 0

@@ -8,7 +8,7 @@ use borrow.Author.Tests.{eq-eqb}
 use Rattle.sequences.specs.Sequence.{◌∈◌}
 use Rattle.layout.specs.Words.{ident_word, forward_word, back_word, most_lists, ident_of, Unlisted}
 use Rattle.lists.specs.Decide.{View}
-use Rattle.lists.proofs.Nodes.{in_use, ident-used}
+use Rattle.lists.proofs.Nodes.{in-use, ident-used}
 use Rattle.fitting.specs.declared.Faults.{Faults}
 use Rattle.fitting.specs.declared.Faults.TheVariants as F
 use Rattle.fitting.specs.Fitting.{plus, fault, turn_faults, others_faults, carries}

@@ -20,7 +20,7 @@ use Rattle.layout.specs.declared.Layout.{Layout}
 use Rattle.layout.specs.Words.{first_node, Node, InRange, ident_at, Unlisted, free, worn, in_use}
 use Rattle.lists.specs.Lists.{IsList, SoundLists, Blank, Wiped}
 use Rattle.lists.specs.Decide.{View, view_of, count_in, sequence_in, sequence_of, holds, all_hold, members, used, unwiped, ordered_in, sound_in, ordered_of, sound_of}
-use Rattle.lists.proofs.Nodes.{in_use, unused, list-used, unlisted-out, used-is, is-used}
+use Rattle.lists.proofs.Nodes.{in-use, unused, list-used, unlisted-out, used-is, is-used}
 use Rattle.lists.proofs.Blank.{words-blank, blank-words, none-unwiped, all-wiped}
 use Rattle.lists.proofs.Unique.{list-sequence, holds-list, list-holds, member-ident, lists-disjoint}
 
@@ -124,7 +124,7 @@ module _ (l : Layout) (range : InRange l) (w : List ℕ) where
                 arith,
                 eqb-true (length All-members) (length Used) parts.1,
                 pigeonhole-less All-members Used i (members-different l.lists listed) (member-used listed)
-                    (is-used (view_of l w) (first_node l) l.nodes i n.low n.high (in_use _ q)) apart,
+                    (is-used (view_of l w) (first_node l) l.nodes i n.low n.high (in-use _ q)) apart,
               ))
 
   -- the lists are sound: decided true

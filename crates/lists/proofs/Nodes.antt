@@ -16,9 +16,9 @@ use Rattle.lists.specs.Decide.{View, cells_with, used}
 use Rattle.lists.proofs.Unique.{member-ident}
 
 -- what the identifier of a node says
-pub in_use : (x : ℕ) → in_use x ≡ true → Unlisted x → ⊥
-in_use x e (free z) = true≢false (sym e ∙ rw (eq-eqb x 0 z))
-in_use x e (worn z) = true≢false (sym e ∙ ap (λ (b : Bool). not (is_free x || b)) (eq-eqb x worn_ident z) ∙ ap not (or-true (is_free x)))
+pub in-use : (x : ℕ) → in_use x ≡ true → Unlisted x → ⊥
+in-use x e (free z) = true≢false (sym e ∙ rw (eq-eqb x 0 z))
+in-use x e (worn z) = true≢false (sym e ∙ ap (λ (b : Bool). not (is_free x || b)) (eq-eqb x worn_ident z) ∙ ap not (or-true (is_free x)))
 
 pub unused : (x : ℕ) → in_use x ≡ false → Unlisted x
 unused x e = by (is_free x) (is_worn x) refl refl e
@@ -75,7 +75,7 @@ pub used-is : (v : View) (a n x : ℕ) → x ∈ used v a n → (a ≤ x) × (x 
 used-is v a n x m =
     let r = filter-in (λ c. in_use (v.ident c)) (range a n) x m in
     let b = range-between a n x r.0 in
-    (b.0, b.1, in_use (v.ident x) r.1)
+    (b.0, b.1, in-use (v.ident x) r.1)
 
 pub is-used : (v : View) (a n x : ℕ) → a ≤ x → x < a + n → (Unlisted (v.ident x) → ⊥) → x ∈ used v a n
 is-used v a n x h k z = in-filter (λ c. in_use (v.ident c)) (range a n) x (in-range a n x h k) (use-in (v.ident x) z)

@@ -22,8 +22,8 @@ use Rattle.lists.proofs.Unique.{member-ident}
 pub ident-word : (l : Layout) (i : ℕ) → ident_at l i ≡ cell_at l i + 0
 ident-word l i = sym (add-zero (cell_at l i))
 
-pub count_word : (l : Layout) (k : ℕ) → k < l.lists → count_at l k ≡ cell_at l k + count_word
-count_word l k h = ap (λ (a : ℕ). a + count_word) (sym (cell-header l k h))
+pub count-word : (l : Layout) (k : ℕ) → k < l.lists → count_at l k ≡ cell_at l k + count_word
+count-word l k h = ap (λ (a : ℕ). a + count_word) (sym (cell-header l k h))
 
 -- cells with the same words have the same identifiers; so a worn node that is kept is worn
 pub same-ident : (l : Layout) (w w' cells : List ℕ) → SameCells l w w' cells → (x : ℕ) → x ∈ cells → get_or w' (ident_at l x) 0 ≡ get_or w (ident_at l x) 0
@@ -80,9 +80,9 @@ module _ (l : Layout) (w : List ℕ) (k : ℕ) (h : k < l.lists) (s : List ℕ) 
                         (λ y m. q y back_word (in-front k s m) (links-words l y back_word (omega arith))) a.turn.backs;
                   };
               count =
-                  ap (λ (n : ℕ). get_or w' n 0) (count_word l k h)
+                  ap (λ (n : ℕ). get_or w' n 0) (count-word l k h)
                   ∙ q k count_word (Memᴰ.head refl) (omega (arith, words-header l k h))
-                  ∙ ap (λ (n : ℕ). get_or w n 0) (sym (count_word l k h))
+                  ∙ ap (λ (n : ℕ). get_or w n 0) (sym (count-word l k h))
                   ∙ a.count;
             });
       }

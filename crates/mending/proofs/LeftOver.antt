@@ -13,7 +13,7 @@ use Rattle.layout.specs.declared.Layout.{Layout}
 use Rattle.layout.specs.Words.{Node, InRange, first_node, ident_at, worn_ident, Unlisted, free, worn, in_use}
 use Rattle.lists.specs.Lists.{others_asked, Blank}
 use Rattle.lists.specs.Decide.{view_of, count_in, used, unwiped}
-use Rattle.lists.proofs.Nodes.{in_use, unused, is-used}
+use Rattle.lists.proofs.Nodes.{in-use, unused, is-used}
 use Rattle.lists.proofs.Blank.{blank-words, none-unwiped}
 use Rattle.recovery.specs.Fits.{wrong, Fits}
 use Rattle.recovery.specs.Plan.{joined, clears_asked, wipes_asked, fitting_of}
@@ -78,7 +78,7 @@ module _ (l : Layout) (w : List ℕ) (s : ℕ → List ℕ) (fits : (k : ℕ) �
             arith,
             e,
             pigeonhole-less Members Used c (joined-different l.lists (omega arith)) member-used
-                (is-used (view_of l w) (first_node l) l.nodes c n.low n.high (in_use _ z)) o,
+                (is-used (view_of l w) (first_node l) l.nodes c n.low n.high (in-use _ z)) o,
           ))
 
 -- As it is told by the walks: no list is refused, and all members carry an identifier that says in use.

@@ -15,7 +15,7 @@ use Rattle.layout.specs.declared.Layout.{Layout}
 use Rattle.layout.specs.Words.{link_words, first_node, count_word, Node, cell_at, cell_words, ident_at, forward_at, back_at, ident_of}
 use Rattle.layout.proofs.Apart.{words-apart, cells-apart, links-words, words-header}
 use Rattle.lists.specs.Lists.{asked, idents_asked, forwards_asked, backs_asked, count_asked, others_asked}
-use Rattle.lists.proofs.Same.{ident-word, count_word}
+use Rattle.lists.proofs.Same.{ident-word, count-word}
 use Rattle.recovery.proofs.Required.{Once, once-append}
 
 -- the value that a list's sequence asks of word f of cell c
@@ -128,7 +128,7 @@ module _ (l : Layout) (k : ℕ) (s : List ℕ) (h : k < l.lists) where
           word = 3;
           within = Memᴰ.head refl;
           fits = omega (arith, words-header l k h);
-          at = ap (λ (q : Write). q.at) e ∙ count_word l k h;
+          at = ap (λ (q : Write). q.at) e ∙ count-word l k h;
           value = count refl refl (ap (λ (q : Write). q.value) e);
         },
         refl,
@@ -147,7 +147,7 @@ module _ (l : Layout) (k : ℕ) (s : List ℕ) (h : k < l.lists) where
   pub asked-word : (c f : ℕ) → c ∈ (k ∷ s) → (f < link_words) ⊎ ((c ≡ k) × (f ≡ count_word)) → (v : ℕ) × Memᴰ (write (cell_at l c + f) v) (asked l k s)
   unfolding asked
   asked-word c f m (inr e) =
-      (length s, Memᴰ.append_right (others_asked l k s) (Memᴰ.head (ap (λ (a : ℕ). write a (length s)) (here ∙ sym (count_word l k h)))))
+      (length s, Memᴰ.append_right (others_asked l k s) (Memᴰ.head (ap (λ (a : ℕ). write a (length s)) (here ∙ sym (count-word l k h)))))
     where
       here : cell_at l c + f ≡ cell_at l k + count_word
       here = ap (λ (d : ℕ). cell_at l d + f) e.0 ∙ ap (λ (g : ℕ). cell_at l k + g) e.1

@@ -15,7 +15,7 @@ use Rattle.layout.specs.Words.{link_words, count_word, first_node, Node, size_of
 use Rattle.layout.proofs.Apart.{words-apart, links-words, words-header, tail-word}
 use Rattle.lists.specs.Lists.{asked, others_asked, count_asked, Agrees}
 use Rattle.lists.specs.Decide.{view_of, count_in}
-use Rattle.lists.proofs.Same.{ident-word, count_word}
+use Rattle.lists.proofs.Same.{ident-word, count-word}
 use Rattle.recovery.specs.Fits.{wrong, Fits, Counted}
 use Rattle.recovery.specs.Plan.{joined, lists_asked, clears_asked, blanks_asked, wipes_asked, required, recover_stores, Accepted, Kind, mend, clear, wipe}
 use Rattle.recovery.proofs.Candidates.{sequence-dec, wrong-others, right-idents, forward-candidate, back-candidate, candidates, rivals, chosen-beside, beside-chosen, fit-accepted}
@@ -47,9 +47,9 @@ module _ (l : Layout) (w x : List ℕ) (k : ℕ) (h : k < l.lists) (s : List ℕ
 
   pub same_count : count_in l x k ≡ count_in l w k
   same_count =
-      ap (λ (a : ℕ). get_or x a 0) (count_word l k h)
+      ap (λ (a : ℕ). get_or x a 0) (count-word l k h)
       ∙ c k count_word (mathlib.Core.List.Memᴰ.head refl) (omega (arith, words-header l k h)) (λ q. omega arith)
-      ∙ ap (λ (a : ℕ). get_or w a 0) (sym (count_word l k h))
+      ∙ ap (λ (a : ℕ). get_or w a 0) (sym (count-word l k h))
 
 -- a sequence with nothing wrong but perhaps the count is the only one that fits
 pub right_unique

@@ -17,7 +17,7 @@ use Rattle.layout.specs.Cells.{Gridded}
 use Rattle.mending.specs.Mending.{wipes_of, wipes_from, wipes}
 use Rattle.mending.proofs.Making.{Making, making-none, making-all, making-on, making-stopped}
 use Rattle.mending.proofs.Wiping.{wipes-next, wipes-none, wipes-kept}
-use Rattle.byte_wipes.proofs.Making.{bytes_on, bytes-stopped}
+use Rattle.byte_wipes.proofs.Making.{bytes-on, bytes-stopped}
 use Rattle.byte_wipes.proofs.wipe.Statement.{statement}
 use Rattle.byte_wipes.proofs.wipe.Tie as tie
 
@@ -137,7 +137,7 @@ loop-again c =
     let w = words_in t.loop.bytes in
     let y = words_in x.wipe-node.last.0 in
     let bytes : x.wipe-node.last.0 ≡ applied_bytes (all s) (t.loop.made + length (own x)) a.bytes.now =
-    x.wipe-node.ensures.1 ∙ ap (applied_bytes (own x) left) i.5 ∙ bytes_on (own x) (behind x) (making x) a.bytes.now left d.0 in
+    x.wipe-node.ensures.1 ∙ ap (applied_bytes (own x) left) i.5 ∙ bytes-on (own x) (behind x) (making x) a.bytes.now left d.0 in
     let read : y ≡ applied (own x) left w = ap words_in x.wipe-node.ensures.1 ∙ words-run (take left (own x)) t.loop.bytes in
     let kept : behind x ≡ wipes_from l y (t.loop.c + 1) m =
     ap (λ (b : ℕ). wipes_from l w b m) (add-one t.loop.c)

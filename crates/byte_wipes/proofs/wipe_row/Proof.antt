@@ -13,7 +13,7 @@ use Rattle.byte_form.proofs.Laws.{length-words, same-words, words-run, bytes-non
 use Rattle.recovery.specs.Fits.{wrong}
 use Rattle.mending.proofs.Making.{Making, making-none, making-all, making-on, making-stopped}
 use Rattle.mending.proofs.Wiping.{row_left, row_zero, row_one, row-none}
-use Rattle.byte_wipes.proofs.Making.{bytes_on}
+use Rattle.byte_wipes.proofs.Making.{bytes-on}
 use Rattle.byte_wipes.proofs.wipe_row.Statement.{statement}
 use Rattle.byte_wipes.proofs.wipe_row.Tie as tie
 
@@ -111,7 +111,7 @@ loop-again c =
       refl,
       omega (arith, o.1.left, i.3),
       subst (λ (v : List ℕ). Making (all s) (t.loop.made + 1) (row_left v (b + 1) e)) (sym words) (making-on p q m),
-      o.3.ensures ∙ ap (λ (y : List ℕ). run (byte_writes p) y) i.5 ∙ bytes_on p q m s.args.bytes.now 1 (omega arith),
+      o.3.ensures ∙ ap (λ (y : List ℕ). run (byte_writes p) y) i.5 ∙ bytes-on p q m s.args.bytes.now 1 (omega arith),
       o.3.kept.0 ∙ i.6,
     ))
     (λ o. rw (o.1, o.2) (

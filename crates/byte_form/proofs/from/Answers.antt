@@ -1,0 +1,25 @@
+-- `byte_form::from`: the words stand within the bytes.
+use Prim.Native.Nat.{◌*◌, ◌-◌}
+use mathlib.Core.Path.{ap, ◌∙◌}
+use native.Mathlib.Omega.{arith}
+use lib.ListN.{length, drop, length-drop}
+use lib.Seq.{take_all}
+use borrow.Author.Rules.{rules}
+use Rattle.byte_form.specs.Bytes.{words_in}
+use Rattle.byte_form.proofs.Laws.{length-words, words-drop}
+use Rattle.byte_form.proofs.from.Goals as goal
+
+pub overflow_mul-at : goal.overflow_mul-at
+overflow_mul-at c = omega (arith, length-words c.args.bytes.now)
+
+pub slice_bounds-result-count : goal.slice_bounds-result-count
+slice_bounds-result-count c = omega (arith, length-words c.args.bytes.now)
+
+pub slice_bounds-result-start : goal.slice_bounds-result-start
+slice_bounds-result-start c = omega (arith, length-words c.args.bytes.now)
+
+pub returns : goal.returns
+returns c =
+    let b = c.args.bytes.now in
+    let a = c.args.a in
+    ap words_in (take_all (length b - 2 * a) (drop (2 * a) b) (omega (arith, length-drop (2 * a) b))) ∙ words-drop a b
