@@ -62,6 +62,7 @@ in-is_in : (x : ℕ) (s : List ℕ) → x ∈ s → is_in x s ≡ true
 unfolding is_in
 in-is_in x (y ∷ s) (Memᴰ.head e) = rw (eq-eqb x y e)
 in-is_in x (y ∷ s) (Memᴰ.tail m) = rw (in-is_in x s m) (or-true (eqb x y))
+in-is_in x [] x'' = elim x'' [ ]
 
 is_in-in : (x : ℕ) (s : List ℕ) → is_in x s ≡ true → x ∈ s
 unfolding is_in

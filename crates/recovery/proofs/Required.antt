@@ -84,6 +84,7 @@ in-wrong w (q ∷ ps) {p} (Memᴰ.tail m) n =
       | yes e ↦ subst (Memᴰ p) (sym (wrong-right w q ps e)) (in-wrong w ps m n)
       | no e ↦ subst (Memᴰ p) (sym (wrong-wrong w q ps e)) (Memᴰ.tail (in-wrong w ps m n))
     ]
+in-wrong w [] {p = p} x'' n = elim x'' [ ]
 
 -- words that are the same are wrong alike
 pub wrong-same : (w x : List ℕ) (ps : List Write) → ((p : Write) → Memᴰ p ps → get_or x p.at 0 ≡ get_or w p.at 0) → wrong x ps ≡ wrong w ps
@@ -147,6 +148,7 @@ pub once-apart : (ps qs : List Write) → Once (ps ++ qs) → {p q : Write} → 
 once-apart (r ∷ ps) qs o {p} {q} (Memᴰ.head d) n e =
     o.0 (Memᴰ.cast (ap (λ (t : Write). t.at) (sym d) ∙ e) (Memᴰ.map (λ (t : Write). t.at) (Memᴰ.append_right ps n)))
 once-apart (r ∷ ps) qs o (Memᴰ.tail m) n e = once-apart ps qs o.1 m n e
+once-apart [] qs o {p = p} {q = q} x4 n e = elim x4 [ ]
 
 -- the first word is asked for by no other requirement
 once-first : (p : Write) (rs : List Write) → Once (p ∷ rs) → (q : Write) → Memᴰ q rs → p.at ≡ q.at → ⊥
@@ -240,3 +242,4 @@ wrong-one (p ∷ rs) w a u v o g i (Memᴰ.head e) n =
 wrong-one (p ∷ rs) w a u v o g i (Memᴰ.tail m) n =
     wrong-right (set w a v) p rs (get_or-set_other w a p.at v 0 (once-first p rs o (write a u) m) ∙ g.0)
     ∙ wrong-one rs w a u v o.1 g.1 i m n
+wrong-one [] w a u v o g i x5 n = elim x5 [ ]

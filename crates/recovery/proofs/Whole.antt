@@ -117,6 +117,7 @@ unfolding blanks_asked
 blanks-one l y (d ∷ cs) h c (Memᴰ.head e) =
     subst (λ (b : ℕ). Agrees y (blank_asked l b)) (sym e) (append-all (Right y) (blank_asked l d) (blanks_asked l cs) h).0
 blanks-one l y (d ∷ cs) h c (Memᴰ.tail m) = blanks-one l y cs (append-all (Right y) (blank_asked l d) (blanks_asked l cs) h).1 c m
+blanks-one l y [] h c x'' = elim x'' [ ]
 
 -- a store y that holds what is required of w, in which the same nodes are worn, is ordered, and sound if it holds all
 module _ (l : Layout) (w y : List ℕ) (s : ℕ → List ℕ) (a : Accepted l w s)
