@@ -42,6 +42,7 @@ turn-has v a b k x (z ∷ s) y (Memᴰ.tail m) n =
     has_right y ident_word (fault (v.forward x) x a z) _
     (has_right y ident_word (fault (v.ident z) z ident_word (ident_of k)) _
     (has_right y ident_word (fault (v.back z) z b x) (turn_faults v a b k z s) (turn-has v a b k z s y m n)))
+turn-has v a b k x mathlib.Core.List.[] y x4 n = elim x4 [ ]
 
 -- all carry an identifier that says in use, unless one is wrong that does not
 pub members-carry : (v : View) (k : ℕ) (s : List ℕ) → Few (others_faults v forward_word back_word k s) → carries v.ident (others_faults v forward_word back_word k s) ≡ true

@@ -1,9 +1,9 @@
 -- Answers that decide.
 use Prim.Native.Nat.{ℕ}
 use mathlib.Core.Path.{◌≡◌, ◌∙◌, sym}
-use mathlib.Core.Bool.{Bool, true, false, not, true≢false}
+use mathlib.Core.Bool.{Bool, true, false, true≢false}
 use lib.Dec.{eqb}
-use borrow.Author.Tests.{eq-eqb, eqb-true, not-true, not-false}
+use borrow.Author.Tests.{eq-eqb, eqb-true}
 use Rattle.spans.specs.Spans.{Decides}
 
 -- the answer no, and an answer that is a test
@@ -14,11 +14,11 @@ pub tested : {P : Type 0} {a b : ℕ} → (a ≡ b → P) → (P → a ≡ b) �
 tested {P} {a} {b} f g = record { right = λ e. f (eqb-true a b e); complete = λ p. eq-eqb a b (g p) }
 
 -- what an answer says where the code asked `!r`
-pub denied : {r : Bool} {P : Type 0} → Decides r P → not r ≡ true → P → ⊥
-denied {r} d e p = true≢false (sym (d.complete p) ∙ not-true r e)
+pub denied : {r : Bool} {P : Type 0} → Decides r P → r ≡ false → P → ⊥
+denied d e p = true≢false (sym (d.complete p) ∙ e)
 
-pub granted : {r : Bool} {P : Type 0} → Decides r P → not r ≡ false → P
-granted {r} d e = d.right (not-false r e)
+pub granted : {r : Bool} {P : Type 0} → Decides r P → r ≡ true → P
+granted d e = d.right e
 
 -- an answer to one question is that to another
 pub decides-same : {r : Bool} {P Q : Type 0} → (P → Q) → (Q → P) → Decides r P → Decides r Q

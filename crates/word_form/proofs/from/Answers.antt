@@ -1,0 +1,13 @@
+-- `word_form::from`: the words of a part are those from its start on.
+use Prim.Native.Nat.{◌-◌}
+use native.Mathlib.Omega.{arith}
+use lib.ListN.{length, drop, length-drop}
+use lib.Seq.{take_all}
+use borrow.Author.Rules.{rules}
+use Rattle.word_form.proofs.from.Goals as goal
+
+pub returns : goal.returns
+returns c =
+    let w = c.args.words.now in
+    let a = c.args.a in
+    take_all (length w - a) (drop a w) (omega (arith, length-drop a w))
