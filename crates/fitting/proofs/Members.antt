@@ -6,7 +6,7 @@ use mathlib.Core.List.{List, ◌∷◌}
 use mathlib.Core.Bool.{true}
 use borrow.Author.Tests.{eq-eqb}
 use Rattle.sequences.specs.Sequence.{◌∈◌}
-use Rattle.layout.specs.Words.{ident_word, forward_word, back_word, most_lists, ident_of, Unlisted}
+use Rattle.layout.specs.Words.{in_use, ident_word, forward_word, back_word, most_lists, ident_of, Unlisted}
 use Rattle.lists.specs.Decide.{View}
 use Rattle.lists.proofs.Nodes.{in-use, ident-used}
 use Rattle.fitting.specs.declared.Faults.{Faults}
@@ -58,5 +58,5 @@ members-carry v k s few c h x m z = by (others_faults v forward_word back_word k
     by : (f : Faults) → Has x ident_word f → Few f → carries v.ident f ≡ true → ⊥
     by F.None p few c = p
     by (F.One d g u) p few c =
-        in_use (v.ident d) (rw (eq-eqb g 0 (sym p.1)) at c) (subst (λ (y : ℕ). Unlisted (v.ident y)) p.0 z)
+        in-use (v.ident d) (rw (eq-eqb g 0 (sym p.1)) at c) (subst (λ (y : ℕ). Unlisted (v.ident y)) p.0 z)
     by F.Many p few c = few

@@ -7,7 +7,7 @@ pub returns-then-found-v : goal.returns-then-found-v
 returns-then-found-v c = rw (no-fault _ _ _ _ c.if-found-v.true, plus_none c.args.self)
 
 pub returns-in-None : goal.returns-in-None
-returns-in-None c = rw (c.enum_told-1.given.1, one-fault _ _ _ _ c.if-found-v.false)
+returns-in-None c = rw (c.in-None.is, one-fault _ _ _ _ c.if-found-v.false)
 
 pub returns-in-One : goal.returns-in-One
-returns-in-One c = rw (c.enum_told-in-One-1.given.1, one-fault _ _ _ _ c.if-found-v.false)
+returns-in-One c = rw (c.in-One.is, one-fault _ _ _ _ c.if-found-v.false)

@@ -3,4 +3,4 @@ use borrow.Author.Rules.{rules}
 use Rattle.fitting.proofs.Faults.decide.Goals as goal
 
 pub returns-in-One : goal.returns-in-One
-returns-in-One c = rw c.self-1.given.1
+returns-in-One c = rw c.in-One.is
