@@ -49,6 +49,7 @@ unfolding erased
 erased-in (d ∷ cs) xs c h (Memᴰ.head e) =
     erased-worn cs (set xs d worn_ident) c (ap (λ (a : ℕ). get_or (set xs a worn_ident) c 0) (sym e) ∙ get_or-set_same xs c worn_ident 0 h)
 erased-in (d ∷ cs) xs c h (Memᴰ.tail m) = erased-in cs (set xs d worn_ident) c (omega (arith, length-set xs d worn_ident)) m
+erased-in [] xs c h x'' = elim x'' [ ]
 
 -- any other entry is as before
 pub erased-other : (cs xs : List ℕ) (c : ℕ) → (c ∈ cs → ⊥) → get_or (erased cs xs) c 0 ≡ get_or xs c 0

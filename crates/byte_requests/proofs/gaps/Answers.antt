@@ -12,61 +12,50 @@ use Rattle.requests.specs.Requests.{ends_at, with_ends, gaps_at}
 use Rattle.requests.specs.Sites.{gap_site}
 use Rattle.requests.proofs.Sites.{ends-facts, gaps-ends}
 use Rattle.requests.proofs.Worn.{gaps-said}
-use Rattle.byte_requests.proofs.gaps.Statement.{statement}
-use Rattle.byte_requests.proofs.gaps.Tie as tie
+use Rattle.byte_requests.proofs.gaps.Lts.View as lts
+use Rattle.byte_requests.proofs.gaps.Goals.{After-ends, Start}
+use Rattle.byte_requests.proofs.gaps.Goals as goal
 
 -- what is known at the start
-abbrev ident : tie.Start → ℕ → ℕ
+abbrev ident : Start → ℕ → ℕ
 ident s = (view_of s.args.l (words_in s.args.bytes.now)).ident
 
-abbrev members : tie.Start → List ℕ
+abbrev members : Start → List ℕ
 members s = sequence_of s.args.l (words_in s.args.bytes.now) s.args.k
 
-ends-requires : tie.Need-ends-requires
-ends-requires c κs = search rules
-
-enum-known-r : tie.Need-enum-known-r
-enum-known-r c = search rules
-
-enum-known-first : tie.Need-enum-known-first
-enum-known-first c = search rules
-
 -- the gap by the ends that are found
-told : (c : tie.After-ends) {x : Ends} → let s = c.before.before in let a = s.args in
+told : (c : After-ends) {x : Ends} → let s = c.before.before.before in let a = s.args in
     c.ends.result ≡ x → with_ends x Refused (λ i j. At (gap_site a.k a.p i (members s))) ≡ gaps_at a.l (ident s) a.k a.p a.start a.size (members s)
 told c e =
-    let s = c.before.before in
+    let s = c.before.before.before in
     let a = s.args in
     ap (λ (x : Ends). with_ends x Refused (λ i j. At (gap_site a.k a.p i (members s))))
-    (sym e ∙ c.ends.ensures.0 ∙ ap (λ (n : ℕ). ends_at a.l (ident s) n a.p a.start a.size) (held-count s.requires.2))
+    (sym e ∙ c.ends.ensures.cells ∙ ap (λ (n : ℕ). ends_at a.l (ident s) n a.p a.start a.size) (held-count s.requires.2))
     ∙ sym (gaps-ends a.l (ident s) a.k a.p a.start a.size (members s))
 
-gap-site-requires : tie.Need-gap-site-requires
-gap-site-requires c κs =
-    let f = c.before in
+pub gap_site-requires : goal.gap_site-requires
+gap_site-requires c =
+    let f = c in
     let x = f.before.before in
     let s = x.before.before in
     let a = s.args in (
       s.requires.0,
       s.requires.1,
       s.requires.2,
-      (ends-facts a.l (ident s) a.n a.p a.start a.size (sym x.ends.ensures.0 ∙ f.first.given.1)).0,
+      (ends-facts a.l (ident s) a.n a.p a.start a.size (sym x.ends.ensures.cells ∙ f.in-Cells.is)).0,
     )
 
-returns : tie.Need-returns
-returns c =
-    let x = c.before.before.before in
+pub returns-in-Refused : goal.returns-in-Refused
+returns-in-Refused c =
+    let x = c.before.before in
     let s = x.before.before in
     let a = s.args in
-    gaps-said a.l (ident s) a.k a.p a.start a.size (members s) (told x c.before.r.given.1)
+    let both = gaps-said a.l (ident s) a.k a.p a.start a.size (members s) (told (lts.up-After-ends _ _ _ _ x) c.in-Refused.is) in record { site = both.0; worn = both.1 }
 
-returns-2 : tie.Need-returns-2
-returns-2 c =
+pub returns-in-Cells : goal.returns-in-Cells
+returns-in-Cells c =
     let f = c.before.before in
-    let x = f.before.before in
+    let x = f.before in
     let s = x.before.before in
     let a = s.args in
-    gaps-said a.l (ident s) a.k a.p a.start a.size (members s) (ap At c.gap-site.ensures ∙ told x f.first.given.1)
-
-pub gaps_spec : {M : Type 1} → statement M
-gaps_spec = tie.close (tie.spec ends-requires enum-known-r enum-known-first gap-site-requires returns returns-2)
+    let both = gaps-said a.l (ident s) a.k a.p a.start a.size (members s) (ap At c.gap_site.ensures ∙ told (lts.up-After-ends _ _ _ _ x) f.in-Cells.is) in record { site = both.0; worn = both.1 }
