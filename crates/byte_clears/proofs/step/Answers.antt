@@ -7,27 +7,20 @@ use borrow.Author.Rules.{rules}
 use Rattle.stores.specs.Stores.{write, run}
 use Rattle.byte_form.specs.Bytes.{byte_writes}
 use Rattle.layout.proofs.Laws.{node-fits, cell-node}
-use Rattle.byte_clears.proofs.step.Statement.{statement}
-use Rattle.byte_clears.proofs.step.Tie as tie
+use Rattle.byte_clears.proofs.step.Goals as goal
 
-node-requires : tie.Need-node-requires
-node-requires c κs = c.before.before.requires.1.low
+pub node-requires : goal.node-requires
+node-requires c = c.requires.1.low
 
-put-requires : tie.Need-put-requires
-put-requires c κs =
-    let s = c.before.before.before in
+pub put-requires : goal.put-requires
+put-requires c =
+    let s = c in
     omega (arith, c.node.ensures, s.requires.0.exact, node-fits s.args.l s.args.i s.requires.1)
 
-same_length : tie.Need-same-length
-same_length c = search rules
-
-returns : tie.Need-returns
+pub returns : goal.returns
 returns c =
-    let x = c.before.before.before in
-    let s = x.before.before.before in
-    c.before.before.put.ensures
+    let x = c in
+    let s = x in
+    c.put.ensures
     ∙ ap (λ (a : ℕ). run (byte_writes (write a 0 ∷ [])) s.args.bytes.now)
     (x.node.ensures ∙ sym (cell-node s.args.l s.args.i s.requires.1.low))
-
-pub step_spec : {M : Type 1} → statement M
-step_spec = tie.close (tie.spec node-requires put-requires same_length returns)
