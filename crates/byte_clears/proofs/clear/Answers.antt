@@ -13,7 +13,7 @@ use Rattle.byte_form.proofs.Laws.{same-words, bytes-none, bytes-more, bytes-all}
 use Rattle.layout.specs.Words.{first_node, cell_count}
 use Rattle.mending.specs.Mending.{clears}
 use Rattle.mending.proofs.Clearing.{Clearing, clearing-none, clearing-one, clearing-skip, clearing-all}
-use Rattle.byte_clears.proofs.clear.Goals.{At-loop-i, Start}
+use Rattle.byte_clears.proofs.clear.Goals.{then-in_use+else-n-allowance, else-in_use, At-loop-i, Start}
 use Rattle.byte_clears.proofs.clear.Goals as goal
 
 -- the start, by the loop; the stores
@@ -60,30 +60,28 @@ pub loop-i-preserved : goal.loop-i-preserved
 loop-i-preserved c =
     let t = c in
     let s = (start t.before.before.before.before.before.before) in
-    ⊎_elim
-    (λ w.
-    let p = clearing-one s.args.l s.args.idents.now t.loop-i.n t.loop-i.i t.loop-i.invariant.4 (omega arith) (sym c.in_use.ensures ∙ w.0.taken) in
-    rw (w.6, w.7) (
+    elim c.if-in_use.branch [ then-in_use+else-n-allowance w ↦
+    let p = clearing-one s.args.l s.args.idents.now t.loop-i.n t.loop-i.i t.loop-i.invariant.4 (omega arith) (sym c.in_use.ensures ∙ w.if-in_use.true) in
+    rw (w.bytes-is, w.n-is) (
       omega arith,
       omega arith,
       t.loop-i.invariant.2,
       omega arith,
       p.2,
-      w.3.ensures
+      w.step.ensures
           ∙ ap₂ (λ (q : Write) (b : List ℕ). run (byte_writes (q ∷ [])) b) (sym p.1) t.loop-i.invariant.5
           ∙ sym (bytes-more (all s) t.loop-i.n s.args.bytes.now p.0),
-      w.3.kept.0 ∙ t.loop-i.invariant.6,
-    ))
-    (λ w. rw (w.1, w.2) (
+      w.step.auto.bytes ∙ t.loop-i.invariant.6,
+    )
+    | else-in_use w ↦ rw (w.bytes-is, w.n-is) (
       omega arith,
       omega arith,
       t.loop-i.invariant.2,
       t.loop-i.invariant.3,
-      clearing-skip s.args.l s.args.idents.now t.loop-i.n t.loop-i.i t.loop-i.invariant.4 (omega arith) (sym c.in_use.ensures ∙ w.0.left),
+      clearing-skip s.args.l s.args.idents.now t.loop-i.n t.loop-i.i t.loop-i.invariant.4 (omega arith) (sym c.in_use.ensures ∙ w.if-in_use.false),
       t.loop-i.invariant.5,
       t.loop-i.invariant.6,
-    ))
-    c.if-in_use.branch
+    ) ]
 
 pub returns : goal.returns
 returns c =

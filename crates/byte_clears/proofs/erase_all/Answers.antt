@@ -26,7 +26,7 @@ abbrev view : Start → View
 view s = view_of s.args.l (words_in s.args.bytes.now)
 
 abbrev ways : Start → ℕ → Bool
-ways s k = get_or s.args.t5 k false
+ways s k = get_or s.args.back k false
 
 pub loop-k-init : goal.loop-k-init
 loop-k-init c =

@@ -17,7 +17,7 @@ use Rattle.byte_clears.proofs.erase_all.Given as goal
 
 abbrev pub invariant-loop-k : goal.invariant-loop-k
 invariant-loop-k l =
-    let ways : ℕ → Bool = λ l.k. get_or l.back l.k false in
+    let ways : ℕ → Bool = λ j. get_or l.back j false in
     (Gridded l.l l.g × Laid l.l (words_in l.bytes))
     × (erased_from l.l (view_of l.l (words_in l.bytes)) ways l.k (l.l.lists - l.k) l.idents ≡ erased_from l.l (view_of l.l (words_in l.bytes)) ways 0 l.l.lists l.initial.idents)
     × (l.k ≤ l.l.lists)

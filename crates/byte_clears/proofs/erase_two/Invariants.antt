@@ -17,6 +17,10 @@ use Rattle.mending.specs.Mending.{erased, link_by, erased_along}
 use Rattle.mending.proofs.Erasing.{erased-members, erased-both}
 use Rattle.byte_clears.proofs.erase_two.Given as goal
 
+-- what is left to be erased, first by one walk and then by the other
+abbrev pub left : Layout → View → Bool → Bool → ℕ → ℕ → ℕ → List ℕ → List ℕ
+left l v back other n y z idents = erased_along l v other n z (erased_along l v back n y idents)
+
 abbrev pub invariant-loop-more : goal.invariant-loop-more
 invariant-loop-more l =
     let v = view_of l.l (words_in l.bytes) in

@@ -57,7 +57,7 @@ loop-b-preserved c =
       omega arith,
       omega arith,
       refl,
-      elim c.if-word-ne0.branch [ then-word-ne0 o ↦ omega (arith, t.loop-b.invariant.3, o.1, ap length (row_other w b (a.a + a.n) (omega arith) (λ z. o.if-word-ne0.true (x.word.ensures ∙ z)))) | else-word-ne0 o ↦ omega (arith, t.loop-b.invariant.3, o.1, ap length (row_zero w b (a.a + a.n) (omega arith) (sym x.word.ensures ∙ o.if-word-ne0.false))) ],
+      elim c.if-word-ne0.branch [ then-word-ne0 o ↦ omega (arith, t.loop-b.invariant.3, o.count-is, ap length (row_other w b (a.a + a.n) (omega arith) (λ z. o.if-word-ne0.true (x.word.ensures ∙ z)))) | else-word-ne0 o ↦ omega (arith, t.loop-b.invariant.3, o.count-is, ap length (row_zero w b (a.a + a.n) (omega arith) (sym x.word.ensures ∙ o.if-word-ne0.false))) ],
     )
 
 pub returns : goal.returns

@@ -1,5 +1,5 @@
 -- `byte_edits::delete_at`: the links and the wiping of the record are two segments of one run.
-use Prim.Native.Nat.{ℕ, ◌+◌, ◌*◌, ◌-◌, ◌≤◌}
+use Prim.Native.Nat.{ℕ, ◌+◌, ◌*◌, ◌-◌, ◌≤◌, ◌<◌}
 use mathlib.Core.Path.{◌≡◌, ap, ap₂, sym, subst, ◌∙◌}
 use mathlib.Core.List.{List, ◌++◌}
 use mathlib.Core.Logic.{⊎_elim}
@@ -33,7 +33,7 @@ links c = let a = (start c).args in delete_links a.l a.list a.t
 
 tried : (c : After-run) → let a = (start c).args in
     (c.run.result ≡ answer_of (stores (links c)) a.allowance) × (c.run.new.bytes ≡ applied_bytes (links c) a.allowance a.bytes.now)
-tried c = rw c.delete_links-links.ensures.same at c.run.ensures
+tried c = (rw c.delete_links-links.ensures.same at c.run.ensures.answer, rw c.delete_links-links.ensures.same at c.run.ensures.bytes)
 
 -- the stores that wipe the record
 abbrev wipes : After-run → List Write
@@ -82,26 +82,31 @@ abbrev after : After-zeros-1 → In-Done
 after c = (lts.up-In-Done _ _ _ _ (c.before.before.before.before))
 
 pub slice_bounds-put_row-end : goal.slice_bounds-put_row-end
-slice_bounds-put_row-end c = sym (length-take-le _ (replicate (word_size * most_width) 0) (array-share-prefix-zeros c.before))
+slice_bounds-put_row-end c =
+    sym (length-take-le _ (replicate (word_size * most_width) 0) (omega (arith, c.node_words.ensures, (start (linked (after c))).requires.0.in_range.tail)))
 
 pub overflow_sub-allowance : goal.overflow_sub-allowance
 overflow_sub-allowance c = omega (arith, whole (after c))
 
 pub put_row-requires : goal.put_row-requires
 put_row-requires c =
-    let x = (linked (after c)) in
+    let x = linked (after c) in
     let p = (start x).requires in
-    let size = word_size * (c.node_words.result - 3) in
+    let w = c.node_words.result - 3 in
+    let zs : List ℕ = replicate (word_size * most_width) 0 in
+    let cut : length (take (word_size * w) zs) ≡ word_size * w = length-take-le _ zs (omega (arith, c.node_words.ensures, p.0.in_range.tail)) in
+    let e : length (words_in (take (word_size * w) zs)) ≡ w = omega (arith, length-words (take (word_size * w) zs), cut) in
+    let few : w ≤ most_width = omega (arith, c.node_words.ensures, p.0.in_range.tail) in
+    let fits : c.node-row.result + 3 + w ≤ length (words_in x.run.new.bytes) =
     omega (
       arith,
-      slice-aggregate-put-row c,
-      length-words (take size (replicate (word_size * most_width) 0)),
       c.node_words.ensures,
       c.node-row.ensures,
       record-fits p.0,
       same-words x.run.new.bytes (start x).args.bytes.now x.run.auto.bytes,
       p.1,
-    )
+    ) in
+    subst (λ (n : ℕ). (c.node-row.result + 3 + n ≤ length (words_in x.run.new.bytes)) × (n < 65536)) (sym e) (fits, omega arith)
 
 -- the words of a part of the zeros are zeros
 zeros : (n : ℕ) → words_in (take (word_size * n) (replicate (word_size * most_width) 0)) ≡ take n (replicate most_width 0)
@@ -120,9 +125,16 @@ wiped c =
       add-sub_cancel_left,
       zeros,
       blank-row (start x).requires.0,
-    ) at c.put_row.ensures in (
-      r.0,
-      r.1
+    ) at c.put_row.ensures.answer in
+    let b = rw (
+      c.node-row.ensures,
+      c.node_words.ensures,
+      add-sub_cancel_left,
+      zeros,
+      blank-row (start x).requires.0,
+    ) at c.put_row.ensures.bytes in (
+      r,
+      b
           ∙ ap₂ (λ (n : ℕ) (w : List ℕ). applied_bytes (wipes x) (a.allowance - n) w) (whole (after c.before)).1 (tried x).1
           ∙ sym (bytes-append (links x) (wipes x) a.allowance a.bytes.now),
     )

@@ -86,7 +86,7 @@ tried x =
     (λ (ws : List ℕ).
     let ps : List Write = insert_writes a.l a.list h.loop-n.t ws in
     (x.insert_at.result ≡ answer_of (stores ps) m) × (x.insert_at.new.bytes ≡ applied_bytes ps m h.loop-n.bytes))
-    x.part-rec.ensures x.insert_at.ensures
+    x.part-rec.ensures (x.insert_at.ensures.answer, x.insert_at.ensures.bytes)
 
 -- as many bytes as at the start
 kept : (h : At) → length h.loop-n.bytes ≡ length (start h).args.bytes.now
@@ -116,7 +116,11 @@ returns-in_default c =
     let i = h.loop-n.invariant.1 in
     let a = (start h).args in
     let e = (tried (lts.up-After-insert_at _ _ _ _ _ _ (x.before.before.before.before))).1 ∙ bytes-stopped i.0 a.allowance i.1 i.2 a.bytes.now i.3 s in
-    let both = (answer-stopped (plan (start h)) a.allowance (underway-short i.0 a.allowance i.1 i.2 s), (e, worn (start h) e)) in record { answer = both.0; bytes = both.1.0; worn = both.1.1 }
+    record {
+      answer = answer-stopped (plan (start h)) a.allowance (underway-short i.0 a.allowance i.1 i.2 s);
+      bytes = e;
+      worn = worn (start h) e;
+    }
 
 -- all of its stores are made
 abbrev stored : In-Done → After-insert_at
@@ -139,10 +143,11 @@ returns-then-e-whole c =
     let z : length (left h) ≡ a.l.width = omega (arith, left-length h, record-in h, h.size-whole.ensures, c.if-e-whole.true) in
     let e = (tried x).1 ∙ bytes-done i.0 a.allowance i.1 i.2 a.bytes.now i.3 z in
     let f = underway-whole i.0 a.allowance i.1 i.2 (whole (lts.up-In-Done _ _ _ _ _ _ (n.before.before))).0 z in
-    let both = (
-      ap (λ (n : ℕ). A.Done (h.loop-n.made + n)) (whole (lts.up-In-Done _ _ _ _ _ _ (n.before.before))).1 ∙ ap A.Done f.0 ∙ answer-done (plan (start h)) a.allowance f.1,
-      (e, worn (start h) e),
-    ) in record { answer = both.0; bytes = both.1.0; worn = both.1.1 }
+    record {
+      answer = ap (λ (n : ℕ). A.Done (h.loop-n.made + n)) (whole (lts.up-In-Done _ _ _ _ _ _ (n.before.before))).1 ∙ ap A.Done f.0 ∙ answer-done (plan (start h)) a.allowance f.1;
+      bytes = e;
+      worn = worn (start h) e;
+    }
 
 pub next_site-t-requires : goal.next_site-t-requires
 next_site-t-requires c =

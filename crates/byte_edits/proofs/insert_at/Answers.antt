@@ -30,7 +30,7 @@ row c = let a = (start c).args in in_row (record_at a.l a.t.cell) (words_in a.re
 
 tried : (c : After-put_row) → let a = (start c).args in
     (c.put_row.result ≡ answer_of (stores (row c)) a.allowance) × (c.put_row.new.bytes ≡ applied_bytes (row c) a.allowance a.bytes.now)
-tried c = rw c.node-first.ensures at c.put_row.ensures
+tried c = (rw c.node-first.ensures at c.put_row.ensures.answer, rw c.node-first.ensures at c.put_row.ensures.bytes)
 
 pub overflow_add-first : goal.overflow_add-first
 overflow_add-first c = omega (arith, record-fits c.requires.0, c.node-first.ensures)
@@ -84,9 +84,10 @@ linked : (c : After-run) → let x = (stored (after c)) in let a = (start x).arg
 linked c =
     let x = (stored (after c)) in
     let a = (start x).args in
-    let r = rw c.insert_links-links.ensures.same at c.run.ensures in (
-      r.0,
-      r.1
+    let r = rw c.insert_links-links.ensures.same at c.run.ensures.answer in
+    let b = rw c.insert_links-links.ensures.same at c.run.ensures.bytes in (
+      r,
+      b
           ∙ ap₂ (λ (m : ℕ) (w : List ℕ). applied_bytes (links c) (a.allowance - m) w) (whole (after c)).1 (tried x).1
           ∙ sym (bytes-append (row x) (links c) a.allowance a.bytes.now),
     )

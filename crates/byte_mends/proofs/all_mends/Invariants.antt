@@ -21,7 +21,7 @@ use Rattle.byte_mends.proofs.all_mends.Given as goal
 abbrev pub invariant-loop-k : goal.invariant-loop-k
 invariant-loop-k l =
     (Gridded l.l l.g × Laid l.l (words_in l.bytes))
-    × Found l.l (view_of l.l (words_in l.bytes)) (count_in l.l (words_in l.bytes)) l.members l.whole l.back (record { l.at = l.at; l.values = l.values; l.len = l.len }) l.k
+    × Found l.l (view_of l.l (words_in l.bytes)) (count_in l.l (words_in l.bytes)) l.members l.whole l.back (record { at = l.at; values = l.values; len = l.len }) l.k
     × (l.members ≤ 65535 * l.k)
     × (l.known ≡ true → l.k < l.l.lists → l.next ≡ fit_in l.l (view_of l.l (words_in l.bytes)) l.k (count_in l.l (words_in l.bytes) l.k))
 

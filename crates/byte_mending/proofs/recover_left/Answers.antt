@@ -1,0 +1,68 @@
+-- `byte_mending::recover_left` meets its contract: what is left of the identifiers tells the clears of recovery's plan, and what mends and
+-- clears leave tells the wipes.
+use Prim.Native.Nat.{ℕ}
+use mathlib.Core.Path.{◌≡◌, ap, ap₂, sym, ◌∙◌}
+use mathlib.Core.List.{List, ◌++◌}
+use native.Mathlib.Omega.{arith}
+use borrow.Author.Rules.{rules}
+use Rattle.calls.specs.declared.Answer.{Answer}
+use Rattle.calls.specs.Answers.{answer_of, answer_stores}
+use Rattle.stores.specs.Stores.{Write, Plan, run, stores, writes_in}
+use Rattle.byte_form.specs.Bytes.{words_in, bytes_after}
+use Rattle.byte_form.proofs.Laws.{same-words}
+use Rattle.recovery.specs.Plan.{recover_of}
+use Rattle.mending.specs.Mending.{clears, wipes, answer_on}
+use Rattle.mending.proofs.Making.{made-within}
+use Rattle.mending.proofs.Recovered.{recover-stores}
+use Rattle.byte_wipes.specs.Wiping.{bytes_on}
+use Rattle.byte_wipes.proofs.Making.{on-answer-bytes, on-bytes}
+use Rattle.byte_mending.proofs.recover_left.Goals.{After-erase_all, After-make-made, Start}
+use Rattle.byte_mending.proofs.recover_left.Goals as goal
+
+-- the start, by the place where the members are erased; the mends and the clears
+abbrev start : After-erase_all → Start
+start c = c.before.before.before.before.before.before.before
+
+abbrev both : After-erase_all → List Write
+both c = let a = (start c).args in writes_in a.m.rows ++ clears a.l c.erase_all.new.idents
+
+-- the plan, as the column tells it
+planned : (c : After-erase_all) → let a = (start c).args in
+    recover_of a.l (words_in a.bytes.now) ≡ stores (both c ++ wipes a.l (run (both c) (words_in a.bytes.now)))
+planned c =
+    let s = (start c) in
+    let a = s.args in
+    let r = c in
+    recover-stores a.l (words_in a.bytes.now) a.m s.requires.2 s.requires.3 s.requires.1.exact s.requires.1.in_range r.read_nodes.new.idents r.read_nodes.ensures.room r.read_nodes.ensures.nodes
+    ∙ ap (λ (i : List ℕ). let ps = writes_in a.m.rows ++ clears a.l i in stores (ps ++ wipes a.l (run ps (words_in a.bytes.now)))) (sym c.erase_all.ensures)
+
+-- the place where the members are erased, by that where mends and clears are made
+abbrev erased : After-make-made → After-erase_all
+erased c = c.before.before
+
+pub go_on-requires : goal.go_on-requires
+go_on-requires c =
+    let m = c in
+    let x = (erased m.before.before.before) in
+    let s = (start x) in (
+      s.requires.0,
+      record { in_range = s.requires.1.in_range; exact = same-words m.make-made.new.bytes s.args.bytes.now m.make-made.auto.bytes ∙ s.requires.1.exact },
+      omega (arith, ap answer_stores m.make-made.ensures.answer, made-within (both x) s.args.allowance),
+    )
+
+pub returns : goal.returns
+returns c =
+    let g = c in
+    let m = g in
+    let x = (erased m.before.before.before.before.before.before.before) in
+    let a = (start x).args in
+    let e = m.make-made.ensures in record {
+      answer = g.go_on.ensures.answer
+          ∙ ap₂ (λ (r : Answer) (b : List ℕ). answer_on r (wipes a.l (words_in b)) a.allowance) e.0 e.1
+          ∙ on-answer-bytes (both x) (wipes a.l) a.allowance a.bytes.now
+          ∙ ap (λ (p : Plan). answer_of p a.allowance) (sym (planned x));
+      bytes = g.go_on.ensures.bytes
+          ∙ ap₂ (λ (r : Answer) (b : List ℕ). bytes_on r (wipes a.l (words_in b)) a.allowance b) e.0 e.1
+          ∙ on-bytes (both x) (wipes a.l) a.allowance a.bytes.now
+          ∙ ap (λ (p : Plan). bytes_after p a.allowance a.bytes.now) (sym (planned x));
+    }
