@@ -103,8 +103,8 @@ all c = let y = c in done-whole (cleared y.before.before.before.before) _ _ (sym
 pub overflow_add-result : goal.overflow_add-result
 overflow_add-result c = omega (arith, made (mended c.before.before.before.before), all c)
 
-pub returns-in_default : goal.returns
-returns-in_default c =
+pub returns : goal.returns
+returns c =
     let y = c in record {
       answer = ap (more (mended y.before.before.before.before).in-Done.n) (sym c.in-Done-clear.is) ∙ answered y.before.before.before.before;
       bytes = both y.before.before.before.before;

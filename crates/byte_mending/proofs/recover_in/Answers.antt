@@ -47,8 +47,8 @@ run_rows-requires c =
     let r = d.decide-found.result.mends.rows in
     subst (λ (n : ℕ). Held n r (writes_in r)) (sym (start d).requires.exact) d.decide-found.ensures.mends.held
 
-pub returns-then-m-ne0 : goal.returns
-returns-then-m-ne0 c =
+pub returns : goal.returns
+returns c =
     let r = c in
     let u = r in
     let x = u in

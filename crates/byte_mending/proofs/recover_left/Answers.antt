@@ -58,11 +58,11 @@ returns c =
     let a = (start x).args in
     let e = m.make-made.ensures in record {
       answer = g.go_on.ensures.answer
-          ∙ ap₂ (λ (r : Answer) (b : List ℕ). answer_on r (wipes a.l (words_in b)) a.allowance) e.0 e.1
+          ∙ ap₂ (λ (r : Answer) (b : List ℕ). answer_on r (wipes a.l (words_in b)) a.allowance) e.answer e.bytes
           ∙ on-answer-bytes (both x) (wipes a.l) a.allowance a.bytes.now
           ∙ ap (λ (p : Plan). answer_of p a.allowance) (sym (planned x));
       bytes = g.go_on.ensures.bytes
-          ∙ ap₂ (λ (r : Answer) (b : List ℕ). bytes_on r (wipes a.l (words_in b)) a.allowance b) e.0 e.1
+          ∙ ap₂ (λ (r : Answer) (b : List ℕ). bytes_on r (wipes a.l (words_in b)) a.allowance b) e.answer e.bytes
           ∙ on-bytes (both x) (wipes a.l) a.allowance a.bytes.now
           ∙ ap (λ (p : Plan). bytes_after p a.allowance a.bytes.now) (sym (planned x));
     }

@@ -44,9 +44,9 @@ returns c =
     let a = (start x.before.before.before.before.before.before.before).args in
     let e = x.run_rows-made.ensures in record {
       answer = g.go_on.ensures.answer
-          ∙ ap₂ (λ (r : Answer) (b : List ℕ). answer_on r (wipes a.l (words_in b)) a.allowance) e.0 e.1
+          ∙ ap₂ (λ (r : Answer) (b : List ℕ). answer_on r (wipes a.l (words_in b)) a.allowance) e.answer e.bytes
           ∙ on-answer-bytes (mends x.before.before.before.before.before.before.before) (wipes a.l) a.allowance a.bytes.now;
       bytes = g.go_on.ensures.bytes
-          ∙ ap₂ (λ (r : Answer) (b : List ℕ). bytes_on r (wipes a.l (words_in b)) a.allowance b) e.0 e.1
+          ∙ ap₂ (λ (r : Answer) (b : List ℕ). bytes_on r (wipes a.l (words_in b)) a.allowance b) e.answer e.bytes
           ∙ on-bytes (mends x.before.before.before.before.before.before.before) (wipes a.l) a.allowance a.bytes.now;
     }

@@ -1,5 +1,6 @@
 -- `byte_mending::stores_in` meets its contract: what is found of the store tells a refusal, or how many stores recovery makes.
 use Prim.Native.Nat.{ℕ, ◌+◌}
+use borrow.Author.Tests.{not-true}
 use mathlib.Core.Path.{ap, ap₂, sym, ◌∙◌}
 use native.Mathlib.Omega.{arith}
 use borrow.Author.Rules.{rules}
@@ -35,7 +36,7 @@ returns-then-not-found c =
     let s = (start d) in
     let a = s.args in
     let n = none_left a.l (words_in a.bytes.now) f d.decide-found.ensures x.if-found.false in
-    let b = none-unwiped a.l (words_in a.bytes.now) f d.decide-found.ensures (c.if-not-found.true) in
+    let b = none-unwiped a.l (words_in a.bytes.now) f d.decide-found.ensures (not-true _ c.if-not-found.true) in
     ap N.Stores d.decide-found.ensures.mends.held.len
     ∙ sym (needed-mends a.l (words_in a.bytes.now) f.mends d.decide-found.ensures.mends x.if-lists-ne0.false s.requires.exact s.requires.in_range n b)
 
@@ -50,8 +51,8 @@ overflow_add-result c =
     let a = s.args in
     omega (arith, d.decide-found.ensures.mends.held.few, wipes-few a.l (words_in a.bytes.now) s.requires.in_range (first_node a.l) a.l.nodes, s.requires.in_range.nodes)
 
-pub returns-then-lists-ne0 : goal.returns
-returns-then-lists-ne0 c =
+pub returns : goal.returns
+returns c =
     let x = (known c) in
     let d = (decided x) in
     let f = d.decide-found.result in
