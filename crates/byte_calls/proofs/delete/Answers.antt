@@ -58,4 +58,4 @@ returns-in-At c =
     let e = rw r.layout_of.ensures at r.delete_at.ensures in
     let both = byte-run a.allowance a.bytes.now
     (asked-yes (whole a.bytes.now) (refuse 4) (delete_plan w a.list a.position) (found t.before.before.before.before.before.before).0 ∙ delete-at w a.list a.position (found t.before.before.before.before.before.before).2)
-    e.0 e.1 in record { answer = both.0; bytes = both.1 }
+    e.answer e.bytes in record { answer = both.0; bytes = both.1 }

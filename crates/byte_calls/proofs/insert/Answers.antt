@@ -91,4 +91,4 @@ returns-in-At c =
     (asked-yes (whole a.bytes.now) (refuse 4) (insert_plan w a.list a.position a.start (record_words a.rec.now)) (found (lts.up-In-At _ _ _ _ (t.before.before.before.before.before.before))).0
     ∙ insert-at w a.list a.position a.start (record_words a.rec.now) (found (lts.up-In-At _ _ _ _ (t.before.before.before.before.before.before))).2
     ∙ ap (λ (x : List ℕ). stores (insert_writes (layout_of w) a.list t.in-At.t x)) (same (lts.up-In-At _ _ _ _ (t.before.before.before.before.before.before))))
-    e.0 e.1) in record { answer = both.0; bytes = both.1.0; worn = both.1.1 }
+    e.answer e.bytes) in record { answer = both.0; bytes = both.1.0; worn = both.1.1 }

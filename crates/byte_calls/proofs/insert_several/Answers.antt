@@ -99,4 +99,4 @@ returns-in-At c =
     ∙ several-at w a.list a.position a.start (record_words a.records.now) (found (lts.up-In-At _ _ _ _ (t.before.before.before.before.before.before))).2
     ∙ ap (λ (cs : List ℕ). stores (chain l a.list u.before u.after u.count (take n cs) (record_words a.records.now))) (room (lts.up-In-At _ _ _ _ (t.before.before.before.before.before.before))).cells
     ∙ ap (λ (x : List ℕ). stores (chain_from l w a.list u (length x / l.width) x)) (same (lts.up-In-At _ _ _ _ (t.before.before.before.before.before.before))))
-    e.0 e.1.0) in record { answer = both.0; bytes = both.1.0; worn = both.1.1 }
+    e.answer e.bytes) in record { answer = both.0; bytes = both.1.0; worn = both.1.1 }
