@@ -34,10 +34,10 @@ pub word-run
 word-run m b e x y = (x ∙ ap (λ (p : Plan). answer_of p m) (sym e), y ∙ ap (λ (p : Plan). words_after p m b) (sym e))
 
 -- and of an insert, which keeps the worn nodes
-pub word_kept : (p : Plan) (m : ℕ) (b : List ℕ) {x : Answer} {b' : List ℕ}
+pub word-kept : (p : Plan) (m : ℕ) (b : List ℕ) {x : Answer} {b' : List ℕ}
     → KeepsWorn (layout_of (words_in b)) (words_in b) (S.words_after p m (words_in b)) → (x ≡ answer_of p m) × (b' ≡ words_after p m b)
     → (x ≡ answer_of p m) × ((b' ≡ words_after p m b) × KeepsWorn (layout_of (words_in b)) (words_in b) (words_in b'))
-word_kept p m b h q =
+word-kept p m b h q =
     (q.0, (q.1, subst (KeepsWorn (layout_of (words_in b)) (words_in b)) (sym (ap words_in q.1 ∙ words-after p m b)) h))
 
 -- so do the words where a question e is put before its own

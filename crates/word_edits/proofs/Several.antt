@@ -9,7 +9,7 @@ use Rattle.stores.specs.Stores.{Write, run}
 use Rattle.stores.proofs.Laws.{run-append}
 use Rattle.word_form.specs.Words.{words_in, word_writes, applied_words}
 use Rattle.word_form.proofs.Laws.{words-run, word-append, words-all}
-use Rattle.word_form.proofs.Segments.{words_append, words-first}
+use Rattle.word_form.proofs.Segments.{words-append, words-first}
 use Rattle.layout.specs.declared.Layout.{Layout}
 use Rattle.requests.specs.declared.Site.{Site}
 use Rattle.edits.specs.Edits.{insert_writes}
@@ -24,7 +24,7 @@ module _ {l : Layout} {k : ℕ} {ps made : List Write} {w : List ℕ} {t : Site}
   going_on : (qs : List Write) → ps ≡ made ++ qs → applied_words ps m b₀ ≡ applied_words qs (m - n) b
   going_on qs q =
       ap (λ (x : List Write). applied_words x m b₀) q
-      ∙ words_append made qs m b₀
+      ∙ words-append made qs m b₀
       ∙ ap₂ (λ (x : ℕ) (v : List ℕ). applied_words qs (m - x) v) (sym c) (words-all made m b₀ (omega (arith, c)) ∙ sym e)
 
   -- the next record's stores are not all made
@@ -38,9 +38,9 @@ module _ {l : Layout} {k : ℕ} {ps made : List Write} {w : List ℕ} {t : Site}
   words-done z = sym (going_on First (underway-last u z))
 
   -- they are all made
-  pub words-next : length First ≤ m - n → {b' : List ℕ} → b' ≡ applied_words First (m - n) b
+  pub words_next : length First ≤ m - n → {b' : List ℕ} → b' ≡ applied_words First (m - n) b
       → (words_in b' ≡ run First (words_in b)) × (b' ≡ run (word_writes (made ++ First)) b₀)
-  words-next g a =
+  words_next g a =
       let q = a ∙ words-all First (m - n) b g in (
         ap words_in q ∙ words-run First b,
         q

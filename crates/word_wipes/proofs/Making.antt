@@ -16,7 +16,7 @@ use Rattle.calls.proofs.Answers.{answer-stopped, answer-done}
 use Rattle.stores.proofs.Laws.{run-append}
 use Rattle.word_form.specs.Words.{words_in, word_writes, applied_words}
 use Rattle.word_form.proofs.Laws.{words-run, word-append, words-nil, words-all}
-use Rattle.word_form.proofs.Segments.{words_append, words-first}
+use Rattle.word_form.proofs.Segments.{words-append, words-first}
 use Rattle.mending.specs.Mending.{answer_on}
 use Rattle.mending.proofs.Making.{Making, making-part, on-answer}
 use Rattle.word_wipes.specs.Wiping.{words_on}
@@ -30,20 +30,20 @@ none_made ps m b e = (
 
 -- a segment goes on where the first n stores end
 module _ {ps : List Write} {n : ℕ} (qs left : List Write) (m : Making ps n (qs ++ left)) where
-  part-words : (b : List ℕ) (j : ℕ) → j ≤ length qs → applied_words qs j (applied_words ps n b) ≡ applied_words ps (n + j) b
-  part-words b j h =
+  part_words : (b : List ℕ) (j : ℕ) → j ≤ length qs → applied_words qs j (applied_words ps n b) ≡ applied_words ps (n + j) b
+  part_words b j h =
       sym (run-append (word_writes (take n ps)) (word_writes (take j qs)) b)
       ∙ ap (λ (t : List Write). run t b) (sym (word-append (take n ps) (take j qs)))
       ∙ ap (λ (t : List Write). run (word_writes t) b) (sym (making-part qs left m j h))
 
   pub words-on : (b : List ℕ) (a : ℕ) → length qs ≤ a → applied_words qs a (applied_words ps n b) ≡ applied_words ps (n + length qs) b
   words-on b a h =
-      words-all qs a (applied_words ps n b) h ∙ sym (words-all qs (length qs) (applied_words ps n b) (omega arith)) ∙ part-words b (length qs) (omega arith)
+      words-all qs a (applied_words ps n b) h ∙ sym (words-all qs (length qs) (applied_words ps n b) (omega arith)) ∙ part_words b (length qs) (omega arith)
 
   pub words-stopped : (b : List ℕ) (a : ℕ) → n ≤ a → a - n < length qs → applied_words qs (a - n) (applied_words ps n b) ≡ applied_words ps a b
   words-stopped b a h g =
       let e : n + (a - n) ≡ a = omega arith in
-      part-words b (a - n) (omega arith) ∙ ap (λ (j : ℕ). applied_words ps j b) e
+      part_words b (a - n) (omega arith) ∙ ap (λ (j : ℕ). applied_words ps j b) e
 
 -- stores that follow on others, which were not all made
 pub none-follow : (r : Answer) (qs : List Write) (m : ℕ) (b : List ℕ) → ((n : ℕ) → r ≡ A.Done n → ⊥) → (r ≡ answer_on r qs m) × (b ≡ words_on r qs m b)
@@ -75,4 +75,4 @@ module _ (ps : List Write) (next : List ℕ → List Write) (m : ℕ) (b : List 
           let h = ltb-false m (length ps) e in
           let w : words_in After ≡ run ps (words_in b) = ap words_in (words-all ps m b h) ∙ words-run ps b in
           ap₂ (λ (r : Answer) (v : List ℕ). words_on r (next v) m After) (sym (answer-done ps m h)) w
-          ∙ sym (words_append ps (next (run ps (words_in b))) m b)
+          ∙ sym (words-append ps (next (run ps (words_in b))) m b)

@@ -1,0 +1,20 @@
+-- Made from crates/byte_runs/proofs/step/Answers.antt by tools/twins.
+-- `word_runs::step`: stores the value that stands beside the address.
+use mathlib.Core.Path.{ap, sym, ◌∙◌}
+use mathlib.Core.List.{[], ◌∷◌}
+use native.Mathlib.Omega.{arith}
+use Rattle.stores.specs.Stores.{Write, run}
+use Rattle.stores.proofs.Laws.{writes_at}
+use Rattle.word_form.specs.Words.{word_writes}
+use borrow.Author.Rules.{rules}
+use Rattle.word_runs.proofs.step.Goals as goal
+
+pub put-requires : goal.put-requires
+put-requires c = c.requires.0.inside c.args.i c.requires.1
+
+pub returns : goal.returns
+returns c =
+    let a = c.args in
+    c.put.ensures
+    ∙ ap (λ (p : Write). run (word_writes (p ∷ [])) a.words.now)
+    (sym (writes_at a.at.now a.values.now a.i c.requires.0.rows c.requires.1))
