@@ -20,13 +20,14 @@ prefix = $(abspath $(PREFIX))
 to = $(DESTDIR)$(prefix)
 store = target/example/bench.store
 
-sources := crates.txt $(shell find crates -name must-fail -prune -o -print)
+sources := crates.txt $(shell find crates -mindepth 2 \( -name must-fail -o -name out \) -prune -o -print)
 
-# Runs a command of rt and shows a line for each crate that it proves. target/build.log keeps all that the checker prints; its end is shown if a
-# crate is not proved.
+# Runs a command of rt in the folder of a crate and shows a line for each crate that it proves. target/build.log keeps all that the checker
+# prints; its end is shown if a crate is not proved.
 define quietly
-@mkdir -p target
-@{ $(1); echo $$? >target/build.status; } 2>&1 | tee target/build.log | sed -u -n '/unchanged/d; /^rt: /p'
+@mkdir -p $(@D)
+@{ (cd crates/$(1) && $(2)); echo $$? >target/build.status; } 2>&1 | tee target/build.log | \
+    sed -u -n 's/^rt: chose --jobs [0-9]* for /rt: proves /; /^rt: running/d; /^rt: /p'
 @status=$$(cat target/build.status); [ "$$status" = 0 ] || { tail -n 30 target/build.log | cut -c 1-300; exit "$$status"; }
 endef
 
@@ -35,15 +36,16 @@ all: $(LIB) $(LISTING)
 archives: $(LIB) target/staticlib/libword_exports.a
 
 target/staticlib/libaxle.a: $(sources)
-	$(call quietly,rt check $$(sed -n 's/^axle: //p' crates.txt))
-	$(call quietly,began=$$(date +%s); rt staticlib axle && echo "rt: axle proved ($$(($$(date +%s) - began)) s)")
+	$(call quietly,axle_c,rt lib)
+	@cp crates/axle_c/out/libaxle_c.a $@
 
 target/staticlib/libword_exports.a: $(sources)
-	$(call quietly,rt check word_exports && rt staticlib word_exports)
+	$(call quietly,word_exports,rt lib)
+	@cp crates/word_exports/out/libword_exports.a $@
 
 target/bin/listing: $(sources)
-	$(call quietly,rt check listing)
-	@touch $@
+	$(call quietly,listing,rt run <stdin >/dev/null)
+	@cp crates/listing/out/listing $@
 
 target/example/sheet: examples/sheet.c include/axle.h $(LIB)
 	mkdir -p $(@D)

@@ -1,4 +1,4 @@
-// The C interface (include/axle.h): the calls on a store in byte form, of crate byte_calls, each with its answer as one number.
+// The calls on a store in byte form, of crate byte_calls, each with its answer as one number. Crate axle_c exports them to C (include/axle.h).
 #![tactic(auto)]
 
 ghost use Rattle.std.specs.Prelude.{◌≡◌, ◌+◌, ◌/◌};
@@ -76,8 +76,7 @@ fn needed_code(told: Needed) -> u32
 }
 
 // Writes a store of empty lists.
-#[unsafe(no_mangle)]
-pub extern "C" fn axle_format(store: &mut [u8], lists: u16, nodes: u16, record_words: u16) -> u32
+pub fn axle_format(store: &mut [u8], lists: u16, nodes: u16, record_words: u16) -> u32
     ensures answer { result ≡ whole_code (byte_format (layout_for lists nodes record_words) store.old) }
     ensures bytes { store.new ≡ whole_bytes (byte_format (layout_for lists nodes record_words) store.old) store.old }
 {
@@ -85,24 +84,21 @@ pub extern "C" fn axle_format(store: &mut [u8], lists: u16, nodes: u16, record_w
 }
 
 // Is the store sound?
-#[unsafe(no_mangle)]
-pub extern "C" fn axle_check(store: &[u8]) -> u32
+pub fn axle_check(store: &[u8]) -> u32
     ensures { result ≡ check_code store.now }
 {
     byte_calls::check(store).number() as u32
 }
 
 // How many records has the list?
-#[unsafe(no_mangle)]
-pub extern "C" fn axle_length(store: &[u8], list: u16) -> u32
+pub fn axle_length(store: &[u8], list: u16) -> u32
     ensures { result ≡ length_code store.now list }
 {
     counted_code(byte_calls::length(store, list))
 }
 
 // Inserts a record into the list at the position, in the first free cell from the starting cell on. Worn nodes are passed over.
-#[unsafe(no_mangle)]
-pub extern "C" fn axle_insert(
+pub fn axle_insert(
     store: &mut [u8],
     list: u16,
     position: u16,
@@ -118,8 +114,7 @@ pub extern "C" fn axle_insert(
 }
 
 // Inserts several records into the list from the position on, in the first free cells from the starting cell on. Worn nodes are passed over.
-#[unsafe(no_mangle)]
-pub extern "C" fn axle_insert_several(
+pub fn axle_insert_several(
     store: &mut [u8],
     list: u16,
     position: u16,
@@ -135,8 +130,7 @@ pub extern "C" fn axle_insert_several(
 }
 
 // The first cell that an insert of several records will use. Worn nodes are passed over.
-#[unsafe(no_mangle)]
-pub extern "C" fn axle_insert_several_first_cell(
+pub fn axle_insert_several_first_cell(
     store: &[u8],
     list: u16,
     position: u16,
@@ -150,8 +144,7 @@ pub extern "C" fn axle_insert_several_first_cell(
 }
 
 // The last cell that an insert of several records will use, in order of use. Worn nodes are passed over.
-#[unsafe(no_mangle)]
-pub extern "C" fn axle_insert_several_last_cell(
+pub fn axle_insert_several_last_cell(
     store: &[u8],
     list: u16,
     position: u16,
@@ -165,8 +158,7 @@ pub extern "C" fn axle_insert_several_last_cell(
 }
 
 // How many stores an insert of several records will make. Worn nodes are passed over.
-#[unsafe(no_mangle)]
-pub extern "C" fn axle_insert_several_stores(
+pub fn axle_insert_several_stores(
     store: &[u8],
     list: u16,
     position: u16,
@@ -180,8 +172,7 @@ pub extern "C" fn axle_insert_several_stores(
 }
 
 // Deletes the record of the list at the position.
-#[unsafe(no_mangle)]
-pub extern "C" fn axle_delete(store: &mut [u8], list: u16, position: u16, allowance: u16) -> u32
+pub fn axle_delete(store: &mut [u8], list: u16, position: u16, allowance: u16) -> u32
     ensures answer { result ≡ code_of (answer_of (byte_delete store.old list position) allowance) }
     ensures bytes { store.new ≡ bytes_after (byte_delete store.old list position) allowance store.old }
 {
@@ -189,8 +180,7 @@ pub extern "C" fn axle_delete(store: &mut [u8], list: u16, position: u16, allowa
 }
 
 // Marks a free node as worn: no insert will take it, and recovery lets it be.
-#[unsafe(no_mangle)]
-pub extern "C" fn axle_mark_worn(store: &mut [u8], cell: u16) -> u32
+pub fn axle_mark_worn(store: &mut [u8], cell: u16) -> u32
     ensures answer { result ≡ code_of (answer_of (byte_mark store.old cell) mark_stores) }
     ensures bytes { store.new ≡ bytes_after (byte_mark store.old cell) mark_stores store.old }
 {
@@ -199,8 +189,7 @@ pub extern "C" fn axle_mark_worn(store: &mut [u8], cell: u16) -> u32
 
 // Recovers the store by correction: the words that a cut insert or delete left wrong, or one altered word in a list, or its count and an
 // identifier.
-#[unsafe(no_mangle)]
-pub extern "C" fn axle_recover(store: &mut [u8], allowance: u16) -> u32
+pub fn axle_recover(store: &mut [u8], allowance: u16) -> u32
     ensures answer { result ≡ code_of (answer_of (byte_recover store.old) allowance) }
     ensures bytes { store.new ≡ bytes_after (byte_recover store.old) allowance store.old }
 {
@@ -208,8 +197,7 @@ pub extern "C" fn axle_recover(store: &mut [u8], allowance: u16) -> u32
 }
 
 // How many stores a recovery will make.
-#[unsafe(no_mangle)]
-pub extern "C" fn axle_recover_stores(store: &[u8]) -> u32
+pub fn axle_recover_stores(store: &[u8]) -> u32
     ensures { result ≡ needed_code (byte_needed store.now) }
 {
     needed_code(byte_calls::recover_stores(store))
