@@ -22,6 +22,7 @@ stays f j s x (y ∷ r) z p m h c (Memᴰ.head e) =
 stays f j s x (y ∷ r) z p m h c (Memᴰ.tail q) =
     let here : y ∈ s = subst (λ (d : ℕ). d ∈ s) p.0 (h x m (Memᴰ.head p.0)) in
     stays f j s y r z p.1 (Memᴰ.tail here) (λ d n t. h d n (Memᴰ.tail t)) c q
+stays f j s x [] z p m h c x6 = elim x6 [ ]
 
 module _ (inside : ℕ → Bool) (g f : ℕ → ℕ) (j a : ℕ) (s r : List ℕ)
     (ins : All (λ c. inside c ≡ true) s) (inr' : All (λ c. inside c ≡ true) r) (out : inside j ≡ false)
