@@ -45,8 +45,8 @@ pub fn over<'a>(words: &'a [u16], list: u16) -> Reader<'a>
 // The record that the reader hands out: a part of the lent words, empty behind the last record and if refused.
 pub fn hand_out<'a>(r: Reader<'a>) -> &'a [u16]
     ensures { (result.now ≡ read_words r.entry.words.now r.entry.list r.entry.at)
-        × ((result.ref_ptr.0 ≡ r.entry.words.ptr.0)
-        × (result.ref_ptr.1 ≡ read_start r.entry.words.now r.entry.list r.entry.at * 2 + r.entry.words.ptr.1)) }
+        × ((result.ref_ptr.0 ≡ r.entry.words.ref_ptr.0)
+        × (result.ref_ptr.1 ≡ read_start r.entry.words.now r.entry.list r.entry.at * 2 + r.entry.words.ref_ptr.1)) }
 {
     axle_store::read(r.words, r.list, r.at)
 }
