@@ -23,7 +23,7 @@ loop-i-preserved c =
     let a = c.args in (
       r.auto.words ∙ l.invariant.0,
       omega arith,
-      r.ensures.words.0 ∙ each_more a.allowances.now l.i a.words.now l.words (omega arith) l.invariant.2,
+      r.ensures.words ∙ each_more a.allowances.now l.i a.words.now l.words (omega arith) l.invariant.2,
     )
 
 pub returns : goal.returns
@@ -35,7 +35,7 @@ returns c =
     let y = a.words.now in
     let q : l.words ≡ words_through ms y = each_all ms l.i y l.words (omega arith) l.invariant.2 in
     let answer = r.ensures.answer ∙ ap (λ (v : List ℕ). answer_of (recover_plan v) a.last) q in
-    let ends = r.ensures.words.0 ∙ each_last ms a.last y l.words q in record {
+    let ends = r.ensures.words ∙ each_last ms a.last y l.words q in record {
       answer = answer;
       words = ends;
       course = each-demanded ms a.last y r.new.words r.result ends answer;
