@@ -24,10 +24,10 @@ open-short : (c : In-Open) → length (listed_of c.in-Open.l c.args.words.now) �
 open-short c =
     let w = c.args.words.now in
     let l = c.in-Open.l in
-    listed-short l w (laid c).in_range (λ i. omega (arith, c.shared_slice_known-1.given i))
+    listed-short l w (laid c).in_range (λ i. omega (arith, c.type_inv.words i))
 
 shut-short : (c : In-Refused) → length (refused_line c.in-Refused.n) ≤ longest
-shut-short c = refused-short c.in-Refused.n (omega (arith, c.known_told-1.given))
+shut-short c = refused-short c.in-Refused.n (omega arith)
 
 pub refused_line-requires : goal.refused_line-requires
 refused_line-requires c = short-room (shut-short (lts.up-In-Refused _ _ _ _ (c.before.before)))

@@ -31,11 +31,15 @@ pub slice_bounds-listing_through-end : goal.slice_bounds-listing_through-end
 slice_bounds-listing_through-end c = sym (length-take-le (length c.args.bytes.now / 2) c.most_words-words.result (omega (arith, c.most_words-words.ensures)))
 
 pub listing_through-requires : goal.listing_through-requires
-listing_through-requires c = omega (arith, slice_bounds-listing_through-end c.before.before, c.if-bytes-ne0.false)
+listing_through-requires c =
+    let e = length-take-le (length c.args.bytes.now / 2) c.most_words-words.result (omega (arith, c.most_words-words.ensures)) in
+    omega (arith, e, c.if-bytes-ne0.false)
 
 pub returns : goal.returns
 returns c =
-    let t = c in
-    let e = t in
-    let both = rw (bytes-even e.args.bytes.now (omega (arith, e.if-bytes-gt-MAX_BYTES.false)) (omega (arith, t.if-bytes-ne0.false)))
-    c.listing_through.ensures in record { answer = both.0; bytes = both.1.0; short = both.1.1 }
+    let e = bytes-even c.args.bytes.now (omega (arith, c.if-bytes-gt-MAX_BYTES.false)) (omega (arith, c.if-bytes-ne0.false)) in
+    record {
+      answer = rw e c.listing_through.ensures.answer;
+      bytes = rw e c.listing_through.ensures.bytes;
+      short = c.listing_through.ensures.short;
+    }
