@@ -1,5 +1,5 @@
 -- Soundness decided step by step: by one list more of those that hold.
-use Prim.Native.Nat.{ℕ, zero, suc, ◌+◌, ◌-◌, ◌<◌}
+use Prim.Native.Nat.{ℕ, zero, suc, ◌+◌, ◌<◌}
 use mathlib.Core.Path.{◌≡◌, refl, sym}
 use mathlib.Core.Bool.{true, and-true, and-eq-true_iff}
 use native.Mathlib.Omega.{arith}

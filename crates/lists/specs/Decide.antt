@@ -1,6 +1,6 @@
 -- Soundness as it is decided: the forward links give the only sequence that can be a list's, a turn round it tests what is
 -- asked, the nodes in use are as many as the lists' members, and the records of the free nodes are blank.
-use Rattle.std.specs.Prelude.{ℕ, zero, suc, ◌+◌, ◌<◌, ◌≡◌, List, [], ◌∷◌, ◌++◌, Bool, true, not, ◌&&◌, eqb, length, get_or}
+use Rattle.std.specs.Prelude.{ℕ, zero, suc, ◌<◌, ◌≡◌, List, [], ◌∷◌, ◌++◌, Bool, true, not, ◌&&◌, eqb, length, get_or}
 use Rattle.sequences.specs.Sequence.{trail, range, filter}
 use Rattle.layout.specs.declared.Layout.{Layout}
 use Rattle.layout.specs.Words.{tail_words, first_node, is_node, ident_at, forward_at, back_at, count_at, record_at, ident_of, is_free, in_use}

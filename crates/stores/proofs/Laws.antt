@@ -1,5 +1,5 @@
 -- Laws of runs of stores.
-use Prim.Native.Nat.{ℕ, suc, zero, ◌+◌, ◌-◌, ◌≤◌, ◌<◌}
+use Prim.Native.Nat.{ℕ, suc, zero, ◌+◌, ◌≤◌, ◌<◌}
 use mathlib.Core.Path.{◌≡◌, refl, ap, ap₂, ◌∙◌, sym, subst}
 use mathlib.Core.List.{List, [], ◌∷◌, ◌++◌, append-nil, Memᴰ}
 use mathlib.Core.Logic.{◌⊎◌, inl, inr, ⊎_elim}
@@ -12,7 +12,7 @@ use lib.Seq.{take-suc, take_all, take-take, take-suc-set, length-take-le, set_ou
 use Rattle.sequences.specs.Sequence.{All}
 use Rattle.sequences.proofs.Members.{all_in, all_append, all-nth}
 use Rattle.stores.specs.declared.Rows.{Rows}
-use Rattle.stores.specs.Stores.{Write, write, store, run, applied, Spares, stores, writes_of, in_row, most_rows, no_rows, Planned, Listed, Held}
+use Rattle.stores.specs.Stores.{Write, write, store, run, applied, Spares, writes_of, in_row, most_rows, no_rows, Planned, Listed, Held}
 
 -- stores in a row one after the other
 pub run-append : (ps qs : List Write) (w : List ℕ) → run (ps ++ qs) w ≡ run qs (run ps w)

@@ -1,11 +1,11 @@
 -- A run in segments: the stores ps and then qs, each made by a function of its own, are one run of ps ++ qs under one allowance.
-use Prim.Native.Nat.{ℕ, zero, suc, ◌+◌, ◌-◌, ◌≤◌}
+use Prim.Native.Nat.{ℕ, zero, suc, ◌-◌, ◌≤◌}
 use mathlib.Core.Path.{◌≡◌, refl, ap, ◌∙◌, sym}
 use mathlib.Core.List.{List, [], ◌∷◌, ◌++◌}
 use native.Mathlib.Omega.{arith}
 use lib.ListN.{length, take}
 use lib.Seq.{take-append-le}
-use Rattle.stores.specs.Stores.{Write, run, applied, stores}
+use Rattle.stores.specs.Stores.{Write, run, applied}
 use Rattle.stores.proofs.Laws.{run-append}
 
 -- the first m of both

@@ -4,7 +4,6 @@ use mathlib.Core.Path.{ap, ◌∙◌}
 use native.Mathlib.Omega.{arith}
 use lib.ListN.{length, drop, length-drop}
 use lib.Seq.{take_all}
-use borrow.Author.Rules.{rules}
 use Rattle.byte_form.specs.Bytes.{words_in}
 use Rattle.byte_form.proofs.Laws.{length-words, words-drop}
 use Rattle.byte_form.proofs.from.Goals as goal

@@ -3,7 +3,6 @@ use Prim.Native.Nat.{ℕ, ◌+◌, ◌*◌, ◌-◌}
 use mathlib.Core.Path.{◌≡◌, ap, ◌∙◌}
 use native.Mathlib.Omega.{arith}
 use lib.ListN.{take, drop}
-use borrow.Author.Rules.{rules}
 use Rattle.byte_form.specs.Bytes.{words_in}
 use Rattle.byte_form.proofs.Laws.{length-words, words_take, words-drop}
 use Rattle.byte_form.proofs.part.Goals as goal

@@ -5,7 +5,6 @@ use lib.ListN.{length-set}
 use Rattle.stores.specs.Stores.{run}
 use Rattle.byte_form.specs.Bytes.{byte_writes}
 use Rattle.byte_form.proofs.Laws.{word-inside}
-use borrow.Author.Rules.{rules}
 use Rattle.byte_form.proofs.put.Goals as goal
 
 pub overflow_mul-bytes : goal.overflow_mul-bytes

@@ -2,7 +2,6 @@
 use mathlib.Core.Path.{◌∙◌}
 use native.Mathlib.Omega.{arith}
 use Rattle.byte_form.proofs.Laws.{word-inside, word_at}
-use borrow.Author.Rules.{rules}
 use Rattle.byte_form.proofs.word.Goals as goal
 
 pub overflow_mul-i : goal.overflow_mul-i

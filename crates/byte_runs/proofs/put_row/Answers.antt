@@ -1,10 +1,9 @@
 -- `byte_runs::put_row`: after n turns the bytes are those after the first n word stores.
-use Prim.Native.Nat.{ℕ, ◌+◌, ◌-◌, ◌≤◌}
+use Prim.Native.Nat.{ℕ, ◌+◌}
 use mathlib.Core.Path.{◌≡◌, refl, ap, ap₂, ◌∙◌, sym}
 use mathlib.Core.List.{List, [], ◌∷◌}
 use native.Mathlib.Omega.{arith}
 use lib.ListN.{length}
-use borrow.Author.Rules.{rules}
 use Rattle.calls.specs.declared.Answer.TheVariants as A
 use Rattle.stores.specs.Stores.{Write, write, run, in_row}
 use Rattle.calls.proofs.Answers.{answer-stopped, answer-done}

@@ -1,5 +1,5 @@
 -- `byte_runs::run`: after i turns the bytes are those after the first i word stores.
-use Prim.Native.Nat.{ℕ, ◌-◌, ◌≤◌, ◌<◌}
+use Prim.Native.Nat.{ℕ}
 use mathlib.Core.Path.{◌≡◌, refl, ap, ◌∙◌, sym, subst}
 use mathlib.Core.List.{List, [], ◌∷◌}
 use native.Mathlib.Omega.{arith}
@@ -8,7 +8,7 @@ use Rattle.calls.specs.declared.Answer.TheVariants as A
 use Rattle.stores.specs.Stores.{write, run, writes_of, Planned}
 use Rattle.calls.proofs.Answers.{answer-stopped, answer-done}
 use Rattle.stores.proofs.Laws.{length-writes}
-use Rattle.byte_form.specs.Bytes.{words_in, byte_writes, applied_bytes}
+use Rattle.byte_form.specs.Bytes.{byte_writes, applied_bytes}
 use Rattle.byte_form.proofs.Laws.{same-words, bytes-none, bytes-more, bytes-all}
 use Rattle.byte_runs.proofs.run.Goals as goal
 

@@ -1,14 +1,8 @@
-use Prim.Native.Nat.{ℕ, ◌-◌, ◌≤◌, ◌<◌}
-use mathlib.Core.Path.{◌≡◌, refl, ap, ◌∙◌, sym, subst}
-use mathlib.Core.List.{List, [], ◌∷◌}
-use native.Mathlib.Omega.{arith}
-use lib.ListN.{length, get_or}
-use Rattle.calls.specs.declared.Answer.TheVariants as A
-use Rattle.stores.specs.Stores.{write, run, writes_of, Planned}
-use Rattle.calls.proofs.Answers.{answer-stopped, answer-done}
-use Rattle.stores.proofs.Laws.{length-writes}
-use Rattle.byte_form.specs.Bytes.{words_in, byte_writes, applied_bytes}
-use Rattle.byte_form.proofs.Laws.{same-words, bytes-none, bytes-more, bytes-all}
+use Prim.Native.Nat.{◌-◌, ◌≤◌, ◌<◌}
+use mathlib.Core.Path.{◌≡◌}
+use lib.ListN.{length}
+use Rattle.stores.specs.Stores.{writes_of, Planned}
+use Rattle.byte_form.specs.Bytes.{words_in, applied_bytes}
 use Rattle.byte_runs.proofs.run.Given as goal
 
 abbrev pub invariant-loop-i : goal.invariant-loop-i

@@ -1,7 +1,6 @@
 -- `byte_runs::run_rows` runs the filled parts of the two rows.
 use mathlib.Core.Path.{sym}
 use native.Mathlib.Omega.{arith}
-use borrow.Author.Rules.{rules}
 use Rattle.stores.proofs.Laws.{held-length, held-planned}
 use Rattle.byte_runs.proofs.run_rows.Goals as goal
 

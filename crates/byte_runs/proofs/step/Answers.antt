@@ -1,11 +1,9 @@
 -- `byte_runs::step`: stores the value that stands beside the address.
 use mathlib.Core.Path.{ap, sym, ◌∙◌}
 use mathlib.Core.List.{[], ◌∷◌}
-use native.Mathlib.Omega.{arith}
 use Rattle.stores.specs.Stores.{Write, run}
 use Rattle.stores.proofs.Laws.{writes_at}
 use Rattle.byte_form.specs.Bytes.{byte_writes}
-use borrow.Author.Rules.{rules}
 use Rattle.byte_runs.proofs.step.Goals as goal
 
 pub put-requires : goal.put-requires

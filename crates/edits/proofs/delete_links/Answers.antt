@@ -1,7 +1,6 @@
 -- `delete_links` lists the four stores.
 use mathlib.Core.Path.{refl}
 use native.Mathlib.Nat.{add-zero}
-use borrow.Author.Rules.{rules}
 use Rattle.stores.specs.Stores.{writes_of}
 use Rattle.edits.specs.Edits.{delete_links}
 use Rattle.edits.proofs.Inside.{delete-links-inside}

@@ -1,7 +1,6 @@
 -- `insert_links` lists the six stores.
 use mathlib.Core.Path.{refl}
 use native.Mathlib.Nat.{add-zero}
-use borrow.Author.Rules.{rules}
 use Rattle.stores.specs.Stores.{writes_of}
 use Rattle.edits.specs.Edits.{insert_links}
 use Rattle.edits.proofs.Inside.{links-inside}

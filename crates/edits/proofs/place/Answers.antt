@@ -1,6 +1,5 @@
 -- `place`: the first three words of a cell stand within the store.
 use native.Mathlib.Omega.{arith}
-use borrow.Author.Rules.{rules}
 use Rattle.layout.proofs.Laws.{size_small, cell-fits}
 use Rattle.edits.proofs.place.Goals as goal
 

@@ -2,7 +2,6 @@
 use Prim.Native.Nat.{ℕ, ◌*◌, ◌/◌, ◌≤◌}
 use mathlib.Core.Path.{◌≡◌, ap}
 use native.Mathlib.Omega.{arith}
-use borrow.Author.Rules.{rules}
 use Rattle.edits.specs.Edits.{insert_stores}
 use Rattle.edits.proofs.Several.{stores-few}
 use Rattle.edits.proofs.several_stores.Goals.{After-insert_stores}

@@ -1,6 +1,5 @@
 -- `layout::is_marked` meets its contract. Its five tests are those of `marked`, in order.
 use borrow.Author.Tests.{eq-eqb, ne_eqb}
-use borrow.Author.Rules.{rules}
 use Rattle.layout.specs.Words.{marked}
 use Rattle.layout.proofs.Laws.{answered-no, answered-yes}
 use Rattle.layout.proofs.is_marked.Goals as goal

@@ -1,7 +1,6 @@
 -- `layout::open_with` meets its contract. Each return is one question of `opened_by`, with those before it answered yes.
 use mathlib.Core.Path.{◌∙◌}
 use borrow.Author.Tests.{le-leb, eq-eqb, ne_eqb}
-use borrow.Author.Rules.{rules}
 use Rattle.layout.specs.Words.{head_words, opened_by}
 use Rattle.layout.proofs.Laws.{answered-no, answered-yes}
 use Rattle.layout.proofs.open_with.Goals as goal

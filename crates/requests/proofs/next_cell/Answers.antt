@@ -1,7 +1,6 @@
 -- `requests::next_cell` meets its contract.
 use mathlib.Core.Path.{sym, ◌∙◌}
 use native.Mathlib.Omega.{arith}
-use borrow.Author.Rules.{rules}
 use Rattle.requests.proofs.Laws.{next-wraps, next-follows}
 use Rattle.requests.proofs.next_cell.Goals as goal
 

@@ -2,7 +2,6 @@
 use mathlib.Core.Path.{refl}
 use native.Mathlib.Omega.{arith}
 use borrow.Author.Tests.{le-leb, lt-leb}
-use borrow.Author.Rules.{rules}
 use Rattle.layout.proofs.Laws.{answered-no, answered-yes}
 use Rattle.requests.proofs.place_number.Goals as goal
 

@@ -1,6 +1,5 @@
 -- `word_form::put`: the store of one word.
 use mathlib.Core.Path.{refl}
-use borrow.Author.Rules.{rules}
 use Rattle.stores.specs.Stores.{run}
 use Rattle.word_form.proofs.put.Goals as goal
 

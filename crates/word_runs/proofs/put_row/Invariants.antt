@@ -1,16 +1,9 @@
 -- Made from crates/byte_runs/proofs/put_row/Invariants.antt by tools/twins.
-use Prim.Native.Nat.{ℕ, ◌+◌, ◌-◌, ◌≤◌}
-use mathlib.Core.Path.{◌≡◌, refl, ap, ap₂, ◌∙◌, sym}
-use mathlib.Core.List.{List, [], ◌∷◌}
-use native.Mathlib.Omega.{arith}
+use Prim.Native.Nat.{◌+◌, ◌-◌, ◌≤◌}
+use mathlib.Core.Path.{◌≡◌}
 use lib.ListN.{length}
-use borrow.Author.Rules.{rules}
-use Rattle.calls.specs.declared.Answer.TheVariants as A
-use Rattle.stores.specs.Stores.{Write, write, run, in_row}
-use Rattle.calls.proofs.Answers.{answer-stopped, answer-done}
-use Rattle.stores.proofs.Laws.{length-row, row_write}
-use Rattle.word_form.specs.Words.{words_in, word_writes, applied_words}
-use Rattle.word_form.proofs.Laws.{length-words, same-words, words-none, words-more, words-all}
+use Rattle.stores.specs.Stores.{in_row}
+use Rattle.word_form.specs.Words.{words_in, applied_words}
 use Rattle.word_runs.proofs.put_row.Given as goal
 
 abbrev pub invariant-loop-n : goal.invariant-loop-n

@@ -1,6 +1,6 @@
 -- Made from crates/byte_runs/proofs/run/Answers.antt by tools/twins.
 -- `word_runs::run`: after i turns the words are those after the first i word stores.
-use Prim.Native.Nat.{ℕ, ◌-◌, ◌≤◌, ◌<◌}
+use Prim.Native.Nat.{ℕ}
 use mathlib.Core.Path.{◌≡◌, refl, ap, ◌∙◌, sym, subst}
 use mathlib.Core.List.{List, [], ◌∷◌}
 use native.Mathlib.Omega.{arith}
@@ -9,7 +9,7 @@ use Rattle.calls.specs.declared.Answer.TheVariants as A
 use Rattle.stores.specs.Stores.{write, run, writes_of, Planned}
 use Rattle.calls.proofs.Answers.{answer-stopped, answer-done}
 use Rattle.stores.proofs.Laws.{length-writes}
-use Rattle.word_form.specs.Words.{words_in, word_writes, applied_words}
+use Rattle.word_form.specs.Words.{word_writes, applied_words}
 use Rattle.word_form.proofs.Laws.{same-words, words-none, words-more, words-all}
 use Rattle.word_runs.proofs.run.Goals as goal
 

@@ -1,15 +1,9 @@
 -- Made from crates/byte_runs/proofs/run/Invariants.antt by tools/twins.
-use Prim.Native.Nat.{ℕ, ◌-◌, ◌≤◌, ◌<◌}
-use mathlib.Core.Path.{◌≡◌, refl, ap, ◌∙◌, sym, subst}
-use mathlib.Core.List.{List, [], ◌∷◌}
-use native.Mathlib.Omega.{arith}
-use lib.ListN.{length, get_or}
-use Rattle.calls.specs.declared.Answer.TheVariants as A
-use Rattle.stores.specs.Stores.{write, run, writes_of, Planned}
-use Rattle.calls.proofs.Answers.{answer-stopped, answer-done}
-use Rattle.stores.proofs.Laws.{length-writes}
-use Rattle.word_form.specs.Words.{words_in, word_writes, applied_words}
-use Rattle.word_form.proofs.Laws.{same-words, words-none, words-more, words-all}
+use Prim.Native.Nat.{◌-◌, ◌≤◌, ◌<◌}
+use mathlib.Core.Path.{◌≡◌}
+use lib.ListN.{length}
+use Rattle.stores.specs.Stores.{writes_of, Planned}
+use Rattle.word_form.specs.Words.{words_in, applied_words}
 use Rattle.word_runs.proofs.run.Given as goal
 
 abbrev pub invariant-loop-i : goal.invariant-loop-i

@@ -2,7 +2,6 @@
 -- `word_runs::run_rows` runs the filled parts of the two rows.
 use mathlib.Core.Path.{sym}
 use native.Mathlib.Omega.{arith}
-use borrow.Author.Rules.{rules}
 use Rattle.stores.proofs.Laws.{held-length, held-planned}
 use Rattle.word_runs.proofs.run_rows.Goals as goal
 

@@ -2,11 +2,9 @@
 -- `word_runs::step`: stores the value that stands beside the address.
 use mathlib.Core.Path.{ap, sym, ◌∙◌}
 use mathlib.Core.List.{[], ◌∷◌}
-use native.Mathlib.Omega.{arith}
 use Rattle.stores.specs.Stores.{Write, run}
 use Rattle.stores.proofs.Laws.{writes_at}
 use Rattle.word_form.specs.Words.{word_writes}
-use borrow.Author.Rules.{rules}
 use Rattle.word_runs.proofs.step.Goals as goal
 
 pub put-requires : goal.put-requires

@@ -2,7 +2,6 @@
 use Prim.Native.Nat.{ℕ, ◌*◌}
 use mathlib.Core.Path.{◌≡◌, ap₂}
 use native.Mathlib.Omega.{arith}
-use borrow.Author.Rules.{rules}
 use Rattle.layout.specs.Words.{first_node, node_words}
 use Rattle.layout.proofs.Places.{product_small}
 use Rattle.layout.proofs.Grid.of.Goals.{After-first_node-from}

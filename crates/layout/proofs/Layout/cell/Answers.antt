@@ -1,6 +1,5 @@
 -- `layout::Layout::cell` meets its contract. Below the first node a cell is a header, and otherwise a node.
 use native.Mathlib.Omega.{arith}
-use borrow.Author.Rules.{rules}
 use Rattle.layout.proofs.Laws.{cell-header, cell-node}
 use Rattle.layout.proofs.Layout.cell.Goals as goal
 

@@ -1,5 +1,4 @@
 -- `layout::Layout::in_range` meets its contract. Each test is one part of `inRange`.
-use borrow.Author.Rules.{rules}
 use Rattle.layout.specs.Words.{in_range}
 use Rattle.layout.proofs.Laws.{answered-no, answered-yes}
 use Rattle.layout.proofs.Layout.in_range.Goals as goal

@@ -1,7 +1,6 @@
 -- `layout::Layout::in_use` meets its contract.
 use mathlib.Core.Path.{ap}
 use mathlib.Core.Bool.{Bool, not, ◌||◌}
-use borrow.Author.Rules.{rules}
 use Rattle.layout.specs.Words.{is_worn}
 use Rattle.layout.proofs.Layout.in_use.Goals as goal
 

@@ -1,7 +1,6 @@
 -- `layout::Layout::is_node` meets its contract. Its two tests are those of `is_node`.
 use native.Mathlib.Omega.{arith}
 use borrow.Author.Tests.{le-leb, lt-leb}
-use borrow.Author.Rules.{rules}
 use Rattle.layout.specs.Words.{first_node, is_node}
 use Rattle.layout.proofs.Layout.is_node.Goals as goal
 

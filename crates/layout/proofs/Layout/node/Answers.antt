@@ -1,7 +1,6 @@
 -- `layout::Layout::node` meets its contract. The product of two numbers of 16 bits fits a `usize`.
 use Prim.Native.Nat.{◌+◌, ◌-◌, ◌*◌, ◌≤◌}
 use native.Mathlib.Omega.{arith}
-use borrow.Author.Rules.{rules}
 use Rattle.layout.specs.Words.{link_words, node_at}
 use Rattle.layout.proofs.Laws.{product-fits}
 use Rattle.layout.proofs.Layout.node.Goals.{After-node_words}

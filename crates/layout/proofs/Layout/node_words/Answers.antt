@@ -1,6 +1,5 @@
 -- `layout::Layout::node_words` meets its contract. The sum of numbers of 16 bits fits a `usize`.
 use native.Mathlib.Omega.{arith}
-use borrow.Author.Rules.{rules}
 use Rattle.layout.proofs.Laws.{tail-width}
 use Rattle.layout.proofs.Layout.node_words.Goals as goal
 

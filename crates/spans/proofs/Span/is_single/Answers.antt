@@ -1,6 +1,5 @@
 -- `spans::Span::is_single` meets its contract.
 use mathlib.Core.Path.{◌∙◌, sym}
-use borrow.Author.Rules.{rules}
 use Rattle.spans.proofs.Decided.{refused, tested}
 use Rattle.spans.proofs.Span.is_single.Goals as goal
 

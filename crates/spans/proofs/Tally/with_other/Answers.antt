@@ -3,7 +3,6 @@ use Prim.Native.Nat.{◌+◌}
 use mathlib.Core.Path.{◌≡◌, ap, ◌∙◌}
 use mathlib.Core.Bool.{Bool, cond}
 use native.Mathlib.Omega.{arith}
-use borrow.Author.Rules.{rules}
 use Rattle.layout.specs.Words.{in_use}
 use Rattle.spans.proofs.Counts.{one-small}
 use Rattle.spans.proofs.Tally.with_other.Goals.{After-one}
