@@ -31,10 +31,10 @@
 // the line 'bad script'. The last line is 'end'.
 #![tactic(auto)]
 
-ghost use Rattle.std.specs.Prelude.{◌≡◌, ◌≤◌, ◌<◌, length};
+ghost use Rattle.std.specs.Prelude.{◌≡◌, ◌≤◌, ◌<◌, length, IfOk};
 
 use calls::{Answer, Foretold};
-use libc::{STDIN_FILENO, STDOUT_FILENO};
+use std::io::{self, BufWriter, Read, Write};
 
 fn script_buffer() -> [u8; 1048576]
     ensures { 1048576 ≡ length result }
@@ -97,35 +97,35 @@ fn mixed_answer(sum: u64, answer: Answer) -> u64 {
 }
 
 // The words of a small store, the checksum of a larger one.
-fn print_store(words: &[u16]) {
+fn print_store(out: &mut impl Write, words: &[u16]) -> io::Result<()> {
     if words.len() <= 64 {
-        printing::text(b"words =");
-        printing::words(words);
-        return;
+        printing::text(out, b"words =")?;
+        return printing::words(out, words);
     }
-    printing::text(b"checksum = ");
-    io::print_decimal(STDOUT_FILENO, mixed_words(0, words));
-    printing::text(b"\n");
+    printing::text(out, b"checksum = ")?;
+    let sum = mixed_words(0, words);
+    write!(out, "{sum}")?;
+    printing::text(out, b"\n")
 }
 
 // How a call that stores ended, and what it left.
-fn print_answer(answer: Answer, words: &[u16]) {
+fn print_answer(out: &mut impl Write, answer: Answer, words: &[u16]) -> io::Result<()> {
     match answer {
         Answer::Done(n) => {
-            printing::text(b" = done");
-            printing::spaced(n);
+            printing::text(out, b" = done")?;
+            printing::spaced(out, n)?;
         }
         Answer::Stopped(n) => {
-            printing::text(b" = stopped");
-            printing::spaced(n);
+            printing::text(out, b" = stopped")?;
+            printing::spaced(out, n)?;
         }
         Answer::Refused(n) => {
-            printing::text(b" = refused");
-            printing::spaced(n);
+            printing::text(out, b" = refused")?;
+            printing::spaced(out, n)?;
         }
     }
-    printing::text(b"\n");
-    print_store(words);
+    printing::text(out, b"\n")?;
+    print_store(out, words)
 }
 
 // Operation 1: the first n words, or all if there are fewer, become v. The answer is how many.
@@ -161,44 +161,50 @@ fn put_all(words: &mut [u16], a: u16, entry: &[u8]) {
 }
 
 // Operation 4.
-fn format(words: &mut [u16], lists: u16, nodes: u16, width: u16) {
-    printing::text(b"format");
-    printing::spaced(lists);
-    printing::spaced(nodes);
-    printing::spaced(width);
-    printing::text(b" =");
-    printing::spaced(axle_store::format(words, lists, nodes, width).number());
-    printing::text(b"\n");
-    print_store(words);
+fn format(
+    out: &mut impl Write,
+    words: &mut [u16],
+    lists: u16,
+    nodes: u16,
+    width: u16,
+) -> io::Result<()> {
+    printing::text(out, b"format")?;
+    printing::spaced(out, lists)?;
+    printing::spaced(out, nodes)?;
+    printing::spaced(out, width)?;
+    printing::text(out, b" =")?;
+    printing::spaced(out, axle_store::format(words, lists, nodes, width).number())?;
+    printing::text(out, b"\n")?;
+    print_store(out, words)
 }
 
 // Operation 5.
-fn check(words: &[u16]) {
-    printing::text(b"check =");
-    printing::spaced(axle_store::check(words).number());
-    printing::text(b"\n");
+fn check(out: &mut impl Write, words: &[u16]) -> io::Result<()> {
+    printing::text(out, b"check =")?;
+    printing::spaced(out, axle_store::check(words).number())?;
+    printing::text(out, b"\n")
 }
 
 // Operation 6.
-fn length_of(words: &[u16], list: u16) {
-    printing::text(b"length");
-    printing::spaced(list);
-    printing::text(b" =");
+fn length_of(out: &mut impl Write, words: &[u16], list: u16) -> io::Result<()> {
+    printing::text(out, b"length")?;
+    printing::spaced(out, list)?;
+    printing::text(out, b" =")?;
     let answer = axle_store::length(words, list);
-    printing::spaced(answer.number());
-    printing::spaced(answer.length());
-    printing::text(b"\n");
+    printing::spaced(out, answer.number())?;
+    printing::spaced(out, answer.length())?;
+    printing::text(out, b"\n")
 }
 
 // Operation 7.
-fn read(words: &[u16], list: u16, position: u16) {
-    printing::text(b"read");
-    printing::spaced(list);
-    printing::spaced(position);
-    printing::text(b" =");
-    printing::spaced(axle_store::read_number(words, list, position));
-    printing::text(b":");
-    printing::words(axle_store::read(words, list, position));
+fn read(out: &mut impl Write, words: &[u16], list: u16, position: u16) -> io::Result<()> {
+    printing::text(out, b"read")?;
+    printing::spaced(out, list)?;
+    printing::spaced(out, position)?;
+    printing::text(out, b" =")?;
+    printing::spaced(out, axle_store::read_number(words, list, position))?;
+    printing::text(out, b":")?;
+    printing::words(out, axle_store::read(words, list, position))
 }
 
 // The words of an insert's entry behind m: first those of the record.
@@ -230,52 +236,58 @@ fn insert_first(
 }
 
 // Operation 8.
-fn insert(words: &mut [u16], entry: &[u8]) {
+fn insert(out: &mut impl Write, words: &mut [u16], entry: &[u8]) -> io::Result<()> {
     let list = word(entry, 1);
     let position = word(entry, 2);
     let start = word(entry, 3);
     let m = word(entry, 4) as usize;
     if 64 < m {
-        return;
+        return Ok(());
     }
     let allowance = word(entry, 5 + m);
-    printing::text(b"insert");
-    printing::spaced(list);
-    printing::spaced(position);
-    printing::spaced(start);
-    printing::spaced(word(entry, 4));
-    printing::spaced(allowance);
+    printing::text(out, b"insert")?;
+    printing::spaced(out, list)?;
+    printing::spaced(out, position)?;
+    printing::spaced(out, start)?;
+    printing::spaced(out, word(entry, 4))?;
+    printing::spaced(out, allowance)?;
     let rec = record_of(entry);
     let answer = insert_first(words, list, position, start, &rec, m, allowance);
-    print_answer(answer, words);
+    print_answer(out, answer, words)
 }
 
 // Operation 9.
-fn delete(words: &mut [u16], list: u16, position: u16, allowance: u16) {
-    printing::text(b"delete");
-    printing::spaced(list);
-    printing::spaced(position);
-    printing::spaced(allowance);
+fn delete(
+    out: &mut impl Write,
+    words: &mut [u16],
+    list: u16,
+    position: u16,
+    allowance: u16,
+) -> io::Result<()> {
+    printing::text(out, b"delete")?;
+    printing::spaced(out, list)?;
+    printing::spaced(out, position)?;
+    printing::spaced(out, allowance)?;
     let answer = axle_store::delete(words, list, position, allowance);
-    print_answer(answer, words);
+    print_answer(out, answer, words)
 }
 
 // What is told of a recovery.
-fn print_needed(words: &[u16]) {
-    printing::text(b"told =");
+fn print_needed(out: &mut impl Write, words: &[u16]) -> io::Result<()> {
+    printing::text(out, b"told =")?;
     let needed = axle_store::recover_stores(words);
-    printing::spaced(needed.number());
-    printing::spaced(needed.stores());
-    printing::text(b"\n");
+    printing::spaced(out, needed.number())?;
+    printing::spaced(out, needed.stores())?;
+    printing::text(out, b"\n")
 }
 
 // Operation 10.
-fn recover(words: &mut [u16], allowance: u16) {
-    print_needed(words);
-    printing::text(b"recover");
-    printing::spaced(allowance);
+fn recover(out: &mut impl Write, words: &mut [u16], allowance: u16) -> io::Result<()> {
+    print_needed(out, words)?;
+    printing::text(out, b"recover")?;
+    printing::spaced(out, allowance)?;
     let answer = axle_store::recover(words, allowance);
-    print_answer(answer, words);
+    print_answer(out, answer, words)
 }
 
 // Word i, 0 past the end.
@@ -414,27 +426,25 @@ fn all_courses(store: &[u16], entry: &[u8], found: &mut [u16], words: &mut [u16]
 }
 
 // Operation 11.
-fn courses(store: &[u16], entry: &[u8]) {
+fn courses(out: &mut impl Write, store: &[u16], entry: &[u8]) -> io::Result<()> {
     let n = store.len();
     if 64 < n {
-        return;
+        return Ok(());
     }
-    printing::text(b"courses");
-    printing::spaced(word(entry, 1));
-    printing::spaced(word(entry, 2));
-    printing::spaced(word(entry, 3));
-    printing::spaced(word(entry, 4));
-    printing::spaced(word(entry, 5));
-    printing::spaced(word(entry, 6));
-    printing::spaced(word(entry, 7));
-    printing::text(b" = ");
+    printing::text(out, b"courses")?;
+    printing::spaced(out, word(entry, 1))?;
+    printing::spaced(out, word(entry, 2))?;
+    printing::spaced(out, word(entry, 3))?;
+    printing::spaced(out, word(entry, 4))?;
+    printing::spaced(out, word(entry, 5))?;
+    printing::spaced(out, word(entry, 6))?;
+    printing::spaced(out, word(entry, 7))?;
+    printing::text(out, b" = ")?;
     let mut found = record_buffer();
     let mut words = record_buffer();
-    io::print_decimal(
-        STDOUT_FILENO,
-        all_courses(store, entry, &mut found[..n], &mut words[..n]),
-    );
-    printing::text(b"\n");
+    let digest = all_courses(store, entry, &mut found[..n], &mut words[..n]);
+    write!(out, "{digest}")?;
+    printing::text(out, b"\n")
 }
 
 // The number after `at` of the n numbers from 0 on: 0 after the last.
@@ -475,13 +485,13 @@ fn told_first_several(
     axle_store::insert_several_figures(words, list, position, start, &records[..m])
 }
 
-fn print_foretold(told: Foretold) {
-    printing::text(b"told =");
-    printing::spaced(told.number());
-    printing::spaced(told.first());
-    printing::spaced(told.last());
-    printing::spaced(told.stores());
-    printing::text(b"\n");
+fn print_foretold(out: &mut impl Write, told: Foretold) -> io::Result<()> {
+    printing::text(out, b"told =")?;
+    printing::spaced(out, told.number())?;
+    printing::spaced(out, told.first())?;
+    printing::spaced(out, told.last())?;
+    printing::spaced(out, told.stores())?;
+    printing::text(out, b"\n")
 }
 
 // Inserts the records in the first m words.
@@ -500,25 +510,28 @@ fn insert_first_several(
 }
 
 // Operation 12.
-fn insert_several(words: &mut [u16], entry: &[u8]) {
+fn insert_several(out: &mut impl Write, words: &mut [u16], entry: &[u8]) -> io::Result<()> {
     let list = word(entry, 1);
     let position = word(entry, 2);
     let start = word(entry, 3);
     let m = word(entry, 4) as usize;
     if 32100 < m {
-        return;
+        return Ok(());
     }
     let allowance = word(entry, 6 + word(entry, 5) as usize);
     let records = records_of(entry);
-    print_foretold(told_first_several(words, list, position, start, &records, m));
-    printing::text(b"insert_several");
-    printing::spaced(list);
-    printing::spaced(position);
-    printing::spaced(start);
-    printing::spaced(word(entry, 4));
-    printing::spaced(allowance);
+    print_foretold(
+        out,
+        told_first_several(words, list, position, start, &records, m),
+    )?;
+    printing::text(out, b"insert_several")?;
+    printing::spaced(out, list)?;
+    printing::spaced(out, position)?;
+    printing::spaced(out, start)?;
+    printing::spaced(out, word(entry, 4))?;
+    printing::spaced(out, allowance)?;
     let answer = insert_first_several(words, list, position, start, &records, m, allowance);
-    print_answer(answer, words);
+    print_answer(out, answer, words)
 }
 
 // The number of words of an insert's entry whose record has m words, 0 if that is too many.
@@ -536,11 +549,11 @@ fn several_words(m: u16, n: u16) -> usize {
 }
 
 // Operation 13.
-fn mark_worn(words: &mut [u16], cell: u16) {
-    printing::text(b"mark_worn");
-    printing::spaced(cell);
+fn mark_worn(out: &mut impl Write, words: &mut [u16], cell: u16) -> io::Result<()> {
+    printing::text(out, b"mark_worn")?;
+    printing::spaced(out, cell)?;
     let answer = axle_store::mark_worn(words, cell);
-    print_answer(answer, words);
+    print_answer(out, answer, words)
 }
 
 // The number of words of the entry that the script begins with, 0 for an unknown operation.
@@ -573,55 +586,73 @@ fn entry_end(script: &[u8], at: usize) -> usize
 }
 
 // An entry that leaves the store's length as it is.
-fn perform(entry: &[u8], words: &mut [u16]) {
+fn perform(out: &mut impl Write, entry: &[u8], words: &mut [u16]) -> io::Result<()> {
     match word(entry, 0) {
         2 => put(words, word(entry, 1) as usize, word(entry, 2)),
         3 => put_all(words, word(entry, 1), entry),
-        4 => format(words, word(entry, 1), word(entry, 2), word(entry, 3)),
-        5 => check(words),
-        6 => length_of(words, word(entry, 1)),
-        7 => read(words, word(entry, 1), word(entry, 2)),
-        8 => insert(words, entry),
-        9 => delete(words, word(entry, 1), word(entry, 2), word(entry, 3)),
-        10 => recover(words, word(entry, 1)),
-        11 => courses(words, entry),
-        12 => insert_several(words, entry),
-        13 => mark_worn(words, word(entry, 1)),
+        4 => format(out, words, word(entry, 1), word(entry, 2), word(entry, 3))?,
+        5 => check(out, words)?,
+        6 => length_of(out, words, word(entry, 1))?,
+        7 => read(out, words, word(entry, 1), word(entry, 2))?,
+        8 => insert(out, words, entry)?,
+        9 => delete(out, words, word(entry, 1), word(entry, 2), word(entry, 3))?,
+        10 => recover(out, words, word(entry, 1))?,
+        11 => courses(out, words, entry)?,
+        12 => insert_several(out, words, entry)?,
+        13 => mark_worn(out, words, word(entry, 1))?,
         _ => {}
     }
+    Ok(())
 }
 
 // Any entry, on the first n words; the answer is the store's length after it.
-fn step(entry: &[u8], words: &mut [u16], n: usize) -> usize
+fn step(out: &mut impl Write, entry: &[u8], words: &mut [u16], n: usize) -> io::Result<usize>
     requires { n ≤ length words.old }
-    ensures { result ≤ length words.old }
+    ensures { IfOk result (λ m. m ≤ length words.old) }
 {
     if word(entry, 0) == 1 {
-        return fill(words, word(entry, 1) as usize, word(entry, 2));
+        return Ok(fill(words, word(entry, 1) as usize, word(entry, 2)));
     }
-    perform(entry, &mut words[..n]);
-    n
+    perform(out, entry, &mut words[..n])?;
+    Ok(n)
 }
 
 // The entries, one after the other, on a store that has no words at first.
-fn run(script: &[u8], words: &mut [u16]) {
+fn run(out: &mut impl Write, script: &[u8], words: &mut [u16]) -> io::Result<()> {
     let mut n: usize = 0;
     let mut at: usize = 0;
     while at < script.len() {
         let end = entry_end(script, at);
         if end <= at {
-            printing::text(b"bad script\n");
-            return;
+            return printing::text(out, b"bad script\n");
         }
-        n = step(&script[at..end], words, n);
+        n = step(out, &script[at..end], words, n)?;
         at = end;
     }
+    Ok(())
 }
 
-fn main() {
+// Reads until the bytes are full or the input ends; the answer is how many were read.
+fn read_full(input: &mut impl Read, bytes: &mut [u8]) -> io::Result<usize>
+    ensures { IfOk result (λ n. n ≤ length bytes.new) }
+{
+    let mut n: usize = 0;
+    while n < bytes.len() {
+        let got = input.read(&mut bytes[n..])?;
+        if got == 0 {
+            return Ok(n);
+        }
+        n += got;
+    }
+    Ok(n)
+}
+
+fn main(rt: HostRuntime) -> io::Result<()> {
     let mut buffer = script_buffer();
-    let n = io::read_full(STDIN_FILENO, &mut buffer);
+    let n = read_full(&mut rt.stdin(), &mut buffer)?;
     let mut words = store_buffer();
-    run(&buffer[..n], &mut words);
-    printing::text(b"end\n");
+    let mut out = BufWriter::new(rt.alloc(), io::writer(&rt))?;
+    run(&mut out, &buffer[..n], &mut words)?;
+    printing::text(&mut out, b"end\n")?;
+    out.flush()
 }

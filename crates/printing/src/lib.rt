@@ -1,28 +1,28 @@
-// What the programs print: text, decimal numbers and lines of words, on standard output.
+// What the programs print: text, decimal numbers and lines of words, on the writer that they are lent.
 #![tactic(auto)]
 
-use libc::STDOUT_FILENO;
+use std::io::{self, Write};
 
-pub fn text(bytes: &[u8]) {
-    io::write_all(STDOUT_FILENO, bytes);
+pub fn text(out: &mut impl Write, bytes: &[u8]) -> io::Result<()> {
+    out.write_all(bytes)
 }
 
-pub fn number(x: u16) {
-    io::print_decimal(STDOUT_FILENO, x as u64);
+pub fn number(out: &mut impl Write, x: u16) -> io::Result<()> {
+    write!(out, "{x}")
 }
 
 // A number with a space in front.
-pub fn spaced(x: u16) {
-    text(b" ");
-    number(x);
+pub fn spaced(out: &mut impl Write, x: u16) -> io::Result<()> {
+    text(out, b" ")?;
+    number(out, x)
 }
 
 // The words, a space in front of each, and the line's end.
-pub fn words(row: &[u16]) {
+pub fn words(out: &mut impl Write, row: &[u16]) -> io::Result<()> {
     let mut i: usize = 0;
     while i < row.len() {
-        spaced(row[i]);
+        spaced(out, row[i])?;
         i += 1;
     }
-    text(b"\n");
+    text(out, b"\n")
 }

@@ -5,6 +5,7 @@ ghost use Rattle.std.specs.Prelude.{◌≡◌, length};
 
 use calls::Answer;
 use reader::Place;
+use std::io::{self, Write};
 
 // Two lists of records of three words in six nodes: 8 + 4 x 2 + 6 x 6 words.
 fn store() -> [u16; 52]
@@ -14,16 +15,17 @@ fn store() -> [u16; 52]
 }
 
 // The records of a list, until the reader hands out an empty part. No list has a record at the last position.
-fn print_list(words: &[u16], list: u16) {
+fn print_list(out: &mut impl Write, words: &[u16], list: u16) -> io::Result<()> {
     let mut place = Place { list, at: 0 };
     while place.at < 65535 {
         let rec = reader::handed(words, place.list, place.at);
         if rec.len() == 0 {
-            return;
+            return Ok(());
         }
-        printing::words(rec);
+        printing::words(out, rec)?;
         place = place.step();
     }
+    Ok(())
 }
 
 // Puts three records into list 0, the second one last; the first insert that is not done ends it.
@@ -37,9 +39,9 @@ fn fill(words: &mut [u16]) {
     axle_store::insert(words, 0, 1, 2, &[2, 2870, 2910], 65535);
 }
 
-fn main() {
+fn main(rt: HostRuntime) -> io::Result<()> {
     let mut words = store();
     axle_store::format(&mut words, 2, 6, 3);
     fill(&mut words);
-    print_list(&words, 0);
+    print_list(&mut io::writer(&rt), &words, 0)
 }
