@@ -27,8 +27,9 @@ sources := crates.txt $(shell find crates -mindepth 2 \( -name must-fail -o -nam
 define quietly
 @mkdir -p $(@D)
 @{ (cd crates/$(1) && $(2)); echo $$? >target/build.status; } 2>&1 | tee target/build.log | \
-    sed -u -n 's/^rt: chose --jobs [0-9]* for /rt: proves /; /^rt: running/d; /^rt: /p'
-@status=$$(cat target/build.status); [ "$$status" = 0 ] || { tail -n 30 target/build.log | cut -c 1-300; exit "$$status"; }
+    sed -u -n 's/^rt: chose --jobs [0-9]* for /rt: proves /p; /waiting for it/p'
+@status=$$(cat target/build.status); \
+    [ "$$status" = 0 ] || { grep -v ': modules loaded=' target/build.log | tail -n 30 | cut -c 1-300; exit "$$status"; }
 endef
 
 all: $(LIB) $(LISTING)
