@@ -7,6 +7,6 @@ use Rattle.axle_store.proofs.check.Goals as goal
 pub returns : goal.returns
 unfolding word_check
 returns c = let e = c.check.ensures in record {
-      answer = e;
-      number = checked-number _ e;
-    }
+  answer = e;
+  number = checked-number _ e;
+}

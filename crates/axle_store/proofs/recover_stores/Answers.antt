@@ -8,6 +8,6 @@ use Rattle.axle_store.proofs.recover_stores.Goals as goal
 pub returns : goal.returns
 unfolding word_needed
 returns c = let e = c.recover_stores.ensures in record {
-      stores = e;
-      number = needed-number (recover_plan c.args.words.now) e;
-    }
+  stores = e;
+  number = needed-number (recover_plan c.args.words.now) e;
+}

@@ -60,28 +60,30 @@ pub loop-i-preserved : goal.loop-i-preserved
 loop-i-preserved c =
     let t = c in
     let s = (start t.before.before.before.before.before.before) in
-    elim c.if-in_use.branch [ then-in_use+else-n-allowance w ↦
-    let p = clearing-one s.args.l s.args.idents.now t.loop-i.n t.loop-i.i t.loop-i.invariant.4 (omega arith) (sym c.in_use.ensures ∙ w.if-in_use.true) in
-    rw (w.bytes-is, w.n-is) (
-      omega arith,
-      omega arith,
-      t.loop-i.invariant.2,
-      omega arith,
-      p.2,
-      w.step.ensures
-          ∙ ap₂ (λ (q : Write) (b : List ℕ). run (byte_writes (q ∷ [])) b) (sym p.1) t.loop-i.invariant.5
-          ∙ sym (bytes-more (all s) t.loop-i.n s.args.bytes.now p.0),
-      w.step.auto.bytes ∙ t.loop-i.invariant.6,
-    )
-    | else-in_use w ↦ rw (w.bytes-is, w.n-is) (
-      omega arith,
-      omega arith,
-      t.loop-i.invariant.2,
-      t.loop-i.invariant.3,
-      clearing-skip s.args.l s.args.idents.now t.loop-i.n t.loop-i.i t.loop-i.invariant.4 (omega arith) (sym c.in_use.ensures ∙ w.if-in_use.false),
-      t.loop-i.invariant.5,
-      t.loop-i.invariant.6,
-    ) ]
+    elim c.if-in_use.branch [
+      | then-in_use+else-n-allowance w ↦
+          let p = clearing-one s.args.l s.args.idents.now t.loop-i.n t.loop-i.i t.loop-i.invariant.4 (omega arith) (sym c.in_use.ensures ∙ w.if-in_use.true) in
+          rw (w.bytes-is, w.n-is) (
+            omega arith,
+            omega arith,
+            t.loop-i.invariant.2,
+            omega arith,
+            p.2,
+            w.step.ensures
+                ∙ ap₂ (λ (q : Write) (b : List ℕ). run (byte_writes (q ∷ [])) b) (sym p.1) t.loop-i.invariant.5
+                ∙ sym (bytes-more (all s) t.loop-i.n s.args.bytes.now p.0),
+            w.step.auto.bytes ∙ t.loop-i.invariant.6,
+          )
+      | else-in_use w ↦ rw (w.bytes-is, w.n-is) (
+        omega arith,
+        omega arith,
+        t.loop-i.invariant.2,
+        t.loop-i.invariant.3,
+        clearing-skip s.args.l s.args.idents.now t.loop-i.n t.loop-i.i t.loop-i.invariant.4 (omega arith) (sym c.in_use.ensures ∙ w.if-in_use.false),
+        t.loop-i.invariant.5,
+        t.loop-i.invariant.6,
+      )
+    ]
 
 pub returns : goal.returns
 returns c =

@@ -80,29 +80,31 @@ loop-b-preserved c =
     let w = words_in t.loop-b.bytes in
     let b = t.loop-b.b in
     let e = s.args.a + s.args.n in
-    elim c.if-word-ne0.branch [ then-word-ne0+else-made-allowance o ↦
-    let p = write b 0 ∷ [] in
-    let q = row_left (set w b 0) (b + 1) e in
-    let m = subst (Making (all s) t.loop-b.made) (row_one w b e (omega arith) (λ z. o.if-word-ne0.true (x.word.ensures ∙ z))) i.4 in
-    let words = ap words_in o.put.ensures ∙ words-run p t.loop-b.bytes in
-    rw (o.bytes-is, o.made-is) (
-      omega arith,
-      omega arith,
-      refl,
-      omega (arith, o.if-made-allowance.false, i.3),
-      subst (λ (v : List ℕ). Making (all s) (t.loop-b.made + 1) (row_left v (b + 1) e)) (sym words) (making-on p q m),
-      o.put.ensures ∙ ap (λ (y : List ℕ). run (byte_writes p) y) i.5 ∙ bytes-on p q m s.args.bytes.now 1 (omega arith),
-      o.put.auto.bytes ∙ i.6,
-    )
-    | else-word-ne0 o ↦ rw (o.bytes-is, o.made-is) (
-      omega arith,
-      omega arith,
-      refl,
-      i.3,
-      subst (Making (all s) t.loop-b.made) (row_zero w b e (omega arith) (sym x.word.ensures ∙ o.if-word-ne0.false)) i.4,
-      i.5,
-      i.6,
-    ) ]
+    elim c.if-word-ne0.branch [
+      | then-word-ne0+else-made-allowance o ↦
+          let p = write b 0 ∷ [] in
+          let q = row_left (set w b 0) (b + 1) e in
+          let m = subst (Making (all s) t.loop-b.made) (row_one w b e (omega arith) (λ z. o.if-word-ne0.true (x.word.ensures ∙ z))) i.4 in
+          let words = ap words_in o.put.ensures ∙ words-run p t.loop-b.bytes in
+          rw (o.bytes-is, o.made-is) (
+            omega arith,
+            omega arith,
+            refl,
+            omega (arith, o.if-made-allowance.false, i.3),
+            subst (λ (v : List ℕ). Making (all s) (t.loop-b.made + 1) (row_left v (b + 1) e)) (sym words) (making-on p q m),
+            o.put.ensures ∙ ap (λ (y : List ℕ). run (byte_writes p) y) i.5 ∙ bytes-on p q m s.args.bytes.now 1 (omega arith),
+            o.put.auto.bytes ∙ i.6,
+          )
+      | else-word-ne0 o ↦ rw (o.bytes-is, o.made-is) (
+        omega arith,
+        omega arith,
+        refl,
+        i.3,
+        subst (Making (all s) t.loop-b.made) (row_zero w b e (omega arith) (sym x.word.ensures ∙ o.if-word-ne0.false)) i.4,
+        i.5,
+        i.6,
+      )
+    ]
 
 pub returns : goal.returns
 returns c =

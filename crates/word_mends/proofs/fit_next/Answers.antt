@@ -11,9 +11,9 @@ use Rattle.word_mends.proofs.fit_next.Goals as goal
 
 pub returns-then-known : goal.returns-then-known
 returns-then-known c = let s = c in record {
-      first = s.requires.3 c.if-known.true;
-      second = λ e. absurd (false≢true (sym e ∙ c.if-known.true));
-    }
+  first = s.requires.3 c.if-known.true;
+  second = λ e. absurd (false≢true (sym e ∙ c.if-known.true));
+}
 
 pub returns : goal.returns
 returns c =

@@ -8,6 +8,6 @@ pub returns : goal.returns
 returns c =
     let a = c.args in
     elim c.if-self.branch [
-      then-self w ↦ stepped-ahead a.c a.self w.if-self.true w.result-is
-    | else-self w ↦ stepped-back a.c a.self w.if-self.false w.result-is
+      | then-self w ↦ stepped-ahead a.c a.self w.if-self.true w.result-is
+      | else-self w ↦ stepped-back a.c a.self w.if-self.false w.result-is
     ]
