@@ -102,10 +102,8 @@
  *   - If one of them has changed, wherever it stands, axle_recover puts it back with one store: AXLE_DONE + 1, and the words
  *     are those of before. Cut by allowance 0 it answers AXLE_STOPPED + 0 and changes nothing.
  *   - One change is excepted in both: of the identifier of a node in no list to AXLE_WORN or from it. From 0 to AXLE_WORN it
- *     leaves a sound store, with a mark more, and back again with a mark less. If one mark alone has changed, to anything
- *     else, or to 0 where the node has a record word that is not 0, axle_check answers AXLE_UNSOUND. Then axle_recover stores
- *     0 to the identifier if that is not 0, 0 to each record word of the node that is not 0, and nothing else: the node is
- *     free and wiped. Mark it again.
+ *     leaves a sound store, with a mark more, and back again with a mark less. A mark changed to anything else, or to 0 where
+ *     the node has a record word that is not 0, is noticed, and axle_recover frees the node: mark it again.
  *   - If a list's count and one identifier of it, its header's or a member's, have changed, axle_recover puts both back, the
  *     identifier first: AXLE_DONE + 2, and the words are those of before.
  *   - If more have changed, but at most these in each list and none of a node in no list, axle_recover puts all of them back:
@@ -147,14 +145,11 @@
  * that asks question 6 is refused, until axle_recover has wiped them: it changes nothing else in such a store, whole or
  * cut. Versions from 1.4 on work on each other's stores; after 1.4 recover again.
  *
- * COST. What is proved is how many links a call follows to its position. It goes from the nearer end of the list: min(p + 1,
- * n - p) links to delete at position p of n records, min(p, n + 1 - p) to insert there, never more than half of n, rounded
- * up. So the last record is deleted with as few links as the first, one, and one at most is enough to append.
- *
- * The rest describes the code, and is not proved. A call that asks question 6 looks at every node's identifier and at the
- * record of every free node, and goes once through every list. An insert then looks for free nodes from the starting cell
- * on, and so does its preview. The preview of a recovery decides what the recovery decides before its first store, and counts.
- * Times as measured are in docs/BENCHMARKS.md.
+ * COST. A call that asks question 6 looks at every node's identifier and at the record of every free node, and goes once
+ * through every list. To a position it goes link by link from the nearer end of the list: in min(p + 1, n - p) steps to
+ * delete at position p of n records, in min(p, n + 1 - p) to insert there, never more than half of n, rounded up. The last
+ * records cost no more than the first, and a record is appended in one step. The cells and stores of an insert are told for
+ * a check and one turn round the nodes, the stores of a recovery for what it decides before its first one.
  *
  * THREADS. The calls have no state of their own and may run at the same time on different stores. On one store the caller
  * must let one call at a time through, the reading ones too, from interrupts as from threads. While a call runs nobody else

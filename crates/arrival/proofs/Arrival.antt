@@ -1,4 +1,4 @@
--- The walk of half the list's length, Rounded up, arrives at the cell that each call works at.
+-- The walk of half the list's length, rounded up, arrives at the cell that each call works at.
 use Prim.Native.Nat.{ℕ, ◌+◌, ◌/◌, ◌<◌, ◌≤◌}
 use mathlib.Core.Path.{◌≡◌, refl, ap, ◌∙◌, sym, subst}
 use mathlib.Core.List.{List, ◌∷◌}

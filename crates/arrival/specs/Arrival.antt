@@ -1,5 +1,5 @@
 -- "However read and delete find their cell now, from here on a step follows one link, from the nearer end, and is run with a budget. Show
--- that a budget of half the list's length, Rounded up, always arrives. Read and delete give what they gave."
+-- that a budget of half the list's length, rounded up, always arrives. Read and delete give what they gave."
 --
 -- What they gave is said where it was (calls/specs/Calls.antt). Here stands where the walk arrives: at the cell whose record read
 -- gives, at the one that delete takes out, and at the one behind which insert puts its records.
@@ -18,7 +18,7 @@ use Rattle.calls.specs.Calls.{read_words, insert_plan, several_plan, delete_plan
 abbrev pub links_in : List ℕ → View
 links_in w = view_of (layout_of w) w
 
--- the walk to cell q of the ring of list k, which has n members, arrives at cell c with a budget of half of n, Rounded up
+-- the walk to cell q of the ring of list k, which has n members, arrives at cell c with a budget of half of n, rounded up
 abbrev pub Arrives : List ℕ → ℕ → ℕ → ℕ → ℕ → Type 0
 Arrives w k n q c = run_with (links_in w) (half n) (nearer k n q) ≡ S.At c
 

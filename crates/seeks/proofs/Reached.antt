@@ -1,4 +1,4 @@
--- "Show that a budget of half the list's length, Rounded up, always arrives." The shorter way round the ring has at most so many links.
+-- "Show that a budget of half the list's length, rounded up, always arrives." The shorter way round the ring has at most so many links.
 use Prim.Native.Nat.{ℕ, suc, ◌+◌, ◌-◌, ◌<◌, ◌≤◌}
 use mathlib.Core.Path.{◌≡◌, refl, ap, ◌∙◌, sym, subst, subst⁻¹}
 use mathlib.Core.List.{List, ◌∷◌}

@@ -26,13 +26,13 @@ unfoldable pub run_with : View → ℕ → Seek → Sought
 run_with v zero t = cond (eqb t.left 0) (At t.at) Spent
 run_with v (suc b) t = cond (eqb t.left 0) (At t.at) (run_with v b (stepped (cell_in v t.at) t))
 
--- "half the list's length, Rounded up"
+-- "half the list's length, rounded up"
 abbrev pub half : ℕ → ℕ
 half n = (n + 1) / 2
 
 -- what budgets are worth on the way to cell q of the ring of list k, whose members are s
 pub record Reached (v : View) (k : ℕ) (s : List ℕ) (q : ℕ) : Type 0 where
-  -- "a budget of half the list's length, Rounded up, always arrives", at the cell that the plain sequence has there;
+  -- "a budget of half the list's length, rounded up, always arrives", at the cell that the plain sequence has there;
   pub arrives : run_with v (half (length s)) (nearer k (length s) q) ≡ At (get_or (k ∷ s) q 0)
   -- so does one for the links ahead, and one for those behind;
   pub ahead : (b : ℕ) → q ≤ b → run_with v b (nearer k (length s) q) ≡ At (get_or (k ∷ s) q 0)

@@ -56,7 +56,7 @@ impl Seek {
     }
 }
 
-// The budget that always arrives in a list of n members: half of them, Rounded up.
+// The budget that always arrives in a list of n members: half of them, rounded up.
 pub fn budget(n: u16) -> u16
     ensures { result ≡ half n }
 {

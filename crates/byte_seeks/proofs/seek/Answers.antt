@@ -1,4 +1,4 @@
--- `byte_seeks::seek` meets its contract: half of the list's length, Rounded up, arrives, so the budget is never spent.
+-- `byte_seeks::seek` meets its contract: half of the list's length, rounded up, arrives, so the budget is never spent.
 use mathlib.Core.Path.{◌≡◌, ap, ◌∙◌, sym}
 use mathlib.Core.List.{◌∷◌}
 use native.Mathlib.Omega.{arith}

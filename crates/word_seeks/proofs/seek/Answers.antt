@@ -1,5 +1,5 @@
 -- Made from crates/byte_seeks/proofs/seek/Answers.antt by tools/twins.
--- `word_seeks::seek` meets its contract: half of the list's length, Rounded up, arrives, so the budget is never spent.
+-- `word_seeks::seek` meets its contract: half of the list's length, rounded up, arrives, so the budget is never spent.
 use mathlib.Core.Path.{◌≡◌, ap, ◌∙◌, sym}
 use mathlib.Core.List.{◌∷◌}
 use native.Mathlib.Omega.{arith}
