@@ -34,7 +34,7 @@
 ghost use Rattle.std.specs.Prelude.{◌≡◌, ◌≤◌, ◌<◌, length, IfOk};
 
 use calls::{Answer, Foretold};
-use std::io::{self, BufWriter, Read, Write};
+use std::io::{self, Read, Write};
 
 fn script_buffer() -> [u8; 1048576]
     ensures { 1048576 ≡ length result }
@@ -651,8 +651,7 @@ fn main(rt: HostRuntime) -> io::Result<()> {
     let mut buffer = script_buffer();
     let n = read_full(&mut rt.stdin(), &mut buffer)?;
     let mut words = store_buffer();
-    let mut out = BufWriter::new(rt.alloc(), io::writer(&rt))?;
-    run(&mut out, &buffer[..n], &mut words)?;
-    printing::text(&mut out, b"end\n")?;
-    out.flush()
+    let out = &mut io::writer(&rt);
+    run(out, &buffer[..n], &mut words)?;
+    printing::text(out, b"end\n")
 }
