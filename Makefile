@@ -5,7 +5,6 @@
 # make uninstall  takes them away
 # make clean      removes what was built here
 # make edits      lists the must-fail edits, wrong programs that the prover must refuse, with what each tries
-# make twins      makes the crates that crates.txt marks '# made' from those that they are twins of
 #
 # The archive and the listing program are made again if a source of any crate is newer. What was proved and has not changed is not
 # proved again. LIB=.. and LISTING=.. name others, which are taken as they are.
@@ -77,7 +76,4 @@ edits:
 	    echo "$${name%%/*}/$${name##*/}: $$(sed -n '1s/^# *//p' "$$edit")"; \
 	done
 
-twins:
-	tools/twins
-
-.PHONY: all archives example install uninstall clean edits twins
+.PHONY: all archives example install uninstall clean edits

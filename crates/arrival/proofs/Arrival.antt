@@ -5,8 +5,10 @@ use mathlib.Core.List.{List, ◌∷◌}
 use native.Mathlib.Omega.{arith}
 use native.Mathlib.Numerals.{add-one}
 use lib.ListN.{length, get_or}
+use Rattle.std.specs.Prelude.{Result, Ok, Err}
 use Rattle.stores.specs.Stores.{Write, stores}
 use Rattle.layout.specs.declared.Layout.{Layout}
+use Rattle.layout.specs.declared.Refusal.{Refusal}
 use Rattle.layout.specs.Words.{layout_of}
 use Rattle.lists.specs.Lists.{Sound}
 use Rattle.lists.specs.Decide.{count_in, sequence_of, HeldList}
@@ -14,8 +16,6 @@ use Rattle.lists.proofs.Unique.{list-sequence}
 use Rattle.lists.proofs.Ring.{held-count, sound-held}
 use Rattle.seeks.proofs.Reached.{half-arrives, reached}
 use Rattle.requests.specs.declared.Site.{Site}
-use Rattle.requests.specs.declared.Sited.{Sited}
-use Rattle.requests.specs.declared.Sited.TheVariants.{At, Refused}
 use Rattle.requests.specs.declared.Request.TheVariants.{Member, Gap, Gaps}
 use Rattle.requests.specs.Requests.{site_of}
 use Rattle.requests.specs.Sites.{gap_site}
@@ -72,14 +72,14 @@ module _ (w : List ℕ) (s : Sound w) (k : ℕ) (hk : k < (layout_of w).lists) w
       × (ps ≡ insert_writes its k (record { before = cell p; cell = i; after = (links_in w).forward (cell p); count = length members }) words)
   inserts p start words ps z = by (site_of its w (Gap k p start (length words))) refl
     where
-      by : (x : Sited) → site_of its w (Gap k p start (length words)) ≡ x
+      by : (x : Result Site Refusal) → site_of its w (Gap k p start (length words)) ≡ x
           → (p ≤ length members) × (i : ℕ)
           × (ps ≡ insert_writes its k (record { before = cell p; cell = i; after = (links_in w).forward (cell p); count = length members }) words)
-      by (Refused n) e =
+      by (Err n) e =
           let r = insert-refused w k p start words (sym (look-refused w (Gap k p start (length words)) (sound-opened w s) e)) in
           let y : ◌≡◌ {A = ℕ} 0 1 = cc in
           absurd (omega arith)
-      by (At t) e =
+      by (Ok t) e =
           let r = insert-at w k p start words (sym (look_at w (Gap k p start (length words)) (sound-opened w s) e)) in
           let f = gap-facts its w k p start (length words) t e in
           let q : ps ≡ insert_writes its k t words = cc in
@@ -89,13 +89,13 @@ module _ (w : List ℕ) (s : Sound w) (k : ℕ) (hk : k < (layout_of w).lists) w
       → (p ≤ length members) × (cells : List ℕ) × (ps ≡ chain its k (cell p) ((links_in w).forward (cell p)) (length members) cells words)
   severals p start words ps z = by (site_of its w (Gaps k p start (length words))) refl
     where
-      by : (x : Sited) → site_of its w (Gaps k p start (length words)) ≡ x
+      by : (x : Result Site Refusal) → site_of its w (Gaps k p start (length words)) ≡ x
           → (p ≤ length members) × (cells : List ℕ) × (ps ≡ chain its k (cell p) ((links_in w).forward (cell p)) (length members) cells words)
-      by (Refused n) e =
+      by (Err n) e =
           let r = several-refused w k p start words (sym (look-refused w (Gaps k p start (length words)) (sound-opened w s) e)) in
           let y : ◌≡◌ {A = ℕ} 0 1 = cc in
           absurd (omega arith)
-      by (At t) e =
+      by (Ok t) e =
           let r = several-at w k p start words (sym (look_at w (Gaps k p start (length words)) (sound-opened w s) e)) in
           let f = (gaps-looked its w k p start (length words) t e).facts in
           let cells = free_from its w start (length words / its.width) in

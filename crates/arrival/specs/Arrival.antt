@@ -3,12 +3,11 @@
 --
 -- What they gave is said where it was (calls/specs/Calls.antt). Here stands where the walk arrives: at the cell whose record read
 -- gives, at the one that delete takes out, and at the one behind which insert puts its records.
-use Rattle.std.specs.Prelude.{ℕ, ◌+◌, ◌<◌, ◌≤◌, ◌≡◌, List, length}
+use Rattle.std.specs.Prelude.{ℕ, ◌+◌, ◌<◌, ◌≤◌, ◌≡◌, List, length, Some}
 use Rattle.stores.specs.Stores.{Write, stores}
 use Rattle.layout.specs.Words.{layout_of}
 use Rattle.lists.specs.Lists.{Sound}
 use Rattle.lists.specs.Decide.{View, view_of}
-use Rattle.seeks.specs.declared.Sought.TheVariants as S
 use Rattle.seeks.specs.Seeks.{nearer, run_with, half, Reached}
 use Rattle.edits.specs.Edits.{insert_writes, chain, delete_writes}
 use Rattle.edits.specs.Edited.{record_in}
@@ -20,7 +19,7 @@ links_in w = view_of (layout_of w) w
 
 -- the walk to cell q of the ring of list k, which has n members, arrives at cell c with a budget of half of n, rounded up
 abbrev pub Arrives : List ℕ → ℕ → ℕ → ℕ → ℕ → Type 0
-Arrives w k n q c = run_with (links_in w) (half n) (nearer k n q) ≡ S.At c
+Arrives w k n q c = run_with (links_in w) (half n) (nearer k n q) ≡ Some c
 
 -- list k of a sound store, whose members are s
 pub record Walks (w : List ℕ) (k : ℕ) (s : List ℕ) : Type 0 where

@@ -4,12 +4,12 @@
 
 ghost use Rattle.std.specs.Prelude.{◌≡◌};
 ghost use Rattle.calls.specs.Answers.{answer_of, ForetoldUnworn};
-ghost use Rattle.byte_form.specs.Bytes.{words_in, bytes_after};
+ghost use Rattle.encoding.specs.Bytes.{words_in, bytes_after};
 ghost use Rattle.layout.specs.Words.{layout_for, layout_of};
 ghost use Rattle.lists.specs.Lists.{KeepsWorn};
 ghost use Rattle.edits.specs.Edits.{mark_stores};
 ghost use Rattle.byte_calls.specs.Plans.{whole_bytes, byte_format, byte_insert, byte_several, byte_figures, byte_delete, byte_mark, byte_recover, byte_needed};
-ghost use Rattle.axle.specs.Interface.{code_of, first_code, last_code, stores_code, needed_code, check_code, length_code, whole_code};
+ghost use Rattle.byte_calls.specs.Interface.{code_of, first_code, last_code, stores_code, needed_code, check_code, length_code, whole_code};
 
 // Writes a store of empty lists.
 #[unsafe(no_mangle)]

@@ -1,6 +1,6 @@
 // The axle store's calls on lent words. Each asks its questions in the order of docs/FORMAT.md; the first no decides, and a
 // refused call stores nothing. No call asks anything of its caller: the words may hold anything, at any length. Crate calls has their
-// definitions, crate word_calls their work.
+// definitions, crate engine their work.
 #![tactic(auto)]
 
 ghost use Rattle.std.specs.Prelude.{◌≡◌, ◌+◌, ◌*◌, length};
@@ -12,44 +12,41 @@ ghost use Rattle.recovery.specs.Plan.{recover_plan};
 ghost use Rattle.calls.specs.Answers.{checked_number, formatted_number, counted_number, counted_length, answer_of, answer_number, answer_stores, needed_of, needed_number, needed_stores, foretold_number, foretold_stores, ForetoldUnworn};
 ghost use Rattle.calls.specs.Calls.{format_answer, format_number, format_words, check_answer, check_number, length_answer, length_number, length_value, read_number, read_words, read_start, insert_plan, several_plan, several_figures, delete_plan, mark_plan, recover_needed};
 
-use calls::{Answer, Checked, Counted, Foretold, Formatted, Needed};
-use layout::Layout;
-use requests::{Looked, Request};
+use calls::{Answer, Figures};
+use layout::{Layout, Refusal};
+use requests::Request;
 
 // Writes a store of empty lists.
-pub fn format(words: &mut [u16], lists: u16, nodes: u16, width: u16) -> Formatted
+pub fn format(words: &mut [u16], lists: u16, nodes: u16, width: u16) -> Result<(), Refusal>
     ensures answer { result ≡ format_answer (layout_for lists nodes width) words.old }
     ensures words { words.new ≡ format_words (layout_for lists nodes width) words.old }
     ensures number { formatted_number result ≡ format_number (layout_for lists nodes width) words.old }
 {
-    word_calls::format(words, lists, nodes, width)
+    engine::format(words, lists, nodes, width)
 }
 
 // Is the store sound?
-pub fn check(words: &[u16]) -> Checked
+pub fn check(words: &[u16]) -> Result<(), Refusal>
     ensures answer { result ≡ check_answer words.now }
     ensures number { checked_number result ≡ check_number words.now }
 {
-    word_calls::check(words)
+    engine::check(words)
 }
 
 // How many records has the list?
-pub fn length(words: &[u16], list: u16) -> Counted
+pub fn length(words: &[u16], list: u16) -> Result<u16, Refusal>
     ensures answer { result ≡ length_answer words.now list }
     ensures number { counted_number result ≡ length_number words.now list }
     ensures value { counted_length result ≡ length_value words.now list }
 {
-    word_calls::length(words, list)
+    engine::length(words, list)
 }
 
 // Read's questions: the number of the first no, 0 for none.
 pub fn read_number(words: &[u16], list: u16, position: u16) -> u16
     ensures { result ≡ read_number words.now list position }
 {
-    match word_requests::look(words, Request::Member(list, position)) {
-        Looked::Refused(n) => n,
-        Looked::At(_, _) => 0,
-    }
+    calls::number(&sites::look(words, Request::Member(list, position)))
 }
 
 // The record of the list at the position, as a part of the lent words: empty if refused.
@@ -57,14 +54,12 @@ pub fn read(words: &[u16], list: u16, position: u16) -> &[u16]
     ensures contents { result.now ≡ read_words words.now list position }
     ensures place { (result.ref_ptr.0 ≡ words.entry.ref_ptr.0) × (result.ref_ptr.1 ≡ read_start words.now list position * 2 + words.entry.ref_ptr.1) }
 {
-    match word_requests::look(words, Request::Member(list, position)) {
-        Looked::Refused(_) => &words[0..0],
-        Looked::At(l, t) => {
-            let a = l.node(t.cell) + Layout::LINK_WORDS;
-            let e = a + l.width as usize;
-            &words[a..e]
-        }
-    }
+    let Ok(look) = sites::look(words, Request::Member(list, position)) else {
+        return &words[0..0];
+    };
+    let a = look.layout.node(look.site.cell) + Layout::LINK_WORDS;
+    let e = a + usize::from(look.layout.width);
+    &words[a..e]
 }
 
 // Inserts a record into the list at the position, in the first free cell from the starting cell on. Worn nodes are passed over.
@@ -82,7 +77,7 @@ pub fn insert(
     ensures stores { answer_stores result ≡ length (made_by (insert_plan words.old list position start rec.now) allowance) }
     ensures worn { KeepsWorn (layout_of words.old) words.old words.new }
 {
-    word_calls::insert(words, list, position, start, rec, allowance)
+    engine::insert(words, list, position, start, rec, allowance)
 }
 
 // Inserts several records into the list from the position on, in the first free cells from the starting cell on. Worn nodes are passed over.
@@ -100,7 +95,7 @@ pub fn insert_several(
     ensures stores { answer_stores result ≡ length (made_by (several_plan words.old list position start records.now) allowance) }
     ensures worn { KeepsWorn (layout_of words.old) words.old words.new }
 {
-    word_calls::insert_several(words, list, position, start, records, allowance)
+    engine::insert_several(words, list, position, start, records, allowance)
 }
 
 // What an insert of several records will do: the first and the last cell that it uses, in order of use, and how many stores it makes. Nothing
@@ -111,13 +106,13 @@ pub fn insert_several_figures(
     position: u16,
     start: u16,
     records: &[u16],
-) -> Foretold
+) -> Result<Figures, Refusal>
     ensures figures { result ≡ several_figures words.now list position start records.now }
     ensures number { foretold_number result ≡ plan_number (several_plan words.now list position start records.now) }
     ensures stores { foretold_stores result ≡ needed_stores (needed_of (several_plan words.now list position start records.now)) }
     ensures worn { ForetoldUnworn (layout_of words.now) words.now result }
 {
-    word_calls::insert_several_figures(words, list, position, start, records)
+    engine::insert_several_figures(words, list, position, start, records)
 }
 
 // Deletes the record of the list at the position.
@@ -127,7 +122,7 @@ pub fn delete(words: &mut [u16], list: u16, position: u16, allowance: u16) -> An
     ensures number { answer_number result ≡ plan_number (delete_plan words.old list position) }
     ensures stores { answer_stores result ≡ length (made_by (delete_plan words.old list position) allowance) }
 {
-    word_calls::delete(words, list, position, allowance)
+    engine::delete(words, list, position, allowance)
 }
 
 // Marks a free node as worn: no insert will take it, and recovery lets it be.
@@ -137,7 +132,7 @@ pub fn mark_worn(words: &mut [u16], cell: u16) -> Answer
     ensures number { answer_number result ≡ plan_number (mark_plan words.old cell) }
     ensures stores { answer_stores result ≡ length (made_by (mark_plan words.old cell) mark_stores) }
 {
-    word_calls::mark_worn(words, cell)
+    engine::mark_worn(words, cell)
 }
 
 // Recovers the store by correction: the words that a cut insert or delete left wrong, or one altered word in a list, or its count and an
@@ -148,13 +143,13 @@ pub fn recover(words: &mut [u16], allowance: u16) -> Answer
     ensures number { answer_number result ≡ plan_number (recover_plan words.old) }
     ensures stores { answer_stores result ≡ length (made_by (recover_plan words.old) allowance) }
 {
-    word_calls::recover(words, allowance)
+    engine::recover(words, allowance)
 }
 
 // How many stores a recovery will make. Nothing is stored.
-pub fn recover_stores(words: &[u16]) -> Needed
+pub fn recover_stores(words: &[u16]) -> Result<u16, Refusal>
     ensures stores { result ≡ recover_needed words.now }
     ensures number { needed_number result ≡ plan_number (recover_plan words.now) }
 {
-    word_calls::recover_stores(words)
+    engine::recover_stores(words)
 }

@@ -7,25 +7,25 @@ use native.Mathlib.Omega.{arith}
 use native.Mathlib.Nat.{mul-le-mul}
 use lib.Dec.{eqb}
 use lib.ListN.{length, length-drop}
-use Rattle.calls.specs.declared.Needed.{Needed}
-use Rattle.calls.specs.declared.Needed.TheVariants as N
+use Rattle.std.specs.Prelude.{Result, Ok, Err}
 use Rattle.calls.specs.Answers.{answer_of, needed_of, needed_stores}
-use Rattle.stores.specs.Stores.{Write, Plan, refuse, stores, words_after, plan_number}
-use Rattle.calls.proofs.Answers.{answer-done}
+use Rattle.stores.specs.Stores.{Write, Plan, refuse, stores, words_after}
+use Rattle.stores.proofs.Outcomes.{outcome-done}
 use Rattle.stores.proofs.Laws.{applied-all}
-use Rattle.byte_form.specs.Bytes.{words_in, bytes_after}
-use Rattle.byte_form.proofs.Laws.{words-after}
+use Rattle.encoding.specs.Bytes.{words_in, bytes_after}
+use Rattle.encoding.proofs.Laws.{words-after}
 use Rattle.layout.specs.declared.Layout.{Layout}
+use Rattle.layout.specs.declared.Refusal.{Refusal}
+use Rattle.layout.specs.declared.Refusal.TheVariants.{Size}
 use Rattle.layout.specs.Words.{ask, InRange, tail_words, layout_of}
 use Rattle.layout.proofs.Laws.{opened-open}
-use Rattle.calls.specs.declared.Foretold.{Foretold}
-use Rattle.calls.specs.declared.Foretold.TheVariants as T
 use Rattle.recovery.specs.Plan.{most_stores, fitting_of, recover_plan, differing}
 use Rattle.recovery.proofs.Count.{plan-differs}
+use Rattle.calls.specs.declared.Figures.{Figures}
 use Rattle.calls.specs.Calls.{several_plan, several_figures, recover_needed}
 use Rattle.courses.proofs.Single.{planned, sound-recover}
 use Rattle.byte_calls.specs.Plans.{record_words, byte_several, byte_figures, byte_recover, byte_needed}
-use Rattle.axle.specs.Interface.{code_of, first_code, last_code, stores_code, needed_code}
+use Rattle.byte_calls.specs.Interface.{code_of, first_code, last_code, stores_code, needed_code}
 use Rattle.counting.proofs.Counting.{counting}
 use Rattle.beforehand.specs.Beforehand.{full, answer_by, needed_by, Uses, Beforehand}
 use Rattle.beforehand.proofs.Cells.{answer-told, told-refused, told-stored, uses-told}
@@ -47,14 +47,14 @@ module _ (w : List ℕ) where
     where
       by : (p : Plan) → recover_plan w ≡ p → answer_by (needed_of p) ≡ answer_of p full
       by (refuse n) e = refl
-      by (stores ps) e = answer-done ps full (plan-most w ps e)
+      by (stores ps) e = ap Ok (outcome-done ps full (plan-most w ps e))
 
   -- so many stores are told of a plan that has them
-  module _ (n : ℕ) (h : recover_needed w ≡ N.Stores n) where
+  module _ (n : ℕ) (h : recover_needed w ≡ Ok n) where
     stored : (ps : List Write) × (recover_plan w ≡ stores ps) × (length ps ≡ n)
     stored = by (recover_plan w) refl h
       where
-        by : (p : Plan) → recover_plan w ≡ p → needed_of p ≡ N.Stores n → (ps : List Write) × (recover_plan w ≡ stores ps) × (length ps ≡ n)
+        by : (p : Plan) → recover_plan w ≡ p → needed_of p ≡ Ok n → (ps : List Write) × (recover_plan w ≡ stores ps) × (length ps ≡ n)
         by (refuse i) e q = let z : ◌≡◌ {A = ℕ} 0 1 = cc in absurd (omega arith)
         by (stores ps) e q = (ps, e, ap needed_stores q)
 
@@ -71,27 +71,27 @@ module _ (w : List ℕ) where
     bounded : n ≤ most_stores (layout_of w)
     bounded = let s = stored in omega (arith, counting.bound w s.0 s.1, s.2)
 
-    left : (m : ℕ) → recover_needed (words_after (recover_plan w) m w) ≡ N.Stores (n - m)
+    left : (m : ℕ) → recover_needed (words_after (recover_plan w) m w) ≡ Ok (n - m)
     left m =
         let s = stored in
         ap (λ (q : Plan). recover_needed (words_after q m w)) s.1
         ∙ ap needed_of (counting.later w s.0 s.1 m)
-        ∙ ap N.Stores (length-drop m s.0 ∙ ap (λ (i : ℕ). i - m) s.2)
+        ∙ ap Ok (length-drop m s.0 ∙ ap (λ (i : ℕ). i - m) s.2)
 
 -- the numbers from C
-stores-code : (f : Foretold) → stores_code f ≡ code_of (answer_by (needed_by f))
-stores-code (T.Figures a b n) = refl
-stores-code (T.Refused n) = refl
+stores-code : (f : Result Figures Refusal) → stores_code f ≡ code_of (answer_by (needed_by f))
+stores-code (Ok f) = refl
+stores-code (Err n) = refl
 
-needed-code : (x : Needed) → needed_code x ≡ code_of (answer_by x)
-needed-code (N.Stores n) = refl
-needed-code (N.Refused n) = refl
+needed-code : (x : Result ℕ Refusal) → needed_code x ≡ code_of (answer_by x)
+needed-code (Ok n) = refl
+needed-code (Err n) = refl
 
 recovery-bytes : (bytes : List ℕ) → needed_code (byte_needed bytes) ≡ code_of (answer_of (byte_recover bytes) full)
 unfolding byte_needed byte_recover
 recovery-bytes bytes = by (eqb (length bytes % 2) 0)
   where
-    by : (b : Bool) → needed_code (ask b (N.Refused 4) (recover_needed (words_in bytes))) ≡ code_of (answer_of (ask b (refuse 4) (recover_plan (words_in bytes))) full)
+    by : (b : Bool) → needed_code (ask b (Err Size) (recover_needed (words_in bytes))) ≡ code_of (answer_of (ask b (refuse Size) (recover_plan (words_in bytes))) full)
     by true = needed-code (recover_needed (words_in bytes)) ∙ ap code_of (recovery-told (words_in bytes))
     by false = refl
 
@@ -106,17 +106,17 @@ module _ (bytes : List ℕ) (k p c : ℕ) (records : List ℕ) where
   unfolding byte_figures byte_several
   several-bytes = by (eqb (length bytes % 2) 0)
     where
-      by : (b : Bool) → stores_code (ask b (T.Refused 4) (several_figures w k p c words)) ≡ code_of (answer_of (ask b (refuse 4) (several_plan w k p c words)) full)
+      by : (b : Bool) → stores_code (ask b (Err Size) (several_figures w k p c words)) ≡ code_of (answer_of (ask b (refuse Size) (several_plan w k p c words)) full)
       by true = stores-code (several_figures w k p c words) ∙ ap code_of (answer-told w k p c words)
       by false = refl
 
-  refused-bytes : (n : ℕ) → byte_several bytes k p c records ≡ refuse n → byte_figures bytes k p c records ≡ T.Refused n
+  refused-bytes : (n : Refusal) → byte_several bytes k p c records ≡ refuse n → byte_figures bytes k p c records ≡ Err n
   unfolding byte_figures byte_several
   refused-bytes n = by (eqb (length bytes % 2) 0)
     where
-      by : (b : Bool) → ask b (refuse 4) (several_plan w k p c words) ≡ refuse n → ask b (T.Refused 4) (several_figures w k p c words) ≡ T.Refused n
+      by : (b : Bool) → ask b (refuse Size) (several_plan w k p c words) ≡ refuse n → ask b (Err Size) (several_figures w k p c words) ≡ Err n
       by true e = told-refused w k p c words e
-      by false e = ap T.Refused (ap plan_number e)
+      by false e = let z : Size ≡ n = cc in ap Err z
 
   -- even bytes: the call is that on their words
   even : (ps : List Write) → byte_several bytes k p c records ≡ stores ps
@@ -124,27 +124,27 @@ module _ (bytes : List ℕ) (k p c : ℕ) (records : List ℕ) where
   unfolding byte_figures byte_several
   even ps = by (eqb (length bytes % 2) 0)
     where
-      by : (b : Bool) → ask b (refuse 4) (several_plan w k p c words) ≡ stores ps
-          → (ask b (refuse 4) (several_plan w k p c words) ≡ several_plan w k p c words) × (ask b (T.Refused 4) (several_figures w k p c words) ≡ several_figures w k p c words)
+      by : (b : Bool) → ask b (refuse Size) (several_plan w k p c words) ≡ stores ps
+          → (ask b (refuse Size) (several_plan w k p c words) ≡ several_plan w k p c words) × (ask b (Err Size) (several_figures w k p c words) ≡ several_figures w k p c words)
       by true e = (refl, refl)
       by false e = let z : ◌≡◌ {A = ℕ} 0 1 = cc in absurd (omega arith)
 
   used-bytes : (ps : List Write) → byte_several bytes k p c records ≡ stores ps
-      → let told : Foretold = byte_figures bytes k p c records in
+      → let told : Result Figures Refusal = byte_figures bytes k p c records in
       (a : ℕ) × (b : ℕ) × (n : ℕ) × (first_code told ≡ 65536 + a) × (last_code told ≡ 65536 + b) × (stores_code told ≡ 65536 + n)
       × Uses w k p c words a b n
       × (words_in (bytes_after (byte_several bytes k p c records) full bytes) ≡ words_after (several_plan w k p c words) full w)
   used-bytes ps e =
       let v = even ps e in
       let t = told-stored w k p c words (sym v.0 ∙ e) in
-      let f = v.1 ∙ t.3 in (
-        t.0,
-        t.1,
-        t.2,
+      let f = v.1 ∙ t.1 in (
+        t.0.first,
+        t.0.last,
+        t.0.stores,
         ap first_code f,
         ap last_code f,
         ap stores_code f,
-        uses-told w k p c words t.0 t.1 t.2 t.3,
+        uses-told w k p c words t.0 t.1,
         words-after (byte_several bytes k p c records) full bytes ∙ ap (λ (q : Plan). words_after q full w) v.0,
       )
 

@@ -4,14 +4,14 @@ use mathlib.Core.Path.{◌≡◌, refl, ap, ap₂, ◌∙◌, sym, subst}
 use mathlib.Core.List.{List, [], ◌∷◌, ◌++◌, map}
 use lib.ListN.{length}
 use borrow.Author.Tests.{eq-eqb}
+use Rattle.std.specs.Prelude.{Ok}
 use Rattle.sequences.specs.Sequence.{All}
-use Rattle.calls.specs.declared.Answer.{Answer}
-use Rattle.calls.specs.declared.Answer.TheVariants as A
-use Rattle.calls.specs.Answers.{answer_of}
+use Rattle.calls.specs.Answers.{answer_of, Answer}
+use Rattle.stores.specs.declared.Outcome.TheVariants.{Done}
 use Rattle.stores.specs.Stores.{Write, Plan, run, words_after, made_by}
 use Rattle.stores.proofs.Laws.{run-append}
-use Rattle.byte_form.specs.Bytes.{words_in, byte_writes, bytes_after}
-use Rattle.byte_form.proofs.Laws.{words-after, length-after, byte-append, bytes-made}
+use Rattle.encoding.specs.Bytes.{words_in, byte_writes, bytes_after}
+use Rattle.encoding.proofs.Laws.{words-after, length-after, byte-append, bytes-made}
 use Rattle.layout.specs.Words.{layout_of}
 use Rattle.lists.specs.Lists.{Ordered}
 use Rattle.recovery.specs.Plan.{recover_plan}
@@ -19,7 +19,7 @@ use Rattle.courses.specs.Course.{Edit, insert, several, delete, named, edit_plan
 use Rattle.courses.specs.Demand3.{Course}
 use Rattle.courses.proofs.Demand3.{demand3}
 use Rattle.byte_calls.specs.Plans.{byte_insert, byte_several, byte_delete, byte_recover}
-use Rattle.axle.specs.Interface.{code_of}
+use Rattle.byte_calls.specs.Interface.{code_of}
 use Rattle.byte_courses.specs.ByteCourse.{byte_edit, in_words, Found, bytes_through, codes_through}
 use Rattle.byte_courses.specs.ByteDemand3.{NotRefusal, ByteCourse, ByteDemand3}
 
@@ -103,8 +103,8 @@ module _ (b : List ℕ) (h : length b % 2 ≡ 0) (s : Ordered (words_in b)) (e :
   course : Ends (words_through runs (words_in y)) (answer_of (recover_plan (words_through ms (words_in y))) last)
   course = demand3 (words_in y) ms last (words_in b) s (in_words e) m alts allowed found-words (subst (λ (p : Plan). needed p ≤ last) last-plan enough)
 
-  done : answer_of (recover_plan (words_through ms (words_in y))) last ≡ A.Done (needed (byte_recover (bytes_through ms y)))
-  done = course.done ∙ ap (λ (p : Plan). A.Done (needed p)) (sym last-plan)
+  done : answer_of (recover_plan (words_through ms (words_in y))) last ≡ Ok (Done (needed (byte_recover (bytes_through ms y))))
+  done = course.done ∙ ap (λ (p : Plan). Ok (Done (needed p))) (sym last-plan)
 
   byte-course
       : ByteCourse b s (named (in_words e)) (due_words (words_in b) (in_words e) m) y ms last (bytes_through runs y)

@@ -2,11 +2,11 @@
 use Rattle.std.specs.Prelude.{ℕ, ◌%◌, ◌≡◌, List, [], ◌∷◌, length}
 use Rattle.calls.specs.Answers.{answer_of}
 use Rattle.stores.specs.Stores.{Plan}
-use Rattle.byte_form.specs.Bytes.{words_in, bytes_after}
+use Rattle.encoding.specs.Bytes.{words_in, bytes_after}
 use Rattle.layout.specs.Words.{layout_of}
 use Rattle.courses.specs.Course.{Edit, insert, several, delete, named, Alteration, altered_below}
 use Rattle.byte_calls.specs.Plans.{record_words, byte_insert, byte_several, byte_delete, byte_recover}
-use Rattle.axle.specs.Interface.{code_of}
+use Rattle.byte_calls.specs.Interface.{code_of}
 
 -- an insert or delete whose record, or records, are in bytes, and what it is in words
 abbrev pub byte_edit : List ℕ → Edit → Plan

@@ -1,17 +1,16 @@
 -- Demand 3 for the calls from C: read as words, the bytes go through the course of the calls on words.
-use Rattle.std.specs.Prelude.{ℕ, ◌+◌, ◌%◌, ◌≤◌, ◌≡◌, List, [], ◌∷◌, ◌++◌, map, length}
+use Rattle.std.specs.Prelude.{ℕ, ◌+◌, ◌%◌, ◌≤◌, ◌≡◌, List, [], ◌∷◌, ◌++◌, map, length, Ok}
 use Rattle.sequences.specs.Sequence.{All}
-use Rattle.calls.specs.declared.Answer.{Answer}
-use Rattle.calls.specs.declared.Answer.TheVariants as A
-use Rattle.calls.specs.Answers.{answer_of}
+use Rattle.calls.specs.Answers.{answer_of, Answer}
+use Rattle.stores.specs.declared.Outcome.TheVariants.{Done}
 use Rattle.stores.specs.Stores.{run}
-use Rattle.byte_form.specs.Bytes.{words_in, byte_writes}
+use Rattle.encoding.specs.Bytes.{words_in, byte_writes}
 use Rattle.layout.specs.Words.{layout_of}
 use Rattle.lists.specs.Lists.{Ordered}
 use Rattle.courses.specs.Course.{Edit, named, all_stores, needed, due_words, Alteration, AllowedBut, answers_through, NotRefused}
 use Rattle.courses.specs.Demand3.{Course}
 use Rattle.byte_calls.specs.Plans.{byte_recover}
-use Rattle.axle.specs.Interface.{code_of}
+use Rattle.byte_calls.specs.Interface.{code_of}
 use Rattle.byte_courses.specs.ByteCourse.{in_words, Found, bytes_through, codes_through}
 
 -- the number of an answer that is not a refusal
@@ -26,7 +25,7 @@ pub record ByteCourse (b : List ℕ) (s : Ordered (words_in b)) (k : ℕ) (x y m
   pub accepted : All NotRefusal (codes_through ms y)
   pub done : r ≡ 65536 + needed (byte_recover (bytes_through ms y))
   -- the words of the bytes, and the numbers of the answers, are those of the course in words
-  pub words : Course (words_in b) s k x (words_in y) ms last (words_in z) (A.Done (needed (byte_recover (bytes_through ms y))))
+  pub words : Course (words_in b) s k x (words_in y) ms last (words_in z) (Ok (Done (needed (byte_recover (bytes_through ms y)))))
   pub numbers : codes_through ms y ≡ map code_of (answers_through ms (words_in y))
   -- the final bytes are those of one whole recovery, so they do not depend on the cuts
   pub same : z ≡ run (byte_writes (all_stores (byte_recover y))) y

@@ -8,8 +8,11 @@ use mathlib.Core.Bool.{Bool, true, false}
 use lib.ListN.{length, get_or}
 use borrow.Author.Tests.{lt-ltb}
 use native.Mathlib.Omega.{arith}
+use Rattle.std.specs.Prelude.{Result, Ok, Err}
+use Rattle.layout.specs.declared.Refusal.{Refusal}
+use Rattle.layout.specs.declared.Refusal.TheVariants.{Unsound}
+use Rattle.requests.specs.declared.Look.{Look}
 use Rattle.layout.specs.declared.Layout.{Layout}
-use Rattle.layout.specs.declared.Opened.TheVariants as O
 use Rattle.layout.specs.Words.{InRange, layout_of, size_of, opened, ask, formatted}
 use Rattle.layout.proofs.Laws.{opened-open, open-opened}
 use Rattle.lists.specs.Lists.{Sound, SoundLists, Wiped}
@@ -18,39 +21,34 @@ use Rattle.lists.proofs.Unique.{list-sequence}
 use Rattle.lists.proofs.Decided.{sound-lists, sound-wiped, lists-sound}
 use Rattle.lists.proofs.Empty.{formatted-sound}
 use Rattle.requests.specs.declared.Site.{Site}
-use Rattle.requests.specs.declared.Sited.TheVariants.{At, Refused}
-use Rattle.requests.specs.declared.Looked.{Looked}
-use Rattle.requests.specs.declared.Looked.TheVariants as K
 use Rattle.requests.specs.declared.Request.TheVariants.{Check, Whole, Member}
 use Rattle.requests.specs.Requests.{site_in, site_of, member_at, look_of, with_look}
 use Rattle.requests.proofs.Laws.{look_at}
 use Rattle.edits.specs.Edited.{record_in}
 use Rattle.edits.proofs.Done.{looked}
-use Rattle.calls.specs.declared.Checked.TheVariants as C
-use Rattle.calls.specs.declared.Counted.TheVariants as L
 use Rattle.calls.specs.Calls.{check_answer, length_answer, read_words}
 use Rattle.calls.proofs.Cases.{check-at, length_at, read_at}
 
 -- a sound store passes questions 1 to 4 and 6
-pub sound-opened : (w : List ℕ) → Sound w → opened w ≡ O.Open (layout_of w)
+pub sound-opened : (w : List ℕ) → Sound w → opened w ≡ Ok (layout_of w)
 sound-opened w s = let o = s.ordered in open-opened w o.marked o.in_range o.exact
 
 pub sound-decided : (w : List ℕ) → Sound w → sound_of (layout_of w) w ≡ true
 sound-decided w s = lists-sound (layout_of w) s.ordered.in_range w s.ordered.lists s.wiped
 
 -- check's definition decides soundness
-pub sound-check : (w : List ℕ) → Sound w → check_answer w ≡ C.Sound
+pub sound-check : (w : List ℕ) → Sound w → check_answer w ≡ Ok tt
 unfolding site_in
 sound-check w s =
-    let e : site_of (layout_of w) w Check ≡ At (record { before = 0; cell = 0; after = 0; count = 0 }) = rw (sound-decided w s) in
+    let e : site_of (layout_of w) w Check ≡ Ok (record { before = 0; cell = 0; after = 0; count = 0 }) = rw (sound-decided w s) in
     sym (check-at w (sym (look_at w Check (sound-opened w s) e)))
 
 -- a store that passes questions 1 to 4 and is not sound is answered 6
-pub unsound-check : (w : List ℕ) (l : Layout) → opened w ≡ O.Open l → sound_of l w ≡ false → check_answer w ≡ C.Refused 6
+pub unsound-check : (w : List ℕ) (l : Layout) → opened w ≡ Ok l → sound_of l w ≡ false → check_answer w ≡ Err Unsound
 unfolding check_answer look_of site_in
 unsound-check w l o e = rw (o, e)
 
-pub decided-sound : (w : List ℕ) (l : Layout) → opened w ≡ O.Open l → sound_of l w ≡ true → Sound w
+pub decided-sound : (w : List ℕ) (l : Layout) → opened w ≡ Ok l → sound_of l w ≡ true → Sound w
 decided-sound w l o e =
     let q = opened-open w l o in
     let x = sound-lists l q.2 w e in
@@ -66,21 +64,23 @@ decided-sound w l o e =
       wiped = y.1;
     }
 
-pub check_sound : (w : List ℕ) → check_answer w ≡ C.Sound → Sound w
+pub check_sound : (w : List ℕ) → check_answer w ≡ Ok tt → Sound w
 unfolding check_answer site_in
 check_sound w = by (look_of w Check) refl
   where
-    yes-at : (l : Layout) (b : Bool) (t u : Site) → ask b (Refused 6) (At u) ≡ At t → b ≡ true
+    yes-at : (l : Layout) (b : Bool) (t u : Site) → ask b (Err Unsound) (Ok u) ≡ Ok t → b ≡ true
     yes-at l true t u e = refl
     yes-at l false t u e = let z : ◌≡◌ {A = ℕ} 0 1 = cc in absurd (omega arith)
 
-    by : (x : Looked) → look_of w Check ≡ x → with_look x C.Refused (λ l t. C.Sound) ≡ C.Sound → Sound w
-    by (K.Refused n) p e = let z : ◌≡◌ {A = ℕ} 0 1 = cc in absurd (omega arith)
-    by (K.At l t) p e =
+    by : (x : Result Look Refusal) → look_of w Check ≡ x → ◌≡◌ {A = Result (Unit {0}) Refusal} (with_look x Err (λ l t. Ok tt)) (Ok tt) → Sound w
+    by (Err n) p e = let z : ◌≡◌ {A = ℕ} 0 1 = cc in absurd (omega arith)
+    by (Ok o) p e =
+        let l = o.layout in
+        let t = o.site in
         let a = looked w Check l t p in
         decided-sound w l a.0 (yes-at l (sound_of l w) t (record { before = 0; cell = 0; after = 0; count = 0 }) a.1)
 
-pub check-decides : (w : List ℕ) → (check_answer w ≡ C.Sound) ↔ Sound w
+pub check-decides : (w : List ℕ) → (check_answer w ≡ Ok tt) ↔ Sound w
 check-decides w = (check_sound w, sound-check w)
 
 -- of a sound store: length is the sequence's length, read the record of the sequence's cell at the position
@@ -91,24 +91,24 @@ module _ (w : List ℕ) (s : Sound w) (k : ℕ) (h : k < (layout_of w).lists) wh
   members-are : sequence_of (layout_of w) w k ≡ members
   members-are = list-sequence (layout_of w) w k h members (s.ordered.lists.lists k h)
 
-  pub sound-length : length_answer w k ≡ L.Length (length members)
+  pub sound-length : length_answer w k ≡ Ok (length members)
   unfolding site_in
   sound-length =
-      let e : site_of (layout_of w) w (Whole k) ≡ At (record { before = k; cell = k; after = k; count = length (sequence_of (layout_of w) w k) }) =
+      let e : site_of (layout_of w) w (Whole k) ≡ Ok (record { before = k; cell = k; after = k; count = length (sequence_of (layout_of w) w k) }) =
       rw (lt-ltb k (layout_of w).lists h, sound-decided w s) in
       sym (length_at w k (sym (look_at w (Whole k) (sound-opened w s) e)))
-      ∙ ap (λ (x : List ℕ). L.Length (length x)) members-are
+      ∙ ap (λ (x : List ℕ). Ok (length x)) members-are
 
   pub sound-read : (p : ℕ) → p < length members → read_words w k p ≡ record_in (layout_of w) w (get_or members p 0)
   unfolding site_in member_at
   sound-read p g =
       let q : p < length (sequence_of (layout_of w) w k) = subst (λ (x : List ℕ). p < length x) (sym members-are) g in
       let x = sequence_of (layout_of w) w k in
-      let e : site_of (layout_of w) w (Member k p) ≡ At (record { before = get_or (k ∷ x) p 0; cell = get_or x p 0; after = get_or (x ++ k ∷ []) (p + 1) 0; count = length x }) =
+      let e : site_of (layout_of w) w (Member k p) ≡ Ok (record { before = get_or (k ∷ x) p 0; cell = get_or x p 0; after = get_or (x ++ k ∷ []) (p + 1) 0; count = length x }) =
       rw (lt-ltb k (layout_of w).lists h, sound-decided w s, lt-ltb p (length x) q) in
       sym (read_at w k p (sym (look_at w (Member k p) (sound-opened w s) e))).0
       ∙ ap (λ (x : List ℕ). record_in (layout_of w) w (get_or x p 0)) members-are
 
 -- a formatted store is sound, and each list is empty
-pub formatted-check : (l : Layout) → InRange l → check_answer (formatted l) ≡ C.Sound
+pub formatted-check : (l : Layout) → InRange l → check_answer (formatted l) ≡ Ok tt
 formatted-check l r = sound-check (formatted l) (formatted-sound l r)

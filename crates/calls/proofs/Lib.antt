@@ -3,5 +3,5 @@ pub mod Cases
 pub mod Numbers
 pub mod Sites
 pub mod Worn
-pub mod Figures
+pub mod Beforehand
 pub mod Calls

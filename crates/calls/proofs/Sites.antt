@@ -14,9 +14,8 @@ use Rattle.layout.proofs.Laws.{opened-open, node-fits}
 use Rattle.lists.specs.Decide.{view_of, sequence_of}
 use Rattle.lists.proofs.Unique.{all-nodes}
 use Rattle.requests.specs.declared.Site.{Site}
-use Rattle.requests.specs.declared.Looked.TheVariants as K
 use Rattle.requests.specs.declared.Request.TheVariants.{Member, Gap, Mark}
-use Rattle.requests.specs.Requests.{look_of, around}
+use Rattle.requests.specs.Requests.{look_of, around, at_site}
 use Rattle.requests.proofs.Laws.{opened-laid}
 use Rattle.requests.proofs.Turn.{around-nodes}
 use Rattle.edits.specs.Edits.{Placed}
@@ -43,7 +42,7 @@ module _ (l : Layout) (w : List ℕ) (k : ℕ) (h : k < l.lists) where
   after p q = cell (get_or (S ++ k ∷ []) p 0) (in-front k S (at_in (S ++ k ∷ []) p (omega (arith, length-append S (k ∷ [])))))
 
 module _ (w : List ℕ) (k p : ℕ) (l : Layout) (t : Site) where
-  pub member-placed : look_of w (Member k p) ≡ K.At l t → Placed l k t × (length w ≡ size_of l)
+  pub member-placed : look_of w (Member k p) ≡ at_site l t → Placed l k t × (length w ≡ size_of l)
   member-placed e =
       let a = looked w (Member k p) l t e in
       let o = opened-open w l a.0 in
@@ -60,7 +59,7 @@ module _ (w : List ℕ) (k p : ℕ) (l : Layout) (t : Site) where
         o.3,
       )
 
-  pub gap-placed : (c m : ℕ) → look_of w (Gap k p c m) ≡ K.At l t → Placed l k t × (m ≡ tail_words l) × (length w ≡ size_of l)
+  pub gap-placed : (c m : ℕ) → look_of w (Gap k p c m) ≡ at_site l t → Placed l k t × (m ≡ tail_words l) × (length w ≡ size_of l)
   gap-placed c m e =
       let a = looked w (Gap k p c m) l t e in
       let o = opened-open w l a.0 in
@@ -80,7 +79,7 @@ module _ (w : List ℕ) (k p : ℕ) (l : Layout) (t : Site) where
       )
 
 -- the node to mark
-pub mark-placed : (w : List ℕ) (c : ℕ) (l : Layout) (t : Site) → look_of w (Mark c) ≡ K.At l t → Laid l w × Node l t.cell
+pub mark-placed : (w : List ℕ) (c : ℕ) (l : Layout) (t : Site) → look_of w (Mark c) ≡ at_site l t → Laid l w × Node l t.cell
 mark-placed w c l t e =
     let a = looked w (Mark c) l t e in
     let f = mark-facts l w c t a.1 in

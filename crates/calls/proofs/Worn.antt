@@ -4,6 +4,9 @@ use mathlib.Core.Path.{◌≡◌, refl, ap, ◌∙◌, sym, subst}
 use mathlib.Core.List.{List, [], ◌∷◌, ◌++◌}
 use lib.ListN.{length, get_or, take}
 use Rattle.stores.specs.Stores.{Plan, stores, words_after}
+use Rattle.std.specs.Prelude.{Result, Ok, Err}
+use Rattle.layout.specs.declared.Refusal.{Refusal}
+use Rattle.requests.specs.declared.Look.{Look}
 use Rattle.layout.specs.declared.Layout.{Layout}
 use Rattle.layout.specs.Words.{layout_of}
 use Rattle.layout.proofs.Laws.{opened-open}
@@ -11,8 +14,6 @@ use Rattle.lists.specs.Lists.{KeepsWorn}
 use Rattle.lists.proofs.Unique.{list-sequence}
 use Rattle.lists.proofs.Decided.{sound-lists}
 use Rattle.requests.specs.declared.Site.{Site}
-use Rattle.requests.specs.declared.Looked.{Looked}
-use Rattle.requests.specs.declared.Looked.TheVariants as K
 use Rattle.requests.specs.declared.Request.TheVariants.{Member, Gap, Gaps}
 use Rattle.requests.specs.Requests.{look_of}
 use Rattle.requests.specs.Sites.{gap_site}
@@ -38,9 +39,11 @@ module _ (w : List ℕ) (k p : ℕ) where
     pub insert-worn : KeepsWorn (layout_of w) w (words_after (insert_plan w k p c words) m w)
     insert-worn = by (look_of w (Gap k p c (length words))) refl
       where
-        by : (x : Looked) → look_of w (Gap k p c (length words)) ≡ x → KeepsWorn (layout_of w) w (words_after (insert_plan w k p c words) m w)
-        by (K.Refused n) e = plan-keeps m w (insert-refused w k p c words e) refl (none-keeps (layout_of w) w)
-        by (K.At l t) e =
+        by : (x : Result Look Refusal) → look_of w (Gap k p c (length words)) ≡ x → KeepsWorn (layout_of w) w (words_after (insert_plan w k p c words) m w)
+        by (Err n) e = plan-keeps m w (insert-refused w k p c words e) refl (none-keeps (layout_of w) w)
+        by (Ok o) e =
+            let l = o.layout in
+            let t = o.site in
             let a = looked w (Gap k p c (length words)) l t e in
             let o = opened-open w l a.0 in
             let f = gap-facts l w k p c (length words) t a.1 in
@@ -55,9 +58,11 @@ module _ (w : List ℕ) (k p : ℕ) where
     pub several-worn : KeepsWorn (layout_of w) w (words_after (several_plan w k p c words) m w)
     several-worn = by (look_of w (Gaps k p c (length words))) refl
       where
-        by : (x : Looked) → look_of w (Gaps k p c (length words)) ≡ x → KeepsWorn (layout_of w) w (words_after (several_plan w k p c words) m w)
-        by (K.Refused n) e = plan-keeps m w (several-refused w k p c words e) refl (none-keeps (layout_of w) w)
-        by (K.At l t) e =
+        by : (x : Result Look Refusal) → look_of w (Gaps k p c (length words)) ≡ x → KeepsWorn (layout_of w) w (words_after (several_plan w k p c words) m w)
+        by (Err n) e = plan-keeps m w (several-refused w k p c words e) refl (none-keeps (layout_of w) w)
+        by (Ok o) e =
+            let l = o.layout in
+            let t = o.site in
             let r = several-room w k p c (length words) l t e in
             let cells : List ℕ → Plan = λ cs. stores (chain l k t.before t.after t.count (take (length words / l.width) cs) words) in
             plan-keeps m w (several-at w k p c words e ∙ ap cells r.cells) (opened-open w l (looked w (Gaps k p c (length words)) l t e).0).0
@@ -69,9 +74,11 @@ module _ (w : List ℕ) (k p : ℕ) where
       site : List ℕ → Site
       site r = record { before = get_or (k ∷ r) p 0; cell = get_or r p 0; after = get_or (r ++ k ∷ []) (p + 1) 0; count = length r }
 
-      by : (x : Looked) → look_of w (Member k p) ≡ x → KeepsWorn (layout_of w) w (words_after (delete_plan w k p) m w)
-      by (K.Refused n) e = plan-keeps m w (delete-refused w k p e) refl (none-keeps (layout_of w) w)
-      by (K.At l t) e =
+      by : (x : Result Look Refusal) → look_of w (Member k p) ≡ x → KeepsWorn (layout_of w) w (words_after (delete_plan w k p) m w)
+      by (Err n) e = plan-keeps m w (delete-refused w k p e) refl (none-keeps (layout_of w) w)
+      by (Ok o) e =
+          let l = o.layout in
+          let t = o.site in
           let a = looked w (Member k p) l t e in
           let o = opened-open w l a.0 in
           let f = member-facts l w k p t a.1 in

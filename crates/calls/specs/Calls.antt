@@ -1,36 +1,30 @@
 -- What each call answers, with which number, and what it leaves in the lent words: its questions in order, the first no decides.
-use Rattle.std.specs.Prelude.{ℕ, ◌/◌, List, [], eqb, length, take, drop}
-use Rattle.calls.specs.declared.Needed.{Needed}
+use Rattle.std.specs.Prelude.{ℕ, ◌/◌, List, [], eqb, length, take, drop, Result, Ok, Err}
 use Rattle.stores.specs.Stores.{Plan, refuse, stores, in_row}
 use Rattle.layout.specs.declared.Layout.{Layout}
-use Rattle.layout.specs.Words.{ask, in_range, size_of, record_at, formatted}
-use Rattle.requests.specs.declared.Looked.{Looked}
+use Rattle.layout.specs.declared.Refusal.{Refusal}
+use Rattle.layout.specs.declared.Refusal.TheVariants.{Range, Size}
+use Rattle.layout.specs.Words.{ask, in_range, size_of, record_at, formatted, number_of}
+use Rattle.requests.specs.declared.Look.{Look}
 use Rattle.requests.specs.declared.Request.TheVariants.{Check, Whole, Member, Gap, Gaps, Mark}
 use Rattle.requests.specs.Requests.{look_of, with_look}
-use Rattle.calls.specs.declared.Foretold.{Foretold}
-use Rattle.calls.specs.declared.Foretold.TheVariants as T
+use Rattle.calls.specs.declared.Figures.{Figures}
 use Rattle.edits.specs.Edits.{insert_writes, chain, free_from, delete_writes, mark_writes}
 use Rattle.recovery.specs.Plan.{recover_plan}
 use Rattle.calls.specs.Answers.{formatted_words, needed_of, figures_of}
-use Rattle.calls.specs.declared.Formatted.{Formatted}
-use Rattle.calls.specs.declared.Formatted.TheVariants as F
-use Rattle.calls.specs.declared.Checked.{Checked}
-use Rattle.calls.specs.declared.Checked.TheVariants as C
-use Rattle.calls.specs.declared.Counted.{Counted}
-use Rattle.calls.specs.declared.Counted.TheVariants as L
 
 -- format: 3 of the numbers given to it, 4
-unfoldable pub format_answer : Layout → List ℕ → Formatted
+unfoldable pub format_answer : Layout → List ℕ → Result (Unit {0}) Refusal
 format_answer l w =
-    ask (in_range l) (F.Refused 3)
-    (ask (eqb (length w) (size_of l)) (F.Refused 4)
-    F.Done)
+    ask (in_range l) (Err Range)
+    (ask (eqb (length w) (size_of l)) (Err Size)
+    (Ok tt))
 
 -- its number, 0 for done
 unfoldable pub format_number : Layout → List ℕ → ℕ
 format_number l w =
-    ask (in_range l) 3
-    (ask (eqb (length w) (size_of l)) 4
+    ask (in_range l) (number_of Range)
+    (ask (eqb (length w) (size_of l)) (number_of Size)
     0)
 
 -- the words that format leaves
@@ -40,25 +34,25 @@ format_words l w = formatted_words l w (format_answer l w)
 -- format as a list of stores: every word of the formatted store, from the front
 unfoldable pub format_plan : Layout → List ℕ → Plan
 format_plan l w =
-    ask (in_range l) (refuse 3)
-    (ask (eqb (length w) (size_of l)) (refuse 4)
+    ask (in_range l) (refuse Range)
+    (ask (eqb (length w) (size_of l)) (refuse Size)
     (stores (in_row 0 (formatted l))))
 
 -- the number of the first no, 0 for none
-abbrev pub look_number : Looked → ℕ
-look_number x = with_look x (λ n. n) (λ l t. 0)
+abbrev pub look_number : Result Look Refusal → ℕ
+look_number x = with_look x (λ n. number_of n) (λ l t. 0)
 
 -- check: 1 to 4, 6
-unfoldable pub check_answer : List ℕ → Checked
-check_answer w = with_look (look_of w Check) C.Refused (λ l t. C.Sound)
+unfoldable pub check_answer : List ℕ → Result (Unit {0}) Refusal
+check_answer w = with_look (look_of w Check) Err (λ l t. Ok tt)
 
 -- its number, 0 for sound
 unfoldable pub check_number : List ℕ → ℕ
 check_number w = look_number (look_of w Check)
 
 -- length of list k: 1 to 4, 5, 6
-unfoldable pub length_answer : List ℕ → ℕ → Counted
-length_answer w k = with_look (look_of w (Whole k)) L.Refused (λ l t. L.Length t.count)
+unfoldable pub length_answer : List ℕ → ℕ → Result ℕ Refusal
+length_answer w k = with_look (look_of w (Whole k)) Err (λ l t. Ok t.count)
 
 -- its number, 0 for none, and the length, 0 if refused
 unfoldable pub length_number : List ℕ → ℕ → ℕ
@@ -93,12 +87,12 @@ several_plan w k p c words =
 
 -- "For an insert of several records, give the first and the last cell in order of use and the number of word stores" of this plan; "where it
 -- would refuse, its number is given"
-unfoldable pub several_figures : List ℕ → ℕ → ℕ → ℕ → List ℕ → Foretold
+unfoldable pub several_figures : List ℕ → ℕ → ℕ → ℕ → List ℕ → Result Figures Refusal
 several_figures w k p c words =
-    with_look (look_of w (Gaps k p c (length words))) T.Refused
+    with_look (look_of w (Gaps k p c (length words))) Err
     (λ l t.
     let cells = free_from l w c (length words / l.width) in
-    figures_of cells (length (chain l k t.before t.after t.count cells words)))
+    Ok (figures_of cells (length (chain l k t.before t.after t.count cells words))))
 
 -- delete from list k at position p: 1 to 4, 5, 6, 7
 unfoldable pub delete_plan : List ℕ → ℕ → ℕ → Plan
@@ -110,5 +104,5 @@ unfoldable pub mark_plan : List ℕ → ℕ → Plan
 mark_plan w c = with_look (look_of w (Mark c)) refuse (λ l t. stores (mark_writes l t.cell))
 
 -- "for a recovery, the number of stores it will make"
-abbrev pub recover_needed : List ℕ → Needed
+abbrev pub recover_needed : List ℕ → Result ℕ Refusal
 recover_needed w = needed_of (recover_plan w)

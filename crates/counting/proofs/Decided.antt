@@ -2,22 +2,20 @@
 use Prim.Native.Nat.{ℕ, zero, suc, ◌+◌, ◌<◌, ◌≤◌}
 use mathlib.Core.Path.{◌≡◌, refl, ap, ◌∙◌, sym, subst}
 use mathlib.Core.List.{List}
-use mathlib.Core.Bool.{Bool, true, false}
 use mathlib.Core.Logic.{◌⊎◌, inl, inr, ⊎_elim}
 use native.Mathlib.Decide.{ℕ_discrete}
 use native.Mathlib.Omega.{arith}
 use native.Mathlib.Nat.{eq-or-lt_of_le}
-use lib.Dec.{eqb}
 use lib.ListN.{length}
-use borrow.Author.Tests.{eqb-false}
-use Rattle.stores.specs.Stores.{Write, refuse, stores, plan_number}
+use Rattle.std.specs.Prelude.{Option, Some, None, Result, Ok, Err}
+use Rattle.stores.specs.Stores.{Write, refuse, stores}
 use Rattle.layout.specs.declared.Layout.{Layout}
-use Rattle.layout.specs.declared.Opened.{Opened}
-use Rattle.layout.specs.declared.Opened.TheVariants as O
-use Rattle.layout.specs.Words.{opened, after_open, ask}
+use Rattle.layout.specs.declared.Refusal.{Refusal}
+use Rattle.layout.specs.declared.Refusal.TheVariants.{NoFit, TwoFit}
+use Rattle.layout.specs.Words.{opened, after_open}
 use Rattle.lists.specs.Lists.{asked, others_asked, count_asked}
 use Rattle.recovery.specs.Fits.{wrong, Fits, Counted, Chosen, Two, Undecided, Fit, none, only, several, fit_of, Says}
-use Rattle.recovery.specs.Plan.{recover_stores, fitting_of, fit_number, refusal_from, recover_of, recover_plan}
+use Rattle.recovery.specs.Plan.{recover_stores, fitting_of, fit_refusal, refusal_from, unless_refused, recover_of, recover_plan}
 use Rattle.recovery.proofs.Required.{wrong-length, agrees-wrong, wrong-agrees}
 use Rattle.recovery.proofs.Candidates.{sequence-dec, right-count, decided, chosen-beside, beside-chosen, fit-accepted}
 use Rattle.recovery.proofs.Suffix.{right_unique}
@@ -26,22 +24,22 @@ use Rattle.counting.specs.Counting.{Refused, FitsBefore, Before, SeveralBefore}
 
 -- of the n lists from k on, the first for which no sequence is chosen
 module _ (l : Layout) (w : List ℕ) where
-  abbrev Why : ℕ → ℕ → Type 0
-  Why i m = ((m ≡ 11) × ((s : List ℕ) → Fits l w i s → ⊥)) ⊎ ((m ≡ 12) × Undecided l w i)
+  abbrev Why : ℕ → Refusal → Type 0
+  Why i m = ((m ≡ NoFit) × ((s : List ℕ) → Fits l w i s → ⊥)) ⊎ ((m ≡ TwoFit) × Undecided l w i)
 
   -- list i is, and a sequence is chosen for each from k on before it
-  abbrev First : ℕ → ℕ → ℕ → Type 0
+  abbrev First : ℕ → ℕ → Refusal → Type 0
   First k end m = (i : ℕ) × (i < end) × ((j : ℕ) → k ≤ j → j < i → (s : List ℕ) × Fits l w j s × Chosen l w j s) × Why i m
 
-  first : (k n m : ℕ) → k + n ≤ l.lists → refusal_from l w k n ≡ m → (m ≡ 0 → ⊥) → First k (k + n) m
+  first : (k n : ℕ) (m : Refusal) → k + n ≤ l.lists → refusal_from l w k n ≡ Some m → First k (k + n) m
   unfolding refusal_from
-  first k zero m h e z = absurd (z (sym e))
-  first k (suc n) m h e z = by (λ q. first (suc k) n m (omega arith) q z) (fit_of l w k) (decided l w k (omega arith)) e
+  first k zero m h e = let y : ◌≡◌ {A = ℕ} 0 1 = cc in absurd (omega arith)
+  first k (suc n) m h e = by (λ q. first (suc k) n m (omega arith) q) (fit_of l w k) (decided l w k (omega arith)) e
     where
-      by : (refusal_from l w (suc k) n ≡ m → First (suc k) (suc k + n) m) → (x : Fit) → Says l w k x → fit_number x (refusal_from l w (suc k) n) ≡ m
+      by : (refusal_from l w (suc k) n ≡ Some m → First (suc k) (suc k + n) m) → (x : Fit) → Says l w k x → fit_refusal x (refusal_from l w (suc k) n) ≡ Some m
           → First k (k + suc n) m
-      by next none d q = (k, omega arith, (λ j a b. absurd (omega arith)), inl (sym q, d))
-      by next several d q = (k, omega arith, (λ j a b. absurd (omega arith)), inr (sym q, d))
+      by next none d q = (k, omega arith, (λ j a b. absurd (omega arith)), inl (cc, d))
+      by next several d q = (k, omega arith, (λ j a b. absurd (omega arith)), inr (cc, d))
       by next (only s) d q =
           let r = next q in (
             r.0,
@@ -51,26 +49,24 @@ module _ (l : Layout) (w : List ℕ) where
             r.3,
           )
 
-  list-refused : (m : ℕ) → refusal_from l w 0 l.lists ≡ m → (m ≡ 0 → ⊥) → Refused l w m
-  list-refused m e z =
-      let r = first 0 l.lists m (omega arith) e z in
+  list-refused : (m : Refusal) → refusal_from l w 0 l.lists ≡ Some m → Refused l w m
+  list-refused m e =
+      let r = first 0 l.lists m (omega arith) e in
       record { list = r.0; below = omega (arith, r.1); before = λ j h. r.2 j (omega arith) h; number = r.3 }
 
-pub refuses : (w : List ℕ) (n : ℕ) → recover_plan w ≡ refuse n → (opened w ≡ O.Refused n) ⊎ ((l : Layout) × (opened w ≡ O.Open l) × Refused l w n)
+pub refuses : (w : List ℕ) (n : Refusal) → recover_plan w ≡ refuse n → (opened w ≡ Err n) ⊎ ((l : Layout) × (opened w ≡ Ok l) × Refused l w n)
 unfolding recover_plan recover_of
 refuses w n = by (opened w) refl
   where
-    asks : (l : Layout) (b : Bool) → eqb (refusal_from l w 0 l.lists) 0 ≡ b
-        → ask b (refuse (refusal_from l w 0 l.lists)) (stores (recover_stores l w (fitting_of l w))) ≡ refuse n → Refused l w n
-    asks l true z e = let y : ◌≡◌ {A = ℕ} 0 1 = cc in absurd (omega arith)
-    asks l false z e =
-        let m : refusal_from l w 0 l.lists ≡ n = ap plan_number e in
-        list-refused l w n m (λ q. eqb-false _ _ z (m ∙ q))
+    asks : (l : Layout) (r : Option Refusal) → refusal_from l w 0 l.lists ≡ r
+        → unless_refused r (stores (recover_stores l w (fitting_of l w))) ≡ refuse n → Refused l w n
+    asks l None z e = let y : ◌≡◌ {A = ℕ} 0 1 = cc in absurd (omega arith)
+    asks l (Some m) z e = let q : m ≡ n = cc in list-refused l w n (z ∙ ap Some q)
 
-    by : (o : Opened) → opened w ≡ o → after_open o refuse (λ l. recover_of l w) ≡ refuse n
-        → (opened w ≡ O.Refused n) ⊎ ((l : Layout) × (opened w ≡ O.Open l) × Refused l w n)
-    by (O.Refused m) p e = inl (p ∙ ap O.Refused (ap plan_number e))
-    by (O.Open l) p e = inr (l, p, asks l (eqb (refusal_from l w 0 l.lists) 0) refl e)
+    by : (o : Result Layout Refusal) → opened w ≡ o → after_open o refuse (λ l. recover_of l w) ≡ refuse n
+        → (opened w ≡ Err n) ⊎ ((l : Layout) × (opened w ≡ Ok l) × Refused l w n)
+    by (Err m) p e = let q : m ≡ n = cc in inl (p ∙ ap Err q)
+    by (Ok l) p e = inr (l, p, asks l (refusal_from l w 0 l.lists) refl e)
 
 -- Sequences that fitted while the count counted: they fit now, and beside another that fits now such a one lacks a link, so its count is right.
 module _ (l : Layout) (w : List ℕ) (k : ℕ) (h : k < l.lists) where
@@ -133,21 +129,21 @@ before w ps b =
 
 -- the first list with a reason decides
 refused-at : (l : Layout) (w : List ℕ) (k n i : ℕ) → k ≤ i → i < k + n
-    → ((j : ℕ) → k ≤ j → j < i → (s : List ℕ) × (fit_of l w j ≡ only s)) → fit_of l w i ≡ several → refusal_from l w k n ≡ 12
+    → ((j : ℕ) → k ≤ j → j < i → (s : List ℕ) × (fit_of l w j ≡ only s)) → fit_of l w i ≡ several → refusal_from l w k n ≡ Some TwoFit
 unfolding refusal_from
 refused-at l w k zero i a b e z = absurd (omega arith)
 refused-at l w k (suc n) i a b e z =
-    ⊎_elim (λ q. ap (λ (x : Fit). fit_number x (refusal_from l w (suc k) n)) (ap (fit_of l w) q ∙ z))
+    ⊎_elim (λ q. ap (λ (x : Fit). fit_refusal x (refusal_from l w (suc k) n)) (ap (fit_of l w) q ∙ z))
     (λ q.
-    ap (λ (x : Fit). fit_number x (refusal_from l w (suc k) n)) (e k (omega arith) q).1
+    ap (λ (x : Fit). fit_refusal x (refusal_from l w (suc k) n)) (e k (omega arith) q).1
     ∙ refused-at l w (suc k) n i q (omega arith) (λ j c d. e j (omega arith) d) z)
     (eq-or-lt_of_le a)
 
-pub several-before : (w : List ℕ) → SeveralBefore w → recover_plan w ≡ refuse 12
+pub several-before : (w : List ℕ) → SeveralBefore w → recover_plan w ≡ refuse TwoFit
 unfolding recover_plan recover_of
 several-before w b =
     let l = b.layout in
-    let e : refusal_from l w 0 l.lists ≡ 12 =
+    let e : refusal_from l w 0 l.lists ≡ Some TwoFit =
     refused-at l w 0 l.lists b.list (omega arith) (omega (arith, b.below))
     (λ j _ h. let r = b.earlier j h in (r.0, only-before l w j (omega (arith, b.below)) r.0 r.1 r.2))
     (two-before l w b.list b.below b.two) in

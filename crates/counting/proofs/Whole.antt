@@ -8,15 +8,15 @@ use native.Mathlib.Decide.{ℕ_discrete}
 use native.Mathlib.Omega.{arith}
 use lib.ListN.{length, get_or, set, length-set}
 use lib.Seq.{get_or-set_other}
+use Rattle.std.specs.Prelude.{Ok}
 use Rattle.sequences.specs.Sequence.{◌∈◌}
 use Rattle.sequences.proofs.Members.{all_in}
-use Rattle.calls.specs.declared.Answer.TheVariants as A
 use Rattle.calls.specs.Answers.{answer_of}
+use Rattle.stores.specs.declared.Outcome.TheVariants.{Done}
 use Rattle.stores.specs.Stores.{Write, write, run, Plan, words_after}
-use Rattle.calls.proofs.Answers.{answer-done}
+use Rattle.stores.proofs.Outcomes.{outcome-done}
 use Rattle.stores.proofs.Laws.{run-word, length_run, applied-all}
 use Rattle.layout.specs.declared.Layout.{Layout}
-use Rattle.layout.specs.declared.Opened.TheVariants as O
 use Rattle.layout.specs.Words.{link_words, count_word, first_node, cell_at, ident_at, count_at, is_worn, layout_of, opened}
 use Rattle.layout.proofs.Laws.{open-opened}
 use Rattle.layout.proofs.Apart.{cell-behind, words-apart, links-words, words-header}
@@ -53,7 +53,7 @@ module _ (w : List ℕ) (s : Sound w) (k c v n : ℕ) (h : k < (layout_of w).lis
   head : (a : ℕ) → a < 8 → get_or w' a 0 ≡ get_or w a 0
   head a g = kept a (λ e. omega (arith, cell-behind l c, ident-word l c)) (λ e. omega (arith, cell-behind l k, count-word l k h))
 
-  opens : opened w' ≡ O.Open l
+  opens : opened w' ≡ Ok l
   opens = same-opened w w' head size ∙ open-opened w s.ordered.marked s.ordered.in_range s.ordered.exact
 
   accepted : Accepted l w' t
@@ -129,9 +129,9 @@ module _ (w : List ℕ) (s : Sound w) (k c v n : ℕ) (h : k < (layout_of w).lis
   two : length ps ≤ 2
   two = omega (arith, number, differing-set (set w (ident_at l c) v) w (count_at l k) n, differing-set w w (ident_at l c) v, differing-self w)
 
-  pub comes_back : (m : ℕ) → 2 ≤ m → (answer_of (recover_plan w') m ≡ A.Done (differing w' w)) × (words_after (recover_plan w') m w' ≡ w)
+  pub comes_back : (m : ℕ) → 2 ≤ m → (answer_of (recover_plan w') m ≡ Ok (Done (differing w' w))) × (words_after (recover_plan w') m w' ≡ w)
   comes_back m g =
-      subst (λ (p : Plan). (answer_of p m ≡ A.Done (differing w' w)) × (words_after p m w' ≡ w)) (sym (accepted-plan l w' t opens accepted)) (
-        sym (answer-done ps m (omega (arith, two))) ∙ ap A.Done number,
+      subst (λ (p : Plan). (answer_of p m ≡ Ok (Done (differing w' w))) × (words_after p m w' ≡ w)) (sym (accepted-plan l w' t opens accepted)) (
+        ap Ok (sym (outcome-done ps m (omega (arith, two))) ∙ ap Done number),
         applied-all ps m w' (omega (arith, two)) ∙ restored,
       )

@@ -4,18 +4,19 @@ use mathlib.Core.Path.{◌≡◌, refl, ap, ◌∙◌, sym, subst}
 use mathlib.Core.List.Memᴰ
 use mathlib.Core.List.{List}
 use lib.ListN.{length}
+use Rattle.std.specs.Prelude.{Result, Ok, Err}
 use Rattle.sequences.specs.Sequence.{◌∈◌}
 use Rattle.sequences.proofs.Members.{all_in}
 use Rattle.stores.specs.Stores.{Plan}
 use Rattle.layout.specs.declared.Layout.{Layout}
+use Rattle.layout.specs.declared.Refusal.{Refusal}
 use Rattle.layout.specs.Words.{tail_words, Node, layout_of}
 use Rattle.lists.specs.Lists.{Ordered}
 use Rattle.lists.specs.Decide.{view_of}
+use Rattle.requests.specs.declared.Look.{Look}
 use Rattle.requests.specs.declared.Site.{Site}
-use Rattle.requests.specs.declared.Looked.{Looked}
-use Rattle.requests.specs.declared.Looked.TheVariants as K
 use Rattle.requests.specs.declared.Request.TheVariants.{Member, Gap, Gaps}
-use Rattle.requests.specs.Requests.{around, look_of, FirstFree}
+use Rattle.requests.specs.Requests.{around, look_of, FirstFree, at_site}
 use Rattle.requests.proofs.Turn.{around-nodes}
 use Rattle.edits.specs.Edits.{insert_writes, chain, delete_writes, free_from}
 use Rattle.edits.proofs.Done.{gap-facts, member-facts, its-layout, its-site, its-sequence}
@@ -37,7 +38,7 @@ module _ (w : List ℕ) (s : Ordered w) where
   abbrev LeftBy : Edit → Plan → Type 0
   LeftBy e p = Left w s (named e) (due l e) (all_stores p)
 
-  insert-left : (k p c : ℕ) (words : List ℕ) (t : Site) → look_of w (Gap k p c (length words)) ≡ K.At l t
+  insert-left : (k p c : ℕ) (words : List ℕ) (t : Site) → look_of w (Gap k p c (length words)) ≡ at_site l t
       → Left w s k (due l (insert k p c words)) (insert_writes l k t words)
   insert-left k p c words t e =
       let f = gap-facts l w k p c (length words) t (its-site w s k p l t (Gap k p c (length words)) e) in
@@ -47,7 +48,7 @@ module _ (w : List ℕ) (s : Ordered w) where
       (inserts f.list p (subst (λ (x : List ℕ). p ≤ length x) q f.position) t.cell (first-node l w c t.cell f.start f.first)
       f.first.free words f.size)
 
-  several-left : (k p c : ℕ) (words : List ℕ) (t : Site) → look_of w (Gaps k p c (length words)) ≡ K.At l t
+  several-left : (k p c : ℕ) (words : List ℕ) (t : Site) → look_of w (Gaps k p c (length words)) ≡ at_site l t
       → Left w s k (due l (several k p c words))
       (chain l k t.before t.after t.count (free_from l w c (length words / l.width)) words)
   several-left k p c words t e =
@@ -59,7 +60,7 @@ module _ (w : List ℕ) (s : Ordered w) where
       (inserts_all (gaps-looked l w k p c m t a).list p (gaps-position l w s.lists k p c m t a) (free_from l w c (m / l.width))
       (gaps-cells l w s.lists k p c m t a) words (gaps-words l w s.lists k p c m t a)))
 
-  delete-left : (k p : ℕ) (t : Site) → look_of w (Member k p) ≡ K.At l t → Left w s k (due l (delete k p)) (delete_writes l k t)
+  delete-left : (k p : ℕ) (t : Site) → look_of w (Member k p) ≡ at_site l t → Left w s k (due l (delete k p)) (delete_writes l k t)
   delete-left k p t e =
       let f = member-facts l w k p t (its-site w s k p l t (Member k p) e) in
       let q = its-sequence w s k p l t f.list in
@@ -69,24 +70,30 @@ module _ (w : List ℕ) (s : Ordered w) where
   pub call-left : (e : Edit) → LeftBy e (edit_plan w e)
   call-left (insert k p c words) = by (look_of w (Gap k p c (length words))) refl
     where
-      by : (x : Looked) → look_of w (Gap k p c (length words)) ≡ x → LeftBy (insert k p c words) (edit_plan w (insert k p c words))
-      by (K.Refused n) q = subst (LeftBy (insert k p c words)) (sym (insert-refused w k p c words q)) (nothing (due l (insert k p c words)))
-      by (K.At a t) q =
-          let r : look_of w (Gap k p c (length words)) ≡ K.At l t =
-          q ∙ ap (λ (b : Layout). K.At b t) (its-layout w s k p a t (Gap k p c (length words)) q) in
+      by : (x : Result Look Refusal) → look_of w (Gap k p c (length words)) ≡ x → LeftBy (insert k p c words) (edit_plan w (insert k p c words))
+      by (Err n) q = subst (LeftBy (insert k p c words)) (sym (insert-refused w k p c words q)) (nothing (due l (insert k p c words)))
+      by (Ok o) q =
+          let a = o.layout in
+          let t = o.site in
+          let r : look_of w (Gap k p c (length words)) ≡ at_site l t =
+          q ∙ ap (λ (b : Layout). at_site b t) (its-layout w s k p a t (Gap k p c (length words)) q) in
           subst (LeftBy (insert k p c words)) (sym (insert-at w k p c words r)) (insert-left k p c words t r)
   call-left (several k p c words) = by (look_of w (Gaps k p c (length words))) refl
     where
-      by : (x : Looked) → look_of w (Gaps k p c (length words)) ≡ x → LeftBy (several k p c words) (edit_plan w (several k p c words))
-      by (K.Refused n) q = subst (LeftBy (several k p c words)) (sym (several-refused w k p c words q)) (nothing (due l (several k p c words)))
-      by (K.At a t) q =
-          let r : look_of w (Gaps k p c (length words)) ≡ K.At l t =
-          q ∙ ap (λ (b : Layout). K.At b t) (its-layout w s k p a t (Gaps k p c (length words)) q) in
+      by : (x : Result Look Refusal) → look_of w (Gaps k p c (length words)) ≡ x → LeftBy (several k p c words) (edit_plan w (several k p c words))
+      by (Err n) q = subst (LeftBy (several k p c words)) (sym (several-refused w k p c words q)) (nothing (due l (several k p c words)))
+      by (Ok o) q =
+          let a = o.layout in
+          let t = o.site in
+          let r : look_of w (Gaps k p c (length words)) ≡ at_site l t =
+          q ∙ ap (λ (b : Layout). at_site b t) (its-layout w s k p a t (Gaps k p c (length words)) q) in
           subst (LeftBy (several k p c words)) (sym (several-at w k p c words r)) (several-left k p c words t r)
   call-left (delete k p) = by (look_of w (Member k p)) refl
     where
-      by : (x : Looked) → look_of w (Member k p) ≡ x → LeftBy (delete k p) (edit_plan w (delete k p))
-      by (K.Refused n) q = subst (LeftBy (delete k p)) (sym (delete-refused w k p q)) (nothing (due l (delete k p)))
-      by (K.At a t) q =
-          let r : look_of w (Member k p) ≡ K.At l t = q ∙ ap (λ (b : Layout). K.At b t) (its-layout w s k p a t (Member k p) q) in
+      by : (x : Result Look Refusal) → look_of w (Member k p) ≡ x → LeftBy (delete k p) (edit_plan w (delete k p))
+      by (Err n) q = subst (LeftBy (delete k p)) (sym (delete-refused w k p q)) (nothing (due l (delete k p)))
+      by (Ok o) q =
+          let a = o.layout in
+          let t = o.site in
+          let r : look_of w (Member k p) ≡ at_site l t = q ∙ ap (λ (b : Layout). at_site b t) (its-layout w s k p a t (Member k p) q) in
           subst (LeftBy (delete k p)) (sym (delete-at w k p r)) (delete-left k p t r)

@@ -5,8 +5,7 @@ use mathlib.Core.List.{List, [], ◌∷◌, ◌++◌}
 use native.Mathlib.Numerals.{add-one}
 use lib.ListN.{length, get_or, take}
 use lib.Seq.{take-suc, take_all}
-use Rattle.calls.specs.declared.Answer.{Answer}
-use Rattle.calls.specs.Answers.{answer_of}
+use Rattle.calls.specs.Answers.{answer_of, Answer}
 use Rattle.stores.specs.Stores.{words_after}
 use Rattle.recovery.specs.Plan.{recover_plan}
 use Rattle.courses.specs.Course.{words_through}

@@ -3,17 +3,15 @@
 use Prim.Native.Nat.{ℕ, ◌+◌, ◌≤◌}
 use mathlib.Core.Path.{◌≡◌, refl, ap, ◌∙◌, sym, subst}
 use mathlib.Core.List.{List, [], ◌∷◌, ◌++◌, append_assoc, append-nil}
-use mathlib.Core.Bool.{Bool, true, false, cond}
 use native.Mathlib.Omega.{arith}
-use lib.Dec.{ltb}
 use lib.ListN.{length, take, drop, length-append, take-append-drop}
-use lib.Seq.{length-take-le, take_all}
-use borrow.Author.Tests.{ltb-true, ltb-false}
+use lib.Seq.{take_all}
+use Rattle.std.specs.Prelude.{Ok}
 use Rattle.sequences.specs.Sequence.{All}
-use Rattle.calls.specs.declared.Answer.TheVariants as A
 use Rattle.calls.specs.Answers.{answer_of, answer_stores}
+use Rattle.stores.specs.declared.Outcome.TheVariants.{Done}
 use Rattle.stores.specs.Stores.{Write, run, applied, Plan, refuse, stores, words_after, made_by}
-use Rattle.calls.proofs.Answers.{answer-done}
+use Rattle.stores.proofs.Outcomes.{outcome-done, outcome-made}
 use Rattle.stores.proofs.Laws.{run-append}
 use Rattle.recovery.specs.Plan.{recover_plan}
 use Rattle.courses.specs.Course.{needed, words_through, answers_through, stores_through, NotRefused, total}
@@ -26,18 +24,7 @@ made-words (stores ps) m y = refl
 
 made-number : (p : Plan) (m : ℕ) → answer_stores (answer_of p m) ≡ length (made_by p m)
 made-number (refuse n) m = refl
-made-number (stores ps) m = by (ltb m (length ps)) refl
-  where
-    by : (b : Bool) → ltb m (length ps) ≡ b → answer_stores (cond b (A.Stopped m) (A.Done (length ps))) ≡ length (take m ps)
-    by true e = sym (length-take-le m ps (omega (arith, ltb-true m (length ps) e)))
-    by false e = ap length (sym (take_all m ps (ltb-false m (length ps) e)))
-
-not-refused : (ps : List Write) (m : ℕ) → NotRefused (answer_of (stores ps) m)
-not-refused ps m = by (ltb m (length ps))
-  where
-    by : (b : Bool) → NotRefused (cond b (A.Stopped m) (A.Done (length ps)))
-    by true = tt
-    by false = tt
+made-number (stores ps) m = outcome-made ps m
 
 -- so with several calls
 through-run : (ms y : List ℕ) → words_through ms y ≡ run (stores_through ms y) y
@@ -76,7 +63,7 @@ stores-last (m ∷ ms) last y =
 -- recoveries of the words y with these allowances, the last of which is enough: they are not refused, and make the stores ps
 pub record Recovered (y : List ℕ) (ps : List Write) (ms : List ℕ) (last : ℕ) : Type 0 where
   pub accepted : All NotRefused (answers_through ms y)
-  pub done : answer_of (recover_plan (words_through ms y)) last ≡ A.Done (needed (recover_plan (words_through ms y)))
+  pub done : answer_of (recover_plan (words_through ms y)) last ≡ Ok (Done (needed (recover_plan (words_through ms y))))
   pub made : stores_through (ms ++ last ∷ []) y ≡ ps
   pub words : words_through (ms ++ last ∷ []) y ≡ run ps y
   pub adds : total (answers_through ms y) + answer_stores (answer_of (recover_plan (words_through ms y)) last) ≡ length ps
@@ -101,7 +88,7 @@ module _ (I : List ℕ → Type 0) (ps : List ℕ → List Write) (plan : (y : L
         r.0,
         append_assoc (take m (ps y)) (stores_through ms y₁) (ps (words_through ms y₁)) ∙ ap (λ (qs : List Write). take m (ps y) ++ qs) (r.1 ∙ a.1)
             ∙ take-append-drop m (ps y),
-        (not-refused (ps y) m, r.2),
+        (tt, r.2),
       ))
 
   -- and a last one with an allowance that is enough
@@ -125,7 +112,7 @@ module _ (I : List ℕ → Type 0) (ps : List ℕ → List Write) (plan : (y : L
     recovered =
         record {
           accepted = (through ms y i).2;
-          done = subst (λ (p : Plan). answer_of p last ≡ A.Done (needed p)) (sym plan₁) (sym (answer-done (ps y₁) last enough₁));
+          done = subst (λ (p : Plan). answer_of p last ≡ Ok (Done (needed p))) (sym plan₁) (ap Ok (sym (outcome-done (ps y₁) last enough₁)));
           made = made;
           words = through-run (ms ++ last ∷ []) y ∙ ap (λ (qs : List Write). run qs y) made;
           adds =

@@ -3,44 +3,41 @@
 use Prim.Native.Nat.{ℕ, ◌<◌, ◌≤◌}
 use mathlib.Core.Path.{◌≡◌, refl, ap, ◌∙◌, sym, subst}
 use mathlib.Core.List.{List, []}
-use mathlib.Core.Bool.{Bool, true, false}
 use native.Mathlib.Omega.{arith}
-use lib.Dec.{eqb}
 use lib.ListN.{length, get_or}
-use borrow.Author.Tests.{eqb-true}
+use Rattle.std.specs.Prelude.{Option, Some, None, Result, Ok, Err}
 use Rattle.stores.specs.Stores.{Write, refuse, stores, run}
 use Rattle.stores.proofs.Laws.{length_run}
 use Rattle.layout.specs.declared.Layout.{Layout}
-use Rattle.layout.specs.declared.Opened.{Opened}
-use Rattle.layout.specs.declared.Opened.TheVariants as O
-use Rattle.layout.specs.Words.{InRange, layout_of, size_of, opened, after_open, ask}
+use Rattle.layout.specs.declared.Refusal.{Refusal}
+use Rattle.layout.specs.Words.{InRange, layout_of, size_of, opened, after_open}
 use Rattle.layout.proofs.Laws.{opened-open, open-opened}
 use Rattle.lists.specs.Lists.{Ordered, Sound, SoundLists, Wiped}
 use Rattle.lists.proofs.Same.{same-marked, same_layout}
 use Rattle.recovery.specs.Fits.{wrong}
-use Rattle.recovery.specs.Plan.{wipes_asked, recover_stores, most_stores, fitting_of, refusal_from, recover_of, recover_plan, Accepted}
-use Rattle.recovery.proofs.Whole.{number-accepted, accepted-plan, whole-sound, whole-wiped, sound-accepted, sound-settled, ordered-wipes, few-stores}
+use Rattle.recovery.specs.Plan.{wipes_asked, recover_stores, most_stores, fitting_of, refusal_from, unless_refused, recover_of, recover_plan, Accepted}
+use Rattle.recovery.proofs.Whole.{unrefused-accepted, accepted-plan, whole-sound, whole-wiped, sound-accepted, sound-settled, ordered-wipes, few-stores}
 use Rattle.courses.proofs.Final.{final-head}
 
 -- what a plan that is not a refusal tells
 pub planned : (w : List ℕ) (ps : List Write) → recover_plan w ≡ stores ps
-    → (opened w ≡ O.Open (layout_of w)) × Accepted (layout_of w) w (fitting_of (layout_of w) w) × (ps ≡ recover_stores (layout_of w) w (fitting_of (layout_of w) w))
+    → (opened w ≡ Ok (layout_of w)) × Accepted (layout_of w) w (fitting_of (layout_of w) w) × (ps ≡ recover_stores (layout_of w) w (fitting_of (layout_of w) w))
 unfolding recover_plan recover_of
 planned w ps = by (opened w) refl
   where
-    asked : (l : Layout) (b : Bool) → eqb (refusal_from l w 0 l.lists) 0 ≡ b
-        → ask b (refuse (refusal_from l w 0 l.lists)) (stores (recover_stores l w (fitting_of l w))) ≡ stores ps
+    asked : (l : Layout) (r : Option Refusal) → refusal_from l w 0 l.lists ≡ r
+        → unless_refused r (stores (recover_stores l w (fitting_of l w))) ≡ stores ps
         → Accepted l w (fitting_of l w) × (ps ≡ recover_stores l w (fitting_of l w))
-    asked l true z e = (number-accepted l w (eqb-true _ _ z), cc)
-    asked l false z e = let y : ◌≡◌ {A = ℕ} 0 1 = cc in absurd (omega arith)
+    asked l None z e = (unrefused-accepted l w z, cc)
+    asked l (Some n) z e = let y : ◌≡◌ {A = ℕ} 0 1 = cc in absurd (omega arith)
 
-    by : (o : Opened) → opened w ≡ o → after_open o refuse (λ l. recover_of l w) ≡ stores ps
-        → (opened w ≡ O.Open (layout_of w)) × Accepted (layout_of w) w (fitting_of (layout_of w) w) × (ps ≡ recover_stores (layout_of w) w (fitting_of (layout_of w) w))
-    by (O.Refused n) p e = let y : ◌≡◌ {A = ℕ} 0 1 = cc in absurd (omega arith)
-    by (O.Open l) p e =
+    by : (o : Result Layout Refusal) → opened w ≡ o → after_open o refuse (λ l. recover_of l w) ≡ stores ps
+        → (opened w ≡ Ok (layout_of w)) × Accepted (layout_of w) w (fitting_of (layout_of w) w) × (ps ≡ recover_stores (layout_of w) w (fitting_of (layout_of w) w))
+    by (Err n) p e = let y : ◌≡◌ {A = ℕ} 0 1 = cc in absurd (omega arith)
+    by (Ok l) p e =
         let q = (opened-open w l p).0 in
-        let a = asked l (eqb (refusal_from l w 0 l.lists) 0) refl e in (
-          p ∙ ap O.Open q,
+        let a = asked l (refusal_from l w 0 l.lists) refl e in (
+          p ∙ ap Ok q,
           subst (λ (m : Layout). Accepted m w (fitting_of m w)) q a.0,
           subst (λ (m : Layout). ps ≡ recover_stores m w (fitting_of m w)) q a.1,
         )

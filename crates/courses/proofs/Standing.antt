@@ -3,11 +3,11 @@ use Prim.Native.Nat.{ℕ, ◌<◌}
 use mathlib.Core.Path.{◌≡◌, ◌∙◌}
 use mathlib.Core.List.{List}
 use lib.ListN.{length, get_or, take, drop}
+use Rattle.std.specs.Prelude.{Ok}
 use Rattle.sequences.proofs.Members.{all_take}
 use Rattle.stores.specs.Stores.{Write, applied, stores}
 use Rattle.stores.proofs.Laws.{run_out, length_run}
 use Rattle.layout.specs.declared.Layout.{Layout}
-use Rattle.layout.specs.declared.Opened.TheVariants as O
 use Rattle.layout.specs.Words.{size_of, opened}
 use Rattle.lists.proofs.Same.{same-opened}
 use Rattle.recovery.specs.Plan.{recover_stores, recover_plan, Accepted}
@@ -17,7 +17,7 @@ use Rattle.courses.proofs.Final.{head-spares}
 
 -- the words y are accepted with the sequences t, and questions 1 to 4 are answered yes
 pub record Standing (l : Layout) (t : ℕ → List ℕ) (y : List ℕ) : Type 0 where
-  pub opens : opened y ≡ O.Open l
+  pub opens : opened y ≡ Ok l
   pub size : length y ≡ size_of l
   pub accepted : Accepted l y t
 

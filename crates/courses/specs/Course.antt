@@ -1,10 +1,8 @@
 -- The words in which demand 3 (Demand3.antt) speaks of a whole course of calls: one insert or delete, altered words, and recoveries. "Demand 3 covers
 -- [an insert of several records] too."
-use Rattle.std.specs.Prelude.{ℕ, zero, suc, ◌+◌, ◌*◌, ◌/◌, ◌<◌, min, ◌≡◌, List, [], ◌∷◌, ◌++◌, cond, ◌⊎◌, eqb, ltb, length, set}
+use Rattle.std.specs.Prelude.{ℕ, zero, suc, ◌+◌, ◌*◌, ◌/◌, ◌<◌, min, ◌≡◌, List, [], ◌∷◌, ◌++◌, cond, ◌⊎◌, eqb, ltb, length, set, Ok, Err}
 use Rattle.sequences.specs.Sequence.{◌∈◌}
-use Rattle.calls.specs.declared.Answer.{Answer}
-use Rattle.calls.specs.declared.Answer.TheVariants as A
-use Rattle.calls.specs.Answers.{answer_of, answer_stores}
+use Rattle.calls.specs.Answers.{answer_of, answer_stores, Answer}
 use Rattle.stores.specs.Stores.{Write, applied, Plan, refuse, stores, words_after, made_by}
 use Rattle.layout.specs.declared.Layout.{Layout}
 use Rattle.layout.specs.Words.{header_words, link_words, tail_words, cell_at, ident_at, count_at, layout_of}
@@ -108,9 +106,8 @@ stores_through (m ∷ ms) y = made_by (recover_plan y) m ++ stores_through ms (w
 
 -- an answer is not a refusal, whatever its number
 abbrev pub NotRefused : Answer → Type 0
-NotRefused (A.Done n) = Unit {0}
-NotRefused (A.Stopped n) = Unit {0}
-NotRefused (A.Refused n) = ⊥
+NotRefused (Ok o) = Unit {0}
+NotRefused (Err n) = ⊥
 
 -- "The runs' numbers of stores"
 unfoldable pub total : List Answer → ℕ

@@ -1,9 +1,8 @@
 -- Demand 3, "a single claim about a whole list of calls, not one for each call".
-use Rattle.std.specs.Prelude.{ℕ, ◌+◌, ◌<◌, ◌≤◌, ◌≡◌, List, [], ◌∷◌, ◌++◌, cond, get_or}
+use Rattle.std.specs.Prelude.{ℕ, ◌+◌, ◌<◌, ◌≤◌, ◌≡◌, List, [], ◌∷◌, ◌++◌, cond, get_or, Ok}
 use Rattle.sequences.specs.Sequence.{◌∈◌, All}
-use Rattle.calls.specs.declared.Answer.{Answer}
-use Rattle.calls.specs.declared.Answer.TheVariants as A
-use Rattle.calls.specs.Answers.{answer_of, answer_stores}
+use Rattle.calls.specs.Answers.{answer_of, answer_stores, Answer}
+use Rattle.stores.specs.declared.Outcome.TheVariants.{Done}
 use Rattle.stores.specs.Stores.{run}
 use Rattle.layout.specs.Words.{head_words, link_words, tail_words, Node, cell_at, ident_at, record_at, worn_ident, is_worn, layout_of}
 use Rattle.lists.specs.Lists.{Ordered, Sound, IsList, SameCells, KeepsWorn}
@@ -17,7 +16,7 @@ use Rattle.courses.specs.Course.{Edit, named, all_stores, needed, due_words, Alt
 pub record Course (w : List ℕ) (s : Ordered w) (k : ℕ) (x y ms : List ℕ) (last : ℕ) (z : List ℕ) (r : Answer) : Type 0 where
   -- "None is refused, and the last is answered done": with the number of stores that it needs
   pub accepted : All NotRefused (answers_through ms y)
-  pub done : r ≡ A.Done (needed (recover_plan (words_through ms y)))
+  pub done : r ≡ Ok (Done (needed (recover_plan (words_through ms y))))
   -- The final store is sound, and its lists have their old sequences, but the one named has `own`: by `list` that is its sequence in x, and
   -- a list has only one (`list-unique`, lists/proofs/Unique.antt).
   pub own : List ℕ

@@ -2,46 +2,37 @@
 use Prim.Native.Nat.{ℕ, zero, suc, ◌/◌, ◌%◌, ◌<◌, ◌≤◌}
 use mathlib.Core.Path.{◌≡◌, refl, sym, ◌∙◌, ap, subst}
 use mathlib.Core.List.Memᴰ
-use mathlib.Core.List.{List, [], ◌∷◌, ◌++◌}
-use mathlib.Core.Bool.{Bool, true, false, cond, ◌&&◌}
+use mathlib.Core.List.{List, [], ◌∷◌, ◌++◌, map}
+use mathlib.Core.Bool.{Bool, true, false, ◌&&◌}
 use native.Mathlib.Omega.{arith}
 use lib.Dec.{eqb, leb, ltb}
 use lib.ListN.{length, take, drop, length-drop}
 use lib.Seq.{length-take-le}
-use borrow.Author.Tests.{eqb-true, eqb-false}
+use borrow.Author.Tests.{eqb-true}
 use Rattle.sequences.specs.Sequence.{◌∈◌, All}
 use Rattle.sequences.proofs.Members.{all_in, in_all, all_take}
-use Rattle.calls.specs.declared.Answer.TheVariants as A
 use Rattle.stores.specs.Stores.{Write, refuse, stores}
 use Rattle.stores.proofs.Laws.{length_run}
+use Rattle.std.specs.Prelude.{Option, Some, None, Result, Ok, Err}
+use Rattle.layout.specs.declared.Refusal.{Refusal}
+use Rattle.layout.specs.declared.Refusal.TheVariants.{Short, NoStore, Range, Size, NoList, Unsound, NoPosition, NoNode, RecordSize, Full, NoFit, TwoFit, NotFree}
+use Rattle.requests.specs.declared.Look.{Look}
 use Rattle.layout.specs.declared.Layout.{Layout}
-use Rattle.layout.specs.declared.Opened.{Opened}
-use Rattle.layout.specs.declared.Opened.TheVariants as O
-use Rattle.layout.specs.Words.{ask, head_words, marked, layout_of, in_range, size_of, record_at, is_node, opened_by, opened, after_open, is_free}
+use Rattle.layout.specs.Words.{ask, head_words, marked, layout_of, in_range, size_of, record_at, is_node, opened_by, opened, after_open, is_free, number_of}
 use Rattle.layout.proofs.Laws.{opened-open, length-formatted, cell-node, node-fits}
 use Rattle.lists.specs.Decide.{view_of, sound_of, sequence_of}
 use Rattle.lists.proofs.Decided.{sound-lists}
-use Rattle.requests.specs.declared.Free.{Free}
-use Rattle.requests.specs.declared.Free.TheVariants.{Cell, Full}
 use Rattle.requests.specs.declared.Site.{Site}
-use Rattle.requests.specs.declared.Sited.{Sited}
-use Rattle.requests.specs.declared.Sited.TheVariants as S
 use Rattle.requests.specs.declared.Request.{Request}
 use Rattle.requests.specs.declared.Request.TheVariants.{Check, Whole, Member, Gap, Gaps, Mark}
-use Rattle.requests.specs.declared.Looked.{Looked}
-use Rattle.requests.specs.declared.Looked.TheVariants as K
-use Rattle.requests.specs.Requests.{around, first_free, with_free, free_cells, member_at, gap_at, gaps_at, site_in, site_of, with_site, look_of, with_look}
+use Rattle.requests.specs.Requests.{around, first_free, with_free, free_cells, member_at, gap_at, gaps_at, site_in, site_of, with_site, look_of, with_look, at_site}
 use Rattle.edits.specs.Edits.{insert_writes, chain, delete_writes, mark_writes, free_from}
 use Rattle.edits.proofs.Inside.{insert-inside, delete-inside}
 use Rattle.edits.proofs.Done.{looked}
 use Rattle.edits.proofs.Gaps.{gaps-looked, gaps-chain, gaps-inside}
 use Rattle.recovery.specs.Fits.{Fit, none, only, several, fit_of}
-use Rattle.recovery.specs.Plan.{recover_stores, fitting_of, fit_number, refusal_from, recover_of, recover_plan}
-use Rattle.recovery.proofs.Whole.{number-accepted, stores-inside}
-use Rattle.calls.specs.declared.Formatted.{Formatted}
-use Rattle.calls.specs.declared.Formatted.TheVariants as F
-use Rattle.calls.specs.declared.Checked.TheVariants as C
-use Rattle.calls.specs.declared.Counted.TheVariants as L
+use Rattle.recovery.specs.Plan.{recover_stores, fitting_of, fit_refusal, refusal_from, unless_refused, recover_of, recover_plan}
+use Rattle.recovery.proofs.Whole.{unrefused-accepted, stores-inside}
 use Rattle.calls.specs.Answers.{formatted_words, answer_of}
 use Rattle.calls.specs.Calls.{format_answer, format_words, check_answer, length_answer, read_number, read_words, read_start, insert_plan, several_plan, delete_plan, mark_plan}
 use Rattle.calls.proofs.Sites.{member-placed, gap-placed, record-fits, mark-placed}
@@ -53,10 +44,10 @@ asked P true h k = k
 asked P false h k = h
 
 -- so what holds of the refusals with these numbers, and of the rest, holds of the outcome of questions 1 to 4,
-abbrev open_numbers : List ℕ
-open_numbers = 1 ∷ 2 ∷ 3 ∷ 4 ∷ []
+abbrev open_refusals : List Refusal
+open_refusals = Short ∷ NoStore ∷ Range ∷ Size ∷ []
 
-opening : (w : List ℕ) (P : Opened → Type 0) → All (λ n. P (O.Refused n)) open_numbers → ((l : Layout) → opened w ≡ O.Open l → P (O.Open l)) → P (opened w)
+opening : (w : List ℕ) (P : Result Layout Refusal → Type 0) → All (λ n. P (Err n)) open_refusals → ((l : Layout) → opened w ≡ Ok l → P (Ok l)) → P (opened w)
 unfolding opened_by
 opening w P h rest =
     asked Q (leb head_words (length w)) (λ _. h.0)
@@ -65,24 +56,24 @@ opening w P h rest =
     (asked Q (eqb (length w) (size_of (layout_of w))) (λ _. h.1.1.1.0)
     (rest (layout_of w))))) refl
   where
-    Q : Opened → Type 0
+    Q : Result Layout Refusal → Type 0
     Q o = opened w ≡ o → P o
 
 -- of the questions of a request after them,
-abbrev own_numbers : Request → List ℕ
-own_numbers Check = 6 ∷ []
-own_numbers (Whole k) = 5 ∷ 6 ∷ []
-own_numbers (Member k p) = 5 ∷ 6 ∷ 7 ∷ []
-own_numbers (Gap k p c m) = 5 ∷ 6 ∷ 7 ∷ 8 ∷ 9 ∷ 10 ∷ []
-own_numbers (Gaps k p c m) = 5 ∷ 6 ∷ 7 ∷ 8 ∷ 9 ∷ 10 ∷ []
-own_numbers (Mark c) = 6 ∷ 8 ∷ 13 ∷ []
+abbrev own_refusals : Request → List Refusal
+own_refusals Check = Unsound ∷ []
+own_refusals (Whole k) = NoList ∷ Unsound ∷ []
+own_refusals (Member k p) = NoList ∷ Unsound ∷ NoPosition ∷ []
+own_refusals (Gap k p c m) = NoList ∷ Unsound ∷ NoPosition ∷ NoNode ∷ RecordSize ∷ Full ∷ []
+own_refusals (Gaps k p c m) = NoList ∷ Unsound ∷ NoPosition ∷ NoNode ∷ RecordSize ∷ Full ∷ []
+own_refusals (Mark c) = Unsound ∷ NoNode ∷ NotFree ∷ []
 
 -- the search for a free cell refuses, or finds one
-searched : (P : Sited → Type 0) (x : Free) {r : Sited} {at : ℕ → Sited} → P r → ((i : ℕ) → P (at i)) → P (with_free x r at)
-searched P Full h rest = h
-searched P (Cell i) h rest = rest i
+searched : (P : Result Site Refusal → Type 0) (x : Option ℕ) {r : Result Site Refusal} {at : ℕ → Result Site Refusal} → P r → ((i : ℕ) → P (at i)) → P (with_free x r at)
+searched P None h rest = h
+searched P (Some i) h rest = rest i
 
-siting : (l : Layout) (w : List ℕ) (q : Request) (P : Sited → Type 0) → All (λ n. P (S.Refused n)) (own_numbers q) → ((t : Site) → P (S.At t)) → P (site_of l w q)
+siting : (l : Layout) (w : List ℕ) (q : Request) (P : Result Site Refusal → Type 0) → All (λ n. P (Err n)) (own_refusals q) → ((t : Site) → P (Ok t)) → P (site_of l w q)
 unfolding site_in member_at gap_at gaps_at
 siting l w Check P h rest = asked P (sound_of l w) h.0 (rest _)
 siting l w (Whole k) P h rest = asked P (ltb k l.lists) h.0 (asked P (sound_of l w) h.1.0 (rest _))
@@ -113,30 +104,36 @@ siting l w (Mark c) P h rest =
     (rest _)))
 
 -- and of all of them
+abbrev open_numbers : List ℕ
+open_numbers = map number_of open_refusals
+
+abbrev own_numbers : Request → List ℕ
+own_numbers q = map number_of (own_refusals q)
+
 abbrev numbers_of : Request → List ℕ
 numbers_of q = open_numbers ++ own_numbers q
 
 looking
-    : (w : List ℕ) (q : Request) (P : Looked → Type 0) → ((n : ℕ) → n ∈ numbers_of q → P (K.Refused n))
-    → ((l : Layout) (t : Site) → look_of w q ≡ K.At l t → P (K.At l t)) → P (look_of w q)
+    : (w : List ℕ) (q : Request) (P : Result Look Refusal → Type 0) → ((n : Refusal) → number_of n ∈ numbers_of q → P (Err n))
+    → ((l : Layout) (t : Site) → look_of w q ≡ at_site l t → P (at_site l t)) → P (look_of w q)
 unfolding look_of
 looking w q P h rest =
-    opening w (λ o. Q (after_open o K.Refused (λ l. with_site (site_of l w q) K.Refused (λ t. K.At l t))))
-    (in_all (λ n. Q (K.Refused n)) open_numbers (λ n m e. h n (Memᴰ.append_left (own_numbers q) m)))
+    opening w (λ o. Q (after_open o Err (λ l. with_site (site_of l w q) Err (at_site l))))
+    (in_all (λ n. Q (Err n)) open_refusals (λ n m e. h n (Memᴰ.append_left (own_numbers q) (Memᴰ.map number_of m))))
     (λ l o.
-    siting l w q (λ x. Q (with_site x K.Refused (λ t. K.At l t)))
-    (in_all (λ n. Q (K.Refused n)) (own_numbers q) (λ n m e. h n (Memᴰ.append_right open_numbers m))) (rest l))
+    siting l w q (λ x. Q (with_site x Err (at_site l)))
+    (in_all (λ n. Q (Err n)) (own_refusals q) (λ n m e. h n (Memᴰ.append_right open_numbers (Memᴰ.map number_of m)))) (rest l))
     refl
   where
-    Q : Looked → Type 0
+    Q : Result Look Refusal → Type 0
     Q x = look_of w q ≡ x → P x
 
 module _ (numbers w : List ℕ) where
   -- a plan that is a refusal
-  refused : (n : ℕ) → n ∈ numbers → Refuses numbers (refuse n) w
+  refused : (n : Refusal) → number_of n ∈ numbers → Refuses numbers (refuse n) w
   refused n h =
       record {
-        number = λ m i e. let z : n ≡ i = cc in (subst (λ (j : ℕ). j ∈ numbers) z h, λ m'. e);
+        number = λ m i e. let z : n ≡ i = cc in (subst (λ (j : Refusal). number_of j ∈ numbers) z h, λ m'. e);
         unchanged = λ m i e. refl;
         inside = λ m. tt;
         size = λ m. refl;
@@ -152,51 +149,47 @@ module _ (numbers w : List ℕ) where
         size = λ m. length_run (take m ps) w;
       }
     where
-      never : (m i : ℕ) → answer_of (stores ps) m ≡ A.Refused i → ⊥
-      never m i = by (ltb m (length ps))
-        where
-          by : (b : Bool) → cond b (A.Stopped m) (A.Done (length ps)) ≡ A.Refused i → ⊥
-          by true e = let z : ◌≡◌ {A = ℕ} 0 1 = cc in omega arith
-          by false e = let z : ◌≡◌ {A = ℕ} 0 1 = cc in omega arith
+      never : (m : ℕ) (i : Refusal) → answer_of (stores ps) m ≡ Err i → ⊥
+      never m i e = let z : ◌≡◌ {A = ℕ} 0 1 = cc in omega arith
 
 -- format
-formats : (l : Layout) (w : List ℕ) (n : ℕ) → format_answer l w ≡ F.Refused n → (n ∈ (3 ∷ 4 ∷ [])) × (format_words l w ≡ w)
+formats : (l : Layout) (w : List ℕ) (n : Refusal) → format_answer l w ≡ Err n → (number_of n ∈ (3 ∷ 4 ∷ [])) × (format_words l w ≡ w)
 unfolding format_answer
-formats l w = asked P (in_range l) (refusal 3 (Memᴰ.head refl)) (asked P (eqb (length w) (size_of l)) (refusal 4 (Memᴰ.tail (Memᴰ.head refl))) done)
+formats l w = asked P (in_range l) (refusal Range (Memᴰ.head refl)) (asked P (eqb (length w) (size_of l)) (refusal Size (Memᴰ.tail (Memᴰ.head refl))) done)
   where
-    P : Formatted → Type 0
-    P a = (n : ℕ) → a ≡ F.Refused n → (n ∈ (3 ∷ 4 ∷ [])) × (formatted_words l w a ≡ w)
+    P : Result (Unit {0}) Refusal → Type 0
+    P a = (n : Refusal) → a ≡ Err n → (number_of n ∈ (3 ∷ 4 ∷ [])) × (formatted_words l w a ≡ w)
 
-    refusal : (i : ℕ) → i ∈ (3 ∷ 4 ∷ []) → P (F.Refused i)
-    refusal i h n e = let z : i ≡ n = cc in (subst (λ (j : ℕ). j ∈ (3 ∷ 4 ∷ [])) z h, refl)
+    refusal : (i : Refusal) → number_of i ∈ (3 ∷ 4 ∷ []) → P (Err i)
+    refusal i h n e = let z : i ≡ n = cc in (subst (λ (j : Refusal). number_of j ∈ (3 ∷ 4 ∷ [])) z h, refl)
 
-    done : P F.Done
+    done : P (Ok tt)
     done n e = let z : ◌≡◌ {A = ℕ} 0 1 = cc in absurd (omega arith)
 
 formats-all : (l : Layout) (w : List ℕ) → length (format_words l w) ≡ length w
 unfolding format_answer
 formats-all l w = asked P (in_range l) refl (by (eqb (length w) (size_of l)) refl)
   where
-    P : Formatted → Type 0
+    P : Result (Unit {0}) Refusal → Type 0
     P a = length (formatted_words l w a) ≡ length w
 
-    by : (b : Bool) → eqb (length w) (size_of l) ≡ b → P (ask b (F.Refused 4) F.Done)
+    by : (b : Bool) → eqb (length w) (size_of l) ≡ b → P (ask b (Err Size) (Ok tt))
     by true e = length-formatted l ∙ sym (eqb-true _ _ e)
     by false e = refl
 
 -- check and length
-checks : (w : List ℕ) (n : ℕ) → check_answer w ≡ C.Refused n → n ∈ numbers_of Check
+checks : (w : List ℕ) (n : Refusal) → check_answer w ≡ Err n → number_of n ∈ numbers_of Check
 unfolding check_answer
 checks w =
-    looking w Check (λ x. (n : ℕ) → with_look x C.Refused (λ l t. C.Sound) ≡ C.Refused n → n ∈ numbers_of Check)
-    (λ i h n e. let z : i ≡ n = cc in subst (λ (j : ℕ). j ∈ numbers_of Check) z h)
+    looking w Check (λ x. (n : Refusal) → ◌≡◌ {A = Result (Unit {0}) Refusal} (with_look x Err (λ l t. Ok tt)) (Err n) → number_of n ∈ numbers_of Check)
+    (λ i h n e. let z : i ≡ n = cc in subst (λ (j : Refusal). number_of j ∈ numbers_of Check) z h)
     (λ l t o n e. let z : ◌≡◌ {A = ℕ} 0 1 = cc in absurd (omega arith))
 
-lengths : (w : List ℕ) (k n : ℕ) → length_answer w k ≡ L.Refused n → n ∈ numbers_of (Whole k)
+lengths : (w : List ℕ) (k : ℕ) (n : Refusal) → length_answer w k ≡ Err n → number_of n ∈ numbers_of (Whole k)
 unfolding length_answer
 lengths w k =
-    looking w (Whole k) (λ x. (n : ℕ) → with_look x L.Refused (λ l t. L.Length t.count) ≡ L.Refused n → n ∈ numbers_of (Whole k))
-    (λ i h n e. let z : i ≡ n = cc in subst (λ (j : ℕ). j ∈ numbers_of (Whole k)) z h)
+    looking w (Whole k) (λ x. (n : Refusal) → with_look x Err (λ l t. Ok t.count) ≡ Err n → number_of n ∈ numbers_of (Whole k))
+    (λ i h n e. let z : i ≡ n = cc in subst (λ (j : Refusal). number_of j ∈ numbers_of (Whole k)) z h)
     (λ l t o n e. let z : ◌≡◌ {A = ℕ} 0 1 = cc in absurd (omega arith))
 
 -- read
@@ -205,16 +198,16 @@ unfolding read_number read_start read_words
 reads w k p =
     looking w (Member k p)
     (λ x.
-    Reads w (with_look x (λ n. n) (λ l t. 0)) (with_look x (λ n. 0) (λ l t. record_at l t.cell))
+    Reads w (with_look x (λ n. number_of n) (λ l t. 0)) (with_look x (λ n. 0) (λ l t. record_at l t.cell))
     (with_look x (λ n. []) (λ l t. take l.width (drop (record_at l t.cell) w)))) none given
   where
     some : (n : ℕ) → n ∈ numbers_of (Member k p) → n ≡ 0 → ⊥
     some n h e = omega (arith, all_in (λ i. 1 ≤ i) (numbers_of (Member k p)) (omega arith) h)
 
-    none : (n : ℕ) → n ∈ numbers_of (Member k p) → Reads w n 0 []
-    none n h = record { number = Memᴰ.tail h; refused = λ e. refl; given = λ e. absurd (some n h e) }
+    none : (n : Refusal) → number_of n ∈ numbers_of (Member k p) → Reads w (number_of n) 0 []
+    none n h = record { number = Memᴰ.tail h; refused = λ e. refl; given = λ e. absurd (some (number_of n) h e) }
 
-    given : (l : Layout) (t : Site) → look_of w (Member k p) ≡ K.At l t → Reads w 0 (record_at l t.cell) (take l.width (drop (record_at l t.cell) w))
+    given : (l : Layout) (t : Site) → look_of w (Member k p) ≡ at_site l t → Reads w 0 (record_at l t.cell) (take l.width (drop (record_at l t.cell) w))
     given l t e =
         let a = record_at l t.cell in
         let d = member-placed w k p l t e in
@@ -282,29 +275,33 @@ marks w c =
 abbrev recover_numbers : List ℕ
 recover_numbers = open_numbers ++ 11 ∷ 12 ∷ []
 
-list-numbers : (l : Layout) (w : List ℕ) (k n : ℕ) → (refusal_from l w k n ≡ 0 → ⊥) → refusal_from l w k n ∈ (11 ∷ 12 ∷ [])
+list-numbers : (l : Layout) (w : List ℕ) (k n : ℕ) (x : Refusal) → refusal_from l w k n ≡ Some x → number_of x ∈ (11 ∷ 12 ∷ [])
 unfolding refusal_from
-list-numbers l w k zero = λ h. absurd (h refl)
-list-numbers l w k (suc n) = by (fit_of l w k) (refusal_from l w (suc k) n) (list-numbers l w (suc k) n)
+list-numbers l w k zero x e = let z : ◌≡◌ {A = ℕ} 0 1 = cc in absurd (omega arith)
+list-numbers l w k (suc n) x e = by (fit_of l w k) (list-numbers l w (suc k) n x) e
   where
-    by : (f : Fit) (r : ℕ) → ((r ≡ 0 → ⊥) → r ∈ (11 ∷ 12 ∷ [])) → (fit_number f r ≡ 0 → ⊥) → fit_number f r ∈ (11 ∷ 12 ∷ [])
-    by none r rest h = Memᴰ.head refl
-    by several r rest h = Memᴰ.tail (Memᴰ.head refl)
-    by (only s) r rest h = rest h
+    among : (y : Refusal) → Some y ≡ Some x → number_of y ∈ (11 ∷ 12 ∷ []) → number_of x ∈ (11 ∷ 12 ∷ [])
+    among y e m = let q : y ≡ x = cc in subst (λ (j : Refusal). number_of j ∈ (11 ∷ 12 ∷ [])) q m
+
+    by : (f : Fit) {r : Option Refusal} → (r ≡ Some x → number_of x ∈ (11 ∷ 12 ∷ [])) → fit_refusal f r ≡ Some x → number_of x ∈ (11 ∷ 12 ∷ [])
+    by none rest e = among NoFit e (Memᴰ.head refl)
+    by several rest e = among TwoFit e (Memᴰ.tail (Memᴰ.head refl))
+    by (only s) rest e = rest e
 
 recovers : (w : List ℕ) → Refuses recover_numbers (recover_plan w) w
 unfolding recover_plan recover_of
 recovers w =
     opening w (λ o. Refuses recover_numbers (after_open o refuse (λ l. recover_of l w)) w)
-    (in_all (λ n. Refuses recover_numbers (refuse n) w) open_numbers (λ n m. refused recover_numbers w n (Memᴰ.append_left (11 ∷ 12 ∷ []) m)))
-    (λ l e. by l e (eqb (refusal_from l w 0 l.lists) 0) refl)
+    (in_all (λ n. Refuses recover_numbers (refuse n) w) open_refusals
+    (λ n m. refused recover_numbers w n (Memᴰ.append_left (11 ∷ 12 ∷ []) (Memᴰ.map number_of m))))
+    (λ l e. by l e (refusal_from l w 0 l.lists) refl)
   where
-    by : (l : Layout) → opened w ≡ O.Open l → (b : Bool) → eqb (refusal_from l w 0 l.lists) 0 ≡ b
-        → Refuses recover_numbers (ask b (refuse (refusal_from l w 0 l.lists)) (stores (recover_stores l w (fitting_of l w)))) w
-    by l e true z =
+    by : (l : Layout) → opened w ≡ Ok l → (r : Option Refusal) → refusal_from l w 0 l.lists ≡ r
+        → Refuses recover_numbers (unless_refused r (stores (recover_stores l w (fitting_of l w)))) w
+    by l e None z =
         stored recover_numbers w (recover_stores l w (fitting_of l w))
-        (stores-inside l w (fitting_of l w) (number-accepted l w (eqb-true _ _ z)) (opened-open w l e).3)
-    by l e false z = refused recover_numbers w (refusal_from l w 0 l.lists) (Memᴰ.append_right open_numbers (list-numbers l w 0 l.lists (eqb-false _ _ z)))
+        (stores-inside l w (fitting_of l w) (unrefused-accepted l w z) (opened-open w l e).3)
+    by l e (Some x) z = refused recover_numbers w x (Memᴰ.append_right open_numbers (list-numbers l w 0 l.lists x z))
 
 pub demand1 : Demand1
 demand1 =

@@ -3,7 +3,7 @@ use Prim.Native.Nat.{ℕ, ◌+◌, ◌*◌, ◌/◌, ◌%◌, ◌<◌, ◌≤◌
 use mathlib.Core.Path.{◌≡◌, refl, ap, ap₂, ◌∙◌, sym, subst}
 use mathlib.Core.List.Memᴰ
 use mathlib.Core.List.{List, [], ◌∷◌, ◌++◌, map}
-use mathlib.Core.Bool.{Bool, true, false, cond}
+use mathlib.Core.Bool.{Bool, true, false}
 use native.Mathlib.Omega.{arith}
 use native.Mathlib.Nat.{zero-mul, mul-div_left, mul-mod_left}
 use lib.Dec.{eqb, ltb}
@@ -11,9 +11,13 @@ use lib.ListN.{length, get_or, replicate, drop, take-append-drop, length-replica
 use borrow.Author.Tests.{ltb-true, ltb-false, lt-ltb, le-leb, eq-eqb}
 use Rattle.sequences.specs.Sequence.{◌∈◌}
 use Rattle.sequences.proofs.Members.{all_in, at_in}
-use Rattle.calls.specs.declared.Answer.TheVariants as A
-use Rattle.stores.specs.Stores.{Write, stores, run, applied}
+use Rattle.stores.specs.declared.Outcome.TheVariants.{Done}
+use Rattle.stores.specs.Stores.{Write, stores, outcome_of, run, applied}
+use Rattle.stores.proofs.Outcomes.{done-whole}
 use Rattle.stores.proofs.Laws.{applied-all, length-row}
+use Rattle.std.specs.Prelude.{Option, Some, None, Result, Ok, Err}
+use Rattle.layout.specs.declared.Refusal.{Refusal}
+use Rattle.layout.specs.declared.Refusal.TheVariants.{Range, Size, NoList}
 use Rattle.layout.specs.declared.Layout.{Layout}
 use Rattle.layout.specs.Words.{tail_words, Node, ask, in_range, size_of, record_at, layout_of, free}
 use Rattle.layout.proofs.Laws.{node-is, in-range}
@@ -22,11 +26,7 @@ use Rattle.lists.specs.Decide.{view_of, sequence_of}
 use Rattle.lists.proofs.Unique.{list-sequence}
 use Rattle.lists.proofs.Nodes.{unlisted-out}
 use Rattle.lists.proofs.Empty.{formatted-empty}
-use Rattle.requests.specs.declared.Free.{Free}
-use Rattle.requests.specs.declared.Free.TheVariants.{Cell, Full}
 use Rattle.requests.specs.declared.Site.{Site}
-use Rattle.requests.specs.declared.Sited.{Sited}
-use Rattle.requests.specs.declared.Sited.TheVariants.{At, Refused}
 use Rattle.requests.specs.declared.Request.{Request}
 use Rattle.requests.specs.declared.Request.TheVariants.{Member, Gap, Gaps}
 use Rattle.requests.specs.Requests.{around, first_free, free_cells, member_at, gap_at, gaps_at, site_in, site_of, look_of}
@@ -41,9 +41,7 @@ use Rattle.edits.proofs.Delete.{delete-member}
 use Rattle.edits.proofs.Done.{gap-facts, member-facts, insert-done, delete-done, insert-full}
 use Rattle.edits.proofs.Several.{insert-length, Chain-length, several-inserted}
 use Rattle.edits.proofs.Gaps.{gaps-looked, free-most, gaps-full, gaps-position, gaps-cells, gaps-number, gaps-words, gaps-chain}
-use Rattle.calls.specs.declared.Formatted.TheVariants as F
-use Rattle.calls.specs.declared.Counted.TheVariants as L
-use Rattle.calls.specs.Answers.{formatted_number, formatted_words, answer_of}
+use Rattle.calls.specs.Answers.{formatted_number, formatted_words, Answer, answer_of}
 use Rattle.calls.specs.Calls.{format_answer, format_words, length_answer, read_number, read_words, insert_plan, several_plan, delete_plan}
 use Rattle.calls.proofs.Cases.{insert-refused, insert-at, several-refused, several-at, delete-refused, delete-at}
 use Rattle.calls.proofs.Calls.{check-decides, sound-opened, sound-decided, sound-length}
@@ -52,13 +50,13 @@ use Rattle.demands.proofs.Uninterpreted.{uninterpreted}
 use Rattle.demands.proofs.OneByOne.{one_by_one}
 use Rattle.demands.proofs.Plain.{map-insert, map-splice, map-delete, map_at, map-behind, map_same}
 
--- format, done: not refused with 3 or 4
-formats : (l : Layout) (w : List ℕ) → format_answer l w ≡ F.Done
+-- format, done: not refused
+formats : (l : Layout) (w : List ℕ) → format_answer l w ≡ Ok tt
     → (s : Sound (format_words l w)) × (layout_of (format_words l w) ≡ l) × ((k : ℕ) → s.ordered.lists.sequence k ≡ [])
 unfolding format_answer
 formats l w = by (in_range l) (eqb (length w) (size_of l)) refl
   where
-    by : (b d : Bool) → in_range l ≡ b → let a = ask b (F.Refused 3) (ask d (F.Refused 4) F.Done) in a ≡ F.Done
+    by : (b d : Bool) → in_range l ≡ b → let a : Result (Unit {0}) Refusal = ask b (Err Range) (ask d (Err Size) (Ok tt)) in a ≡ Ok tt
         → (s : Sound (formatted_words l w a)) × (layout_of (formatted_words l w a) ≡ l) × ((k : ℕ) → s.ordered.lists.sequence k ≡ [])
     by false d e a = absurd (omega (arith, ap formatted_number a))
     by true false e a = absurd (omega (arith, ap formatted_number a))
@@ -72,11 +70,11 @@ module _ (w : List ℕ) (s : Sound w) (k : ℕ) where
   members-are : k < (layout_of w).lists → sequence_of (layout_of w) w k ≡ members
   members-are h = list-sequence (layout_of w) w k h members (s.ordered.lists.lists k h)
 
-  lengths : length_answer w k ≡ ask (ltb k (layout_of w).lists) (L.Refused 5) (L.Length (length members))
+  lengths : length_answer w k ≡ ask (ltb k (layout_of w).lists) (Err NoList) (Ok (length members))
   unfolding length_answer look_of site_in
   lengths = by (ltb k (layout_of w).lists) refl
     where
-      by : (b : Bool) → ltb k (layout_of w).lists ≡ b → length_answer w k ≡ ask b (L.Refused 5) (L.Length (length members))
+      by : (b : Bool) → ltb k (layout_of w).lists ≡ b → length_answer w k ≡ ask b (Err NoList) (Ok (length members))
       by true e = sound-length w s k (ltb-true _ _ e)
       by false e = rw (sound-opened w s, e)
 
@@ -131,13 +129,11 @@ leaves w s k {cells} {w'} {records} hk e same =
         (e.sound.ordered.exact ∙ ap size_of e.layout ∙ sym s.ordered.exact) (λ i b. e.others j h n x (3 + i) (Memᴰ.tail m) b)
 
 -- done, all stores are made: P + 6 of an insert, 4 + P of a delete
-stores-done : (ps : List Write) (m n : ℕ) (w : List ℕ) → answer_of (stores ps) m ≡ A.Done n → (n ≡ length ps) × (applied ps m w ≡ run ps w)
-stores-done ps m n w = by (ltb m (length ps)) refl
-  where
-    by : (b : Bool) → ltb m (length ps) ≡ b → cond b (A.Stopped m) (A.Done (length ps)) ≡ A.Done n
-        → (n ≡ length ps) × (applied ps m w ≡ run ps w)
-    by true q e = let z : ◌≡◌ {A = ℕ} 0 1 = cc in absurd (omega arith)
-    by false q e = (cc, applied-all ps m w (ltb-false _ _ q))
+stores-done : (ps : List Write) (m n : ℕ) (w : List ℕ) → answer_of (stores ps) m ≡ Ok (Done n) → (n ≡ length ps) × (applied ps m w ≡ run ps w)
+stores-done ps m n w e =
+    let q : outcome_of ps m ≡ Done n = cc in
+    let d = done-whole ps m n q in
+    (d.1, applied-all ps m w d.0)
 
 delete-stores : (l : Layout) (k : ℕ) (t : Site) → length (delete_writes l k t) ≡ 4 + tail_words l
 unfolding delete_links delete_writes
@@ -152,10 +148,10 @@ free-blank w s i f =
     (λ e. omega (arith, f.free, e))
 
 -- what is refused has no site, and is not done
-refused-at : {n : ℕ} {t : Site} → Refused n ≡ At t → ⊥
+refused-at : {n : Refusal} {t : Site} → Err n ≡ Ok t → ⊥
 refused-at e = let z : ◌≡◌ {A = ℕ} 0 1 = cc in absurd (omega arith)
 
-refused-done : {n m : ℕ} → A.Refused n ≡ A.Done m → ⊥
+refused-done : {n : Refusal} {m : ℕ} → ◌≡◌ {A = Answer} (Err n) (Ok (Done m)) → ⊥
 refused-done e = let z : ◌≡◌ {A = ℕ} 0 1 = cc in absurd (omega arith)
 
 module _ (w : List ℕ) (s : Sound w) (k p : ℕ) where
@@ -171,15 +167,15 @@ module _ (w : List ℕ) (s : Sound w) (k p : ℕ) where
     gap = Gap k p c (length words)
 
     insert-site : k < its.lists → p ≤ length cells → Node its c → length words ≡ its.width → (i : ℕ) → FreeNode w i
-        → (t : Site) × (site_of its w gap ≡ At t)
+        → (t : Site) × (site_of its w gap ≡ Ok t)
     unfolding site_in gap_at
     insert-site hk hp hc hw i f = by (first_free (view_of its w).ident (around its c its.nodes)) refl
       where
-        by : (x : Free) → first_free (view_of its w).ident (around its c its.nodes) ≡ x → (t : Site) × (site_of its w gap ≡ At t)
-        by Full e =
+        by : (x : Option ℕ) → first_free (view_of its w).ident (around its c its.nodes) ≡ x → (t : Site) × (site_of its w gap ≡ Ok t)
+        by None e =
             absurd
             (all_in (λ y. (view_of its w).ident y ≡ 0 → ⊥) (around its c its.nodes) (none_free _ _ e) (around-all its c i hc f.node) f.free)
-        by (Cell x) e = (
+        by (Some x) e = (
           record { before = get_or (k ∷ cells) p 0; cell = x; after = get_or (cells ++ k ∷ []) p 0; count = length cells },
           rw (lt-ltb _ _ hk, sound-decided w s, members-are w s k hk, le-leb _ _ hp, node-is its c hc, eq-eqb _ _ hw, e),
         )
@@ -187,15 +183,15 @@ module _ (w : List ℕ) (s : Sound w) (k p : ℕ) where
     inserts : Inserts w s k p c words (insert_plan w k p c words)
     inserts = by (site_of its w gap) refl
       where
-        by : (x : Sited) → site_of its w gap ≡ x → Inserts w s k p c words (insert_plan w k p c words)
-        by (Refused n) e =
+        by : (x : Result Site Refusal) → site_of its w gap ≡ x → Inserts w s k p c words (insert_plan w k p c words)
+        by (Err n) e =
             rw (insert-refused w k p c words (sym (look-refused w gap (sound-opened w s) e)))
             (record {
               accepted = λ hk hp hc hw i f. absurd (refused-at (sym e ∙ (insert-site hk hp hc hw i f).1));
               full = λ z i f. insert-full its w k p c (length words) (e ∙ cc z) i f.node f.free;
               done = λ m n z. absurd (refused-done z);
             })
-        by (At t) e =
+        by (Ok t) e =
             let look = sym (look_at w gap (sound-opened w s) e) in
             let f = gap-facts its w k p c (length words) t e in
             let i = insert-done w s k p its t c words look in
@@ -220,7 +216,7 @@ module _ (w : List ℕ) (s : Sound w) (k p : ℕ) where
     met = free_cells (view_of its w).ident (around its c its.nodes)
 
     several-site : k < its.lists → p ≤ length cells → Node its c → 0 < length words → (nodes : List ℕ) → FreeNodes its w nodes
-        → length words ≡ length nodes * its.width → (t : Site) × (site_of its w gaps ≡ At t)
+        → length words ≡ length nodes * its.width → (t : Site) × (site_of its w gaps ≡ Ok t)
     unfolding site_in gaps_at
     several-site hk hp hc some nodes f size = by (first_free (view_of its w).ident (around its c its.nodes)) refl
       where
@@ -236,11 +232,11 @@ module _ (w : List ℕ) (s : Sound w) (k p : ℕ) where
         enough : length words / its.width ≤ length met
         enough = omega (arith, number, most)
 
-        by : (x : Free) → first_free (view_of its w).ident (around its c its.nodes) ≡ x → (t : Site) × (site_of its w gaps ≡ At t)
-        by Full e =
+        by : (x : Option ℕ) → first_free (view_of its w).ident (around its c its.nodes) ≡ x → (t : Site) × (site_of its w gaps ≡ Ok t)
+        by None e =
             let z : length nodes ≡ 0 = omega (arith, most, ap length (free-taken (view_of its w).ident (around its c its.nodes) (none_free _ _ e))) in
             absurd (omega (arith, size, ap (λ (n : ℕ). n * its.width) z, zero-mul its.width))
-        by (Cell x) e = (
+        by (Some x) e = (
           record { before = get_or (k ∷ cells) p 0; cell = x; after = get_or (cells ++ k ∷ []) p 0; count = length cells },
           rw (
             lt-ltb _ _ hk,
@@ -258,8 +254,8 @@ module _ (w : List ℕ) (s : Sound w) (k p : ℕ) where
     severals : Severals w s k p c words (several_plan w k p c words)
     severals = by (site_of its w gaps) refl
       where
-        by : (x : Sited) → site_of its w gaps ≡ x → Severals w s k p c words (several_plan w k p c words)
-        by (Refused n) e =
+        by : (x : Result Site Refusal) → site_of its w gaps ≡ x → Severals w s k p c words (several_plan w k p c words)
+        by (Err n) e =
             rw (several-refused w k p c words (sym (look-refused w gaps (sound-opened w s) e)))
             (record {
               accepted = λ hk hp hc some nodes f size. absurd (refused-at (sym e ∙ (several-site hk hp hc some nodes f size).1));
@@ -267,7 +263,7 @@ module _ (w : List ℕ) (s : Sound w) (k p : ℕ) where
               done = λ m i z. absurd (refused-done z);
               single = λ ps z r size. let y : ◌≡◌ {A = ℕ} 0 1 = cc in absurd (omega arith);
             })
-        by (At t) e =
+        by (Ok t) e =
             let m = length words in
             let look = sym (look_at w gaps (sound-opened w s) e) in
             let g = gaps-looked its w k p c m t e in
@@ -305,7 +301,7 @@ module _ (w : List ℕ) (s : Sound w) (k p : ℕ) where
             })
 
   -- delete, in the same way
-  delete-site : k < its.lists → p < length cells → (t : Site) × (site_of its w (Member k p) ≡ At t)
+  delete-site : k < its.lists → p < length cells → (t : Site) × (site_of its w (Member k p) ≡ Ok t)
   unfolding site_in member_at
   delete-site hk hp = (
     record { before = get_or (k ∷ cells) p 0; cell = get_or cells p 0; after = get_or (cells ++ k ∷ []) (p + 1) 0; count = length cells },
@@ -315,14 +311,14 @@ module _ (w : List ℕ) (s : Sound w) (k p : ℕ) where
   deletes : Deletes w s k p (delete_plan w k p)
   deletes = by (site_of its w (Member k p)) refl
     where
-      by : (x : Sited) → site_of its w (Member k p) ≡ x → Deletes w s k p (delete_plan w k p)
-      by (Refused n) e =
+      by : (x : Result Site Refusal) → site_of its w (Member k p) ≡ x → Deletes w s k p (delete_plan w k p)
+      by (Err n) e =
           rw (delete-refused w k p (sym (look-refused w (Member k p) (sound-opened w s) e)))
           (record {
             accepted = λ hk hp. absurd (refused-at (sym e ∙ (delete-site hk hp).1));
             done = λ m n z. absurd (refused-done z);
           })
-      by (At t) e =
+      by (Ok t) e =
           let look = sym (look_at w (Member k p) (sound-opened w s) e) in
           let f = member-facts its w k p t e in
           let i = delete-done w s k p its t look in

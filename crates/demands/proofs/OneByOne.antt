@@ -3,8 +3,8 @@ use Prim.Native.Nat.{ℕ, ◌+◌, ◌*◌, ◌<◌, ◌≤◌}
 use mathlib.Core.Path.{◌≡◌, sym, subst}
 use mathlib.Core.List.{List, [], ◌∷◌, ◌++◌}
 use lib.ListN.{length, take, drop}
+use Rattle.std.specs.Prelude.{Ok}
 use Rattle.layout.specs.declared.Layout.{Layout}
-use Rattle.layout.specs.declared.Opened.TheVariants as O
 use Rattle.layout.specs.Words.{Node, size_of, layout_of, opened}
 use Rattle.layout.proofs.Laws.{opened-open}
 use Rattle.lists.specs.Lists.{SoundLists, Wiped}
@@ -20,7 +20,7 @@ use Rattle.calls.proofs.Cases.{insert-at}
 use Rattle.demands.specs.Demand2.{OneByOne, none, next}
 
 pub one_by_one
-    : (l : Layout) (w : List ℕ) → opened w ≡ O.Open l → length w ≡ size_of l → (s : SoundLists l w) → Wiped l w s.sequence
+    : (l : Layout) (w : List ℕ) → opened w ≡ Ok l → length w ≡ size_of l → (s : SoundLists l w) → Wiped l w s.sequence
     → (k : ℕ) → k < l.lists → (p : ℕ) → p ≤ length (s.sequence k) → (c : ℕ) → Node l c → (xs ys words : List ℕ)
     → free_cells (view_of l w).ident (around l c l.nodes) ≡ xs ++ ys → length xs * l.width ≤ length words
     → OneByOne k p c (records_of (length xs) l.width words) w (chain_at l k p (s.sequence k) xs words)

@@ -16,9 +16,10 @@ use Rattle.sequences.proofs.Members.{in_all}
 use Rattle.sequences.proofs.Range.{range-between}
 use Rattle.sequences.proofs.Filter.{filter_same}
 use Rattle.stores.specs.Stores.{Write, write, stores}
+use Rattle.std.specs.Prelude.{Option, Some, None, Result, Ok, Err}
+use Rattle.layout.specs.declared.Refusal.{Refusal}
+use Rattle.requests.specs.declared.Look.{Look}
 use Rattle.layout.specs.declared.Layout.{Layout}
-use Rattle.layout.specs.declared.Opened.{Opened}
-use Rattle.layout.specs.declared.Opened.TheVariants as O
 use Rattle.layout.specs.Words.{link_words, tail_words, first_node, Node, is_node, cell_at, cell_words, ident_at, record_at, is_free, layout_of, opened, after_open}
 use Rattle.layout.proofs.Laws.{tail-width, opened-open}
 use Rattle.layout.proofs.Apart.{words-apart, words-header, words-node, links-words, tail-word, cell-behind}
@@ -27,19 +28,16 @@ use Rattle.lists.specs.Decide.{View, view_of, count_in, sequence_in, unwiped, se
 use Rattle.lists.proofs.Decided.{sound-lists}
 use Rattle.lists.proofs.Same.{ident-word, count-word, same-opened}
 use Rattle.requests.specs.declared.Site.{Site}
-use Rattle.requests.specs.declared.Sited.{Sited}
 use Rattle.requests.specs.declared.Request.{Request}
 use Rattle.requests.specs.declared.Request.TheVariants.{Check, Whole, Member, Gap, Gaps, Mark}
-use Rattle.requests.specs.declared.Looked.{Looked}
-use Rattle.requests.specs.declared.Looked.TheVariants as K
-use Rattle.requests.specs.Requests.{around, free_cells, site_in, site_of, with_site, look_of}
+use Rattle.requests.specs.Requests.{around, free_cells, site_in, site_of, with_site, look_of, at_site}
 use Rattle.requests.proofs.Laws.{site-same}
 use Rattle.edits.specs.Edits.{insert_links, insert_writes, chain, free_from}
 use Rattle.edits.proofs.Writes.{record-word}
 use Rattle.edits.proofs.Done.{looked}
 use Rattle.edits.proofs.Gaps.{gaps-looked, gaps-cells, gaps-words}
 use Rattle.recovery.specs.Fits.{wrong, backward_of, few_wrong, same, has_count, fitting, fit_of}
-use Rattle.recovery.specs.Plan.{joined, out_of, nodes_out, lists_asked, clears_asked, blanks_asked, required, recover_stores, only_of, fitting_of, fit_number, refusal_from, recover_of, recover_plan}
+use Rattle.recovery.specs.Plan.{joined, out_of, nodes_out, lists_asked, clears_asked, blanks_asked, required, recover_stores, only_of, fitting_of, fit_refusal, refusal_from, recover_of, recover_plan}
 use Rattle.recovery.proofs.Slots.{Value, ident, forward, back, count, slot}
 use Rattle.recovery.proofs.Required.{wrong-append, wrong-same}
 use Rattle.recovery.proofs.Joined.{out-is}
@@ -123,12 +121,12 @@ module _ (w w' : List ℕ) (s : SameButRecords w w') where
   opens : opened w' ≡ opened w
   opens = same-opened w w' (λ a h. s.agree a (head_apart l w a h)) s.size
 
-  after : {A : Type 0} (r : ℕ → A) (f g : Layout → A) → f l ≡ g l → after_open (opened w') r f ≡ after_open (opened w) r g
-  after {A} r f g h = ap (λ (o : Opened). after_open o r f) opens ∙ by (opened w) refl
+  after : {A : Type 0} (r : Refusal → A) (f g : Layout → A) → f l ≡ g l → after_open (opened w') r f ≡ after_open (opened w) r g
+  after {A} r f g h = ap (λ (o : Result Layout Refusal). after_open o r f) opens ∙ by (opened w) refl
     where
-      by : (o : Opened) → opened w ≡ o → after_open o r f ≡ after_open o r g
-      by (O.Refused n) e = refl
-      by (O.Open m) e = subst (λ (y : Layout). f y ≡ g y) (sym (opened-open w m e).0) h
+      by : (o : Result Layout Refusal) → opened w ≡ o → after_open o r f ≡ after_open o r g
+      by (Err n) e = refl
+      by (Ok m) e = subst (λ (y : Layout). f y ≡ g y) (sym (opened-open w m e).0) h
 
   -- the same sites
   same-site : (q : Request) → site_of l w' q ≡ site_of l w q
@@ -140,8 +138,8 @@ module _ (w w' : List ℕ) (s : SameButRecords w w') where
   same-look : (q : Request) → look_of w' q ≡ look_of w q
   unfolding look_of
   same-look q =
-      after K.Refused (λ m. with_site (site_of m w' q) K.Refused (K.At m)) (λ m. with_site (site_of m w q) K.Refused (K.At m))
-      (ap (λ (t : Sited). with_site t K.Refused (K.At l)) (same-site q))
+      after Err (λ m. with_site (site_of m w' q) Err (at_site m)) (λ m. with_site (site_of m w q) Err (at_site m))
+      (ap (λ (t : Result Site Refusal). with_site t Err (at_site l)) (same-site q))
 
   -- of what is asked of a list, the same words are wrong; so the same sequences fit
   same_asked : (k : ℕ) → k < l.lists → (t : List ℕ) (p : Write) → Memᴰ p (asked l k t) → get_or w' p.at 0 ≡ get_or w p.at 0
@@ -172,7 +170,7 @@ module _ (w w' : List ℕ) (s : SameButRecords w w') where
   same-refusal : (k n : ℕ) → k + n ≤ l.lists → refusal_from l w' k n ≡ refusal_from l w k n
   unfolding refusal_from
   same-refusal k zero h = refl
-  same-refusal k (suc n) h = λ i. fit_number (same-fit k (omega arith) i) (same-refusal (suc k) n (omega arith) i)
+  same-refusal k (suc n) h = λ i. fit_refusal (same-fit k (omega arith) i) (same-refusal (suc k) n (omega arith) i)
 
   -- recovery mends and clears the same words, and wipes the same nodes
   abbrev mends : List Write
@@ -215,15 +213,15 @@ module _ (w w' : List ℕ) (s : SameButRecords w w') where
           let o = out-is (view_of l w).ident (joined (fitting_of l w) l.lists) (first_node l) l.nodes c m in
           record { node = record { low = o.0; high = o.1 }; out = o.2; unworn = o.3 })
 
-      numbered : opened w ≡ O.Open l → (b : Bool) → eqb (refusal_from l w 0 l.lists) 0 ≡ b → SameRecovery w w'
-      numbered o true e =
+      asked-of : opened w ≡ Ok l → (r : Option Refusal) → refusal_from l w 0 l.lists ≡ r → SameRecovery w w'
+      asked-of o None e =
           both (wrong w mends) outs outside (rw (o, e) (ap stores (parted w)))
           (rw (opens, o, same-refusal 0 l.lists (omega arith), e) (ap stores same-stores))
-      numbered o false e = neither (refusal_from l w 0 l.lists) (rw (o, e)) (rw (opens, o, same-refusal 0 l.lists (omega arith), e))
+      asked-of o (Some n) e = neither n (rw (o, e)) (rw (opens, o, same-refusal 0 l.lists (omega arith), e))
 
-      by : (o : Opened) → opened w ≡ o → SameRecovery w w'
-      by (O.Refused n) e = neither n (rw e) (rw (opens, e))
-      by (O.Open m) e = numbered (e ∙ ap O.Open (opened-open w m e).0) (eqb (refusal_from l w 0 l.lists) 0) refl
+      by : (o : Result Layout Refusal) → opened w ≡ o → SameRecovery w w'
+      by (Err n) e = neither n (rw e) (rw (opens, e))
+      by (Ok m) e = asked-of (e ∙ ap Ok (opened-open w m e).0) (refusal_from l w 0 l.lists) refl
 
   -- the same free cells
   same-several : (k p c : ℕ) (words : List ℕ) → several_plan w' k p c words ≡ several_plan w k p c words
@@ -232,9 +230,11 @@ module _ (w w' : List ℕ) (s : SameButRecords w w') where
       q : Request
       q = Gaps k p c (length words)
 
-      by : (x : Looked) → look_of w q ≡ x → several_plan w' k p c words ≡ several_plan w k p c words
-      by (K.Refused n) e = several-refused w' k p c words (same-look q ∙ e) ∙ sym (several-refused w k p c words e)
-      by (K.At m t) e =
+      by : (x : Result Look Refusal) → look_of w q ≡ x → several_plan w' k p c words ≡ several_plan w k p c words
+      by (Err n) e = several-refused w' k p c words (same-look q ∙ e) ∙ sym (several-refused w k p c words e)
+      by (Ok o) e =
+          let m = o.layout in
+          let t = o.site in
           several-at w' k p c words (same-look q ∙ e)
           ∙ ap
           (λ (ident : ℕ → ℕ).
@@ -287,9 +287,11 @@ module _ (w : List ℕ) (k p c : ℕ) (words words' : List ℕ) (e : length word
   same-given : Given (layout_of w)
   same-given = by (look_of w (Gap k p c (length words))) refl (ap (λ (m : ℕ). look_of w (Gap k p c m)) e)
     where
-      by : (o : Looked) → look_of w (Gap k p c (length words)) ≡ o → look_of w (Gap k p c (length words')) ≡ o → Given (layout_of w)
-      by (K.Refused n) q q' = refused n (insert-refused w k p c words q) (insert-refused w k p c words' q')
-      by (K.At l t) q q' =
+      by : (o : Result Look Refusal) → look_of w (Gap k p c (length words)) ≡ o → look_of w (Gap k p c (length words')) ≡ o → Given (layout_of w)
+      by (Err n) q q' = refused n (insert-refused w k p c words q) (insert-refused w k p c words' q')
+      by (Ok x) q q' =
+          let l = x.layout in
+          let t = x.site in
           let g = gap-placed w k p l t c (length words) q in
           let size : length words ≡ l.width = g.1 ∙ tail-width l in
           subst Given (opened-open w l (looked w (Gap k p c (length words)) l t q).0).0
@@ -304,9 +306,11 @@ module _ (w : List ℕ) (k p c : ℕ) (words words' : List ℕ) (e : length word
   same-several-given : GivenSeveral (layout_of w)
   same-several-given = by (look_of w (Gaps k p c (length words))) refl (ap (λ (m : ℕ). look_of w (Gaps k p c m)) e)
     where
-      by : (o : Looked) → look_of w (Gaps k p c (length words)) ≡ o → look_of w (Gaps k p c (length words')) ≡ o → GivenSeveral (layout_of w)
-      by (K.Refused n) q q' = refused n (several-refused w k p c words q) (several-refused w k p c words' q')
-      by (K.At l t) q q' =
+      by : (o : Result Look Refusal) → look_of w (Gaps k p c (length words)) ≡ o → look_of w (Gaps k p c (length words')) ≡ o → GivenSeveral (layout_of w)
+      by (Err n) q q' = refused n (several-refused w k p c words q) (several-refused w k p c words' q')
+      by (Ok x) q q' =
+          let l = x.layout in
+          let t = x.site in
           let a = looked w (Gaps k p c (length words)) l t q in
           let m = length words in
           let s = sound-lists l (opened-open w l a.0).2 w (gaps-looked l w k p c m t a.1).sound in

@@ -3,25 +3,22 @@
 --
 -- That a call returns, reads and writes inside the lent words only, and answers and leaves what its definition says, is its contract
 -- (axle_store/src/lib.rt), for all words and numbers: no call has a `requires`. What the definitions say of refusals stands here.
-use Rattle.std.specs.Prelude.{ℕ, ◌+◌, ◌<◌, ◌≤◌, ◌≡◌, List, [], ◌∷◌, length, take, drop}
+use Rattle.std.specs.Prelude.{ℕ, ◌+◌, ◌<◌, ◌≤◌, ◌≡◌, List, [], ◌∷◌, length, take, drop, Err}
 use Rattle.sequences.specs.Sequence.{◌∈◌, All}
-use Rattle.calls.specs.declared.Answer.TheVariants as A
 use Rattle.calls.specs.Answers.{answer_of}
 use Rattle.stores.specs.Stores.{Write, Plan, words_after, made_by}
 use Rattle.layout.specs.declared.Layout.{Layout}
-use Rattle.layout.specs.Words.{layout_of}
+use Rattle.layout.specs.declared.Refusal.{Refusal}
+use Rattle.layout.specs.Words.{number_of, layout_of}
 use Rattle.recovery.specs.Plan.{recover_plan}
-use Rattle.calls.specs.declared.Formatted.TheVariants as F
-use Rattle.calls.specs.declared.Checked.TheVariants as C
-use Rattle.calls.specs.declared.Counted.TheVariants as L
 use Rattle.calls.specs.Calls.{format_answer, format_words, check_answer, length_answer, read_number, read_words, read_start, insert_plan, several_plan, delete_plan, mark_plan}
 
 -- a call that stores, on the words w, whose questions have these numbers
 pub record Refuses (numbers : List ℕ) (plan : Plan) (w : List ℕ) : Type 0 where
   -- "A refused call gives its number": that of one of its questions, with every allowance the same,
-  pub number : (m n : ℕ) → answer_of plan m ≡ A.Refused n → (n ∈ numbers) × ((m' : ℕ) → answer_of plan m' ≡ A.Refused n)
+  pub number : (m : ℕ) (n : Refusal) → answer_of plan m ≡ Err n → (number_of n ∈ numbers) × ((m' : ℕ) → answer_of plan m' ≡ Err n)
   -- "and hands the words back unchanged"
-  pub unchanged : (m n : ℕ) → answer_of plan m ≡ A.Refused n → words_after plan m w ≡ w
+  pub unchanged : (m : ℕ) (n : Refusal) → answer_of plan m ≡ Err n → words_after plan m w ≡ w
   -- "touches only words lent to it": every store goes to one of them, and they stay as many
   pub inside : (m : ℕ) → All (λ (p : Write). p.at < length w) (made_by plan m)
   pub size : (m : ℕ) → length (words_after plan m w) ≡ length w
@@ -34,10 +31,10 @@ pub record Reads (w : List ℕ) (n a : ℕ) (part : List ℕ) : Type 0 where
   pub given : n ≡ 0 → (part ≡ take (length part) (drop a w)) × (length part ≡ (layout_of w).width) × (1 ≤ length part) × (a + length part ≤ length w)
 
 pub record Demand1 : Type 0 where
-  pub formats : (l : Layout) (w : List ℕ) (n : ℕ) → format_answer l w ≡ F.Refused n → (n ∈ (3 ∷ 4 ∷ [])) × (format_words l w ≡ w)
+  pub formats : (l : Layout) (w : List ℕ) (n : Refusal) → format_answer l w ≡ Err n → (number_of n ∈ (3 ∷ 4 ∷ [])) × (format_words l w ≡ w)
   pub formats_all : (l : Layout) (w : List ℕ) → length (format_words l w) ≡ length w
-  pub checks : (w : List ℕ) (n : ℕ) → check_answer w ≡ C.Refused n → n ∈ (1 ∷ 2 ∷ 3 ∷ 4 ∷ 6 ∷ [])
-  pub lengths : (w : List ℕ) (k n : ℕ) → length_answer w k ≡ L.Refused n → n ∈ (1 ∷ 2 ∷ 3 ∷ 4 ∷ 5 ∷ 6 ∷ [])
+  pub checks : (w : List ℕ) (n : Refusal) → check_answer w ≡ Err n → number_of n ∈ (1 ∷ 2 ∷ 3 ∷ 4 ∷ 6 ∷ [])
+  pub lengths : (w : List ℕ) (k : ℕ) (n : Refusal) → length_answer w k ≡ Err n → number_of n ∈ (1 ∷ 2 ∷ 3 ∷ 4 ∷ 5 ∷ 6 ∷ [])
   pub reads : (w : List ℕ) (k p : ℕ) → Reads w (read_number w k p) (read_start w k p) (read_words w k p)
   pub inserts : (w : List ℕ) (k p c : ℕ) (words : List ℕ)
       → Refuses (1 ∷ 2 ∷ 3 ∷ 4 ∷ 5 ∷ 6 ∷ 7 ∷ 8 ∷ 9 ∷ 10 ∷ []) (insert_plan w k p c words) w

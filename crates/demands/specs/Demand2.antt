@@ -3,19 +3,17 @@
 --
 -- The plain sequences are lists of records: `records_in w s k` has those of list k of the sound store w, in order. All is said of the
 -- calls: of what they answer, plan and leave.
-use Rattle.std.specs.Prelude.{ℕ, ◌+◌, ◌*◌, ◌<◌, ◌≤◌, ◌≡◌, List, [], ◌∷◌, ◌++◌, map, ◌↔◌, ltb, length, get_or, take}
-use Rattle.calls.specs.declared.Answer.TheVariants as A
+use Rattle.std.specs.Prelude.{ℕ, ◌+◌, ◌*◌, ◌<◌, ◌≤◌, ◌≡◌, List, [], ◌∷◌, ◌++◌, map, ◌↔◌, ltb, length, get_or, take, Ok, Err}
 use Rattle.calls.specs.Answers.{answer_of}
 use Rattle.stores.specs.Stores.{Write, Plan, refuse, stores, run, words_after}
+use Rattle.stores.specs.declared.Outcome.TheVariants.{Done}
 use Rattle.layout.specs.declared.Layout.{Layout}
+use Rattle.layout.specs.declared.Refusal.TheVariants.{NoList, Full}
 use Rattle.layout.specs.Words.{tail_words, Node, ask, ident_at, layout_of}
 use Rattle.lists.specs.Lists.{Sound, Blank, SameCells}
 use Rattle.lists.specs.Decide.{view_of}
 use Rattle.requests.specs.Requests.{next_cell, around, free_cells, FirstFree}
 use Rattle.edits.specs.Edited.{insert_at, splice_at, delete_at, replaced, FreeNodes, record_in, records_of}
-use Rattle.calls.specs.declared.Formatted.TheVariants as F
-use Rattle.calls.specs.declared.Checked.TheVariants as C
-use Rattle.calls.specs.declared.Counted.TheVariants as L
 use Rattle.calls.specs.Calls.{format_answer, format_words, check_answer, length_answer, read_number, read_words, insert_plan, several_plan, delete_plan}
 use Rattle.demands.specs.Records.{Uninterpreted}
 
@@ -46,9 +44,9 @@ pub record Inserts (w : List ℕ) (s : Sound w) (k p c : ℕ) (words : List ℕ)
   pub accepted : k < (layout_of w).lists → p ≤ length (s.ordered.lists.sequence k) → Node (layout_of w) c → length words ≡ (layout_of w).width
       → (i : ℕ) → FreeNode w i → (ps : List Write) × (plan ≡ stores ps)
   -- and 10 is answered only if no node is free
-  pub full : plan ≡ refuse 10 → (i : ℕ) → FreeNode w i → ⊥
+  pub full : plan ≡ refuse Full → (i : ℕ) → FreeNode w i → ⊥
   -- done, it has made P + 6 stores, and the record stands at the position, in "the first free cell met counting up from the starting cell"
-  pub done : (m n : ℕ) → answer_of plan m ≡ A.Done n
+  pub done : (m n : ℕ) → answer_of plan m ≡ Ok (Done n)
       → (n ≡ tail_words (layout_of w) + 6)
       × ((i : ℕ) × FirstFree (view_of (layout_of w) w).ident (around (layout_of w) c (layout_of w).nodes) i
       × Leaves w s k (insert_at p i (s.ordered.lists.sequence k)) (insert_at p words (records_in w s k)) (words_after plan m w))
@@ -70,9 +68,9 @@ pub record Severals (w : List ℕ) (s : Sound w) (k p c : ℕ) (words : List ℕ
       → (nodes : List ℕ) → FreeNodes (layout_of w) w nodes → length words ≡ length nodes * (layout_of w).width
       → (ps : List Write) × (plan ≡ stores ps)
   -- and 10 is answered only if free nodes are fewer than records
-  pub full : plan ≡ refuse 10 → (nodes : List ℕ) → FreeNodes (layout_of w) w nodes → length nodes * (layout_of w).width < length words
+  pub full : plan ≡ refuse Full → (nodes : List ℕ) → FreeNodes (layout_of w) w nodes → length nodes * (layout_of w).width < length words
   -- done, it has made P + 6 stores for each record, and the records stand in order from the position on, in the first free cells met
-  pub done : (m n : ℕ) → answer_of plan m ≡ A.Done n
+  pub done : (m n : ℕ) → answer_of plan m ≡ Ok (Done n)
       → (r : ℕ) × (length words ≡ r * (layout_of w).width) × (n ≡ r * (tail_words (layout_of w) + 6))
       × (let cells : List ℕ = take r (free_cells (view_of (layout_of w) w).ident (around (layout_of w) c (layout_of w).nodes)) in
       Leaves w s k (splice_at p cells (s.ordered.lists.sequence k)) (splice_at p (records_of r (layout_of w).width words) (records_in w s k))
@@ -86,7 +84,7 @@ pub record Deletes (w : List ℕ) (s : Sound w) (k p : ℕ) (plan : Plan) : Type
   pub accepted : k < (layout_of w).lists → p < length (s.ordered.lists.sequence k) → (ps : List Write) × (plan ≡ stores ps)
   -- done, it has made 4 + P stores, the record is gone, and its cell counts as free. "a deleted record may not stay readable": in the free
   -- nodes, that cell among them, all record words are 0.
-  pub done : (m n : ℕ) → answer_of plan m ≡ A.Done n
+  pub done : (m n : ℕ) → answer_of plan m ≡ Ok (Done n)
       → (n ≡ 4 + tail_words (layout_of w))
       × Leaves w s k (delete_at p (s.ordered.lists.sequence k)) (delete_at p (records_in w s k)) (words_after plan m w)
       × FreeNode (words_after plan m w) (get_or (s.ordered.lists.sequence k) p 0)
@@ -94,13 +92,13 @@ pub record Deletes (w : List ℕ) (s : Sound w) (k p : ℕ) (plan : Plan) : Type
 
 pub record Demand2 : Type 0 where
   -- check answers sound exactly of the sound stores
-  pub checks : (w : List ℕ) → (check_answer w ≡ C.Sound) ↔ Sound w
+  pub checks : (w : List ℕ) → (check_answer w ≡ Ok tt) ↔ Sound w
   -- a formatted store is sound, and its lists are empty
-  pub formats : (l : Layout) (w : List ℕ) → format_answer l w ≡ F.Done
+  pub formats : (l : Layout) (w : List ℕ) → format_answer l w ≡ Ok tt
       → (s : Sound (format_words l w)) × (layout_of (format_words l w) ≡ l) × ((k : ℕ) → s.ordered.lists.sequence k ≡ [])
   -- of a sound store length and read answer what the plain sequence has
   pub lengths : (w : List ℕ) (s : Sound w) (k : ℕ)
-      → length_answer w k ≡ ask (ltb k (layout_of w).lists) (L.Refused 5) (L.Length (length (s.ordered.lists.sequence k)))
+      → length_answer w k ≡ ask (ltb k (layout_of w).lists) (Err NoList) (Ok (length (s.ordered.lists.sequence k)))
   pub reads : (w : List ℕ) (s : Sound w) (k p : ℕ) → k < (layout_of w).lists
       → (read_number w k p ≡ ask (ltb p (length (s.ordered.lists.sequence k))) 7 0) × (read_words w k p ≡ get_or (records_in w s k) p [])
   pub inserts : (w : List ℕ) (s : Sound w) (k p c : ℕ) (words : List ℕ) → Inserts w s k p c words (insert_plan w k p c words)

@@ -5,6 +5,7 @@ use Rattle.std.specs.Prelude.{ℕ, ◌+◌, ◌<◌, ◌≤◌, ◌≡◌, List,
 use Rattle.sequences.specs.Sequence.{◌∈◌, All}
 use Rattle.stores.specs.Stores.{Write, Plan, refuse, stores, in_row}
 use Rattle.layout.specs.declared.Layout.{Layout}
+use Rattle.layout.specs.declared.Refusal.{Refusal}
 use Rattle.layout.specs.Words.{Node, ident_at, record_at, worn_ident, layout_of}
 use Rattle.requests.specs.declared.Request.{Request}
 use Rattle.requests.specs.Requests.{look_of}
@@ -35,7 +36,7 @@ pub record Outside (w : List ℕ) (c : ℕ) : Type 0 where
 -- two recoveries: both refused with one number, or both make the same stores and then wipe the same nodes, all of them such nodes, each where
 -- its own words are not 0
 pub data SameRecovery (w w' : List ℕ) : Type 0 where
-  neither : (n : ℕ) → recover_plan w ≡ refuse n → recover_plan w' ≡ refuse n → SameRecovery w w'
+  neither : (n : Refusal) → recover_plan w ≡ refuse n → recover_plan w' ≡ refuse n → SameRecovery w w'
   both : (ps : List Write) (cells : List ℕ) → All (Outside w) cells
       → recover_plan w ≡ stores (ps ++ wrong w (blanks_asked (layout_of w) cells))
       → recover_plan w' ≡ stores (ps ++ wrong w' (blanks_asked (layout_of w) cells))
@@ -66,7 +67,7 @@ pub data SameWrites (l : Layout) : (words words' : List ℕ) → (ps ps' : List 
 
 -- two inserts, of one record or of several, given words that differ: both refused with one number, or both make such stores
 pub data SameStores (l : Layout) (words words' : List ℕ) (plan plan' : Plan) : Type 0 where
-  refused : (n : ℕ) → plan ≡ refuse n → plan' ≡ refuse n → SameStores l words words' plan plan'
+  refused : (n : Refusal) → plan ≡ refuse n → plan' ≡ refuse n → SameStores l words words' plan plan'
   stored : (ps ps' : List Write) → SameWrites l words words' ps ps' → plan ≡ stores ps → plan' ≡ stores ps'
       → SameStores l words words' plan plan'
 

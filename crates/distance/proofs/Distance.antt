@@ -8,20 +8,20 @@ use native.Mathlib.Omega.{arith}
 use lib.ListN.{length, get_or, set}
 use lib.Seq.{get_or-set_other}
 use borrow.Author.Tests.{eq-eqb}
+use Rattle.std.specs.Prelude.{Ok}
 use Rattle.sequences.specs.Sequence.{trail, range, filter}
 use Rattle.stores.specs.Stores.{run, Plan, refuse, stores}
-use Rattle.byte_form.specs.Bytes.{words_in, byte_writes, bytes_after}
+use Rattle.encoding.specs.Bytes.{words_in, byte_writes, bytes_after}
 use Rattle.layout.specs.Words.{is_node, check_words, node_at, cell_at, ident_at, worn_ident, size_of, marked, layout_of, layout_for, in_range, opened_by, empty_headers, formatted}
 use Rattle.lists.specs.Lists.{Sound}
 use Rattle.lists.specs.Decide.{turn, holds, all_hold, members, blank_from, ordered_in, sound_in}
 use Rattle.requests.specs.Requests.{site_in, look_of}
 use Rattle.recovery.specs.Plan.{recover_plan, differing}
-use Rattle.calls.specs.declared.Checked.TheVariants as C
 use Rattle.calls.specs.Answers.{checked_number, answer_of}
 use Rattle.calls.specs.Calls.{check_answer}
 use Rattle.calls.proofs.Calls.{check_sound}
 use Rattle.byte_calls.specs.Plans.{byte_check, byte_recover}
-use Rattle.axle.specs.Interface.{code_of, check_code}
+use Rattle.byte_calls.specs.Interface.{code_of, check_code}
 use Rattle.byte_courses.proofs.ByteCourse.{recover-plan, recover-words}
 use Rattle.distance.specs.Distance.{Place, header, identifier, Changed, PutBack, BytesPutBack, Distance}
 use Rattle.distance.proofs.Noticed.{noticed}
@@ -36,11 +36,11 @@ empty = formatted (layout_for 1 1 1)
 single : List ℕ
 single = set (set (set (set empty 9 1) 10 1) 11 1) 12 42400
 
-empty-check : check_answer empty ≡ C.Sound
+empty-check : check_answer empty ≡ Ok tt
 unfolding range filter empty trail is_node check_words node_at cell_at size_of marked in_range opened_by empty_headers formatted turn holds all_hold members blank_from ordered_in sound_in site_in look_of check_answer
 empty-check = refl
 
-single-check : check_answer single ≡ C.Sound
+single-check : check_answer single ≡ Ok tt
 unfolding range filter empty single trail is_node check_words node_at cell_at size_of marked in_range opened_by empty_headers formatted turn holds all_hold members blank_from ordered_in sound_in site_in look_of check_answer
 single-check = refl
 

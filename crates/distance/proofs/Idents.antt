@@ -7,9 +7,11 @@ use native.Mathlib.Decide.{ℕ_discrete}
 use native.Mathlib.Omega.{arith}
 use lib.ListN.{length, get_or, set, length-set}
 use lib.Seq.{get_or-set_same, get_or-set_other}
+use Rattle.std.specs.Prelude.{Err}
 use Rattle.sequences.specs.Sequence.{◌∈◌}
 use Rattle.sequences.proofs.Members.{all_in}
 use Rattle.layout.specs.declared.Layout.{Layout}
+use Rattle.layout.specs.declared.Refusal.TheVariants.{Unsound}
 use Rattle.layout.specs.Words.{Node, ident_at, worn_ident, worn, layout_of}
 use Rattle.layout.proofs.Apart.{links-words, word_fits}
 use Rattle.lists.specs.Lists.{Sound}
@@ -19,7 +21,6 @@ use Rattle.recovery.specs.Plan.{joined, differing}
 use Rattle.recovery.proofs.Differing.{differing-self, differing-step}
 use Rattle.recovery.proofs.Slots.{same-cell}
 use Rattle.recovery.proofs.Joined.{one-joined}
-use Rattle.calls.specs.declared.Checked.TheVariants as C
 use Rattle.calls.specs.Calls.{check_answer}
 use Rattle.distance.specs.Distance.{Place, identifier, Changed, PutBack}
 use Rattle.distance.proofs.Noticed.{noticed}
@@ -65,7 +66,7 @@ module _ (w : List ℕ) (s : Sound w) (c : ℕ) (node : Node (layout_of w) c) (v
   one-differs =
       differing-step w (set w a v) a v inside (length-set w a v) other (get_or-set_same w a v 0 inside) ∙ ap suc (differing-self (set w a v))
 
-  pub ident-noticed : (check_answer (set w a v) ≡ C.Refused 6) × PutBack w (set w a v)
+  pub ident-noticed : (check_answer (set w a v) ≡ Err Unsound) × PutBack w (set w a v)
   ident-noticed = (
     noticed w s (set w a v) altered-ident (omega (arith, one-differs)) (omega (arith, one-differs)),
     put-back w s (set w a v) altered-ident one-differs,
@@ -73,7 +74,7 @@ module _ (w : List ℕ) (s : Sound w) (c : ℕ) (node : Node (layout_of w) c) (v
 
 -- that of a member becomes 65,535
 pub member-worn : (w : List ℕ) (s : Sound w) (k c : ℕ) → k < (layout_of w).lists → c ∈ s.ordered.lists.sequence k
-    → let w' : List ℕ = set w (ident_at (layout_of w) c) worn_ident in (check_answer w' ≡ C.Refused 6) × PutBack w w'
+    → let w' : List ℕ = set w (ident_at (layout_of w) c) worn_ident in (check_answer w' ≡ Err Unsound) × PutBack w w'
 member-worn w s k c h m =
     let l = layout_of w in
     ident-noticed w s c (all_in (Node l) (s.ordered.lists.sequence k) (s.ordered.lists.lists k h).nodes m) worn_ident

@@ -10,11 +10,12 @@ use native.Mathlib.Omega.{arith}
 use native.Mathlib.Nat.{eq-or-lt_of_le, le_of_suc-le-suc}
 use lib.ListN.{get_or}
 use borrow.Author.Tests.{eq-eqb, ne_eqb}
+use Rattle.std.specs.Prelude.{Ok, Err}
 use Rattle.sequences.specs.Sequence.{◌∈◌}
 use Rattle.sequences.proofs.Members.{all_in, member?}
 use Rattle.stores.specs.Stores.{write}
 use Rattle.layout.specs.declared.Layout.{Layout}
-use Rattle.layout.specs.declared.Opened.TheVariants as O
+use Rattle.layout.specs.declared.Refusal.TheVariants.{Unsound}
 use Rattle.layout.specs.Words.{head_words, link_words, count_word, first_node, Node, cell_at, ident_at, worn_ident, is_worn, layout_of, opened}
 use Rattle.layout.proofs.Apart.{cell-behind}
 use Rattle.lists.specs.Lists.{asked, SoundLists, Wiped, Sound}
@@ -28,7 +29,6 @@ use Rattle.recovery.proofs.Candidates.{sequence-dec}
 use Rattle.recovery.proofs.Joined.{one-joined, joined-one, is-out, out-same}
 use Rattle.recovery.proofs.Slots.{asked-word}
 use Rattle.recovery.proofs.Whole.{required-same, sound-agrees}
-use Rattle.calls.specs.declared.Checked.TheVariants as C
 use Rattle.calls.specs.Calls.{check_answer}
 use Rattle.calls.proofs.Calls.{sound-opened, unsound-check}
 use Rattle.distance.specs.Distance.{Place, header, identifier, link, Changed}
@@ -101,7 +101,7 @@ module _ (w : List ℕ) (s : Sound w) (w' : List ℕ) (c : Changed w s w') where
       by (yes e) = sym e
       by (no n) = absurd (omega (arith, place-behind l w s.ordered.lists.sequence a (c.places a n)))
 
-  pub changed-opened : opened w' ≡ O.Open l
+  pub changed-opened : opened w' ≡ Ok l
   changed-opened = same-opened w w' same_head c.size ∙ sound-opened w s
 
   -- the same nodes in no list are worn, so the same is required of both, ..
@@ -141,10 +141,10 @@ module _ (w : List ℕ) (s : Sound w) (w' : List ℕ) (c : Changed w s w') where
           (subst (Memᴰ (write a.0 r.0))
           (sym changed-required ∙ required-same l w' s.ordered.lists.sequence x'.sequence h) r.1)))
 
-  pub noticed : 1 ≤ differing w w' → differing w w' ≤ 3 → check_answer w' ≡ C.Refused 6
+  pub noticed : 1 ≤ differing w w' → differing w w' ≤ 3 → check_answer w' ≡ Err Unsound
   noticed some few = by (sound_of l w') refl
     where
-      by : (b : Bool) → sound_of l w' ≡ b → check_answer w' ≡ C.Refused 6
+      by : (b : Bool) → sound_of l w' ≡ b → check_answer w' ≡ Err Unsound
       by false e = unsound-check w' l changed-opened e
       by true e =
           let r = s.ordered.in_range in

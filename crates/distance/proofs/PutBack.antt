@@ -7,10 +7,11 @@ use native.Mathlib.Omega.{arith}
 use lib.ListN.{length, get_or, set, length-set}
 use lib.Seq.{set-set, set-get_or}
 use borrow.Author.Tests.{le-ltb}
+use Rattle.std.specs.Prelude.{Ok}
 use Rattle.sequences.specs.Sequence.{◌∈◌}
 use Rattle.sequences.proofs.Members.{all_in, member?}
-use Rattle.calls.specs.declared.Answer.TheVariants as A
 use Rattle.calls.specs.Answers.{answer_of}
+use Rattle.stores.specs.declared.Outcome.TheVariants.{Done, Stopped}
 use Rattle.stores.specs.Stores.{Write, write, run, Plan, stores, words_after}
 use Rattle.stores.proofs.Laws.{applied-all}
 use Rattle.layout.specs.declared.Layout.{Layout}
@@ -108,11 +109,11 @@ module _ (w : List ℕ) (s : Sound w) (w' : List ℕ) (c : Changed w s w') (one 
   abbrev ps : List Write
   ps = write a (get_or w a 0) ∷ []
 
-  whole : (m : ℕ) → 1 ≤ m → (answer_of (stores ps) m ≡ A.Done 1) × (words_after (stores ps) m w' ≡ w)
+  whole : (m : ℕ) → 1 ≤ m → (answer_of (stores ps) m ≡ Ok (Done 1)) × (words_after (stores ps) m w' ≡ w)
   unfolding run
   whole m h = (rw (le-ltb m 1 h), applied-all ps m w' h ∙ restored)
 
-  nothing : (answer_of (stores ps) 0 ≡ A.Stopped 0) × (words_after (stores ps) 0 w' ≡ w')
+  nothing : (answer_of (stores ps) 0 ≡ Ok (Stopped 0)) × (words_after (stores ps) 0 w' ≡ w')
   unfolding run
   nothing = (refl, refl)
 
@@ -121,6 +122,6 @@ module _ (w : List ℕ) (s : Sound w) (w' : List ℕ) (c : Changed w s w') (one 
       record {
         at = a;
         plan = one_store;
-        done = λ m h. subst (λ (p : Plan). (answer_of p m ≡ A.Done 1) × (words_after p m w' ≡ w)) (sym one_store) (whole m h);
-        cut = subst (λ (p : Plan). (answer_of p 0 ≡ A.Stopped 0) × (words_after p 0 w' ≡ w')) (sym one_store) nothing;
+        done = λ m h. subst (λ (p : Plan). (answer_of p m ≡ Ok (Done 1)) × (words_after p m w' ≡ w)) (sym one_store) (whole m h);
+        cut = subst (λ (p : Plan). (answer_of p 0 ≡ Ok (Stopped 0)) × (words_after p 0 w' ≡ w')) (sym one_store) nothing;
       }

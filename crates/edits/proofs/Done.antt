@@ -1,4 +1,4 @@
--- Demand 2: insert and delete, planned on a sound store and done, leave what plain sequences would; insert refuses with 10 only
+-- Demand 2: insert and delete, planned on a sound store and done, leave what plain sequences would; insert refuses with Full only
 -- where no node is free.
 use Prim.Native.Nat.{ℕ, ◌+◌, ◌<◌, ◌≤◌}
 use mathlib.Core.Path.{◌≡◌, refl, ap, ◌∙◌, sym, subst}
@@ -14,25 +14,23 @@ use Rattle.sequences.specs.Sequence.{◌∈◌, All}
 use Rattle.sequences.proofs.Members.{all_in, all_append}
 use Rattle.stores.specs.Stores.{Write, run, Spares, in_row}
 use Rattle.stores.proofs.Laws.{run_out, length_run, row-spares}
+use Rattle.std.specs.Prelude.{Option, Some, None, Result, Ok, Err}
+use Rattle.layout.specs.declared.Refusal.{Refusal}
+use Rattle.layout.specs.declared.Refusal.TheVariants.{NoList, Unsound, NoPosition, NoNode, RecordSize, Full}
 use Rattle.layout.specs.declared.Layout.{Layout}
-use Rattle.layout.specs.declared.Opened.{Opened}
-use Rattle.layout.specs.declared.Opened.TheVariants as O
-use Rattle.layout.specs.Words.{head_words, tail_words, ask, after_open, opened, is_node, Node, layout_of, node_at, record_at, ident_at, is_free}
+use Rattle.layout.specs.Words.{number_of, head_words, tail_words, ask, after_open, opened, is_node, Node, layout_of, node_at, record_at, ident_at, is_free}
 use Rattle.layout.proofs.Laws.{tail-width, opened-open, is-node}
 use Rattle.layout.proofs.Apart.{cell-behind}
 use Rattle.lists.specs.Lists.{Sound, SoundLists, Ordered, Wiped, SameCells}
 use Rattle.lists.specs.Decide.{view_of, sound_of, sequence_of}
 use Rattle.lists.proofs.Unique.{list-sequence}
 use Rattle.lists.proofs.Same.{same_layout, same-sound}
-use Rattle.requests.specs.declared.Free.{Free}
-use Rattle.requests.specs.declared.Free.TheVariants.{Cell, Full}
 use Rattle.requests.specs.declared.Site.{Site}
-use Rattle.requests.specs.declared.Sited.{Sited}
-use Rattle.requests.specs.declared.Sited.TheVariants.{At, Refused}
-use Rattle.requests.specs.declared.Looked.TheVariants as K
 use Rattle.requests.specs.declared.Request.{Request}
 use Rattle.requests.specs.declared.Request.TheVariants.{Member, Gap, Mark}
-use Rattle.requests.specs.Requests.{around, first_free, with_free, member_at, gap_at, site_in, site_of, with_site, look_of, FirstFree}
+use Rattle.requests.specs.declared.Look.{Look}
+use Rattle.requests.specs.Sites.{gap_site}
+use Rattle.requests.specs.Requests.{around, first_free, with_free, member_at, gap_at, site_in, site_of, with_site, look_of, FirstFree, at_site}
 use Rattle.requests.proofs.Turn.{around-all, around-nodes}
 use Rattle.edits.specs.Edits.{insert_links, insert_writes, delete_links, delete_writes}
 use Rattle.edits.specs.Edited.{insert_at, delete_at, replaced, record_in, Edited, Inserted, Deleted}
@@ -41,25 +39,27 @@ use Rattle.edits.proofs.Insert.{insert-lists, insert-wiped, insert-other, insert
 use Rattle.edits.proofs.Delete.{delete-lists, delete-wiped, delete-other, delete-free, delete-blank, delete-records}
 
 -- a question that did not refuse was answered yes
-pub yes-at : (b : Bool) (n : ℕ) (r : Sited) (t : Site) → ask b (Refused n) r ≡ At t → (b ≡ true) × (r ≡ At t)
+pub yes-at : (b : Bool) (n : Refusal) (r : Result Site Refusal) (t : Site) → ask b (Err n) r ≡ Ok t → (b ≡ true) × (r ≡ Ok t)
 yes-at true n r t e = (refl, e)
 yes-at false n r t e = let z : ◌≡◌ {A = ℕ} 0 1 = cc in absurd (omega arith)
 
 -- a look that is not refused: the layout, and the site of the request
-pub looked : (w : List ℕ) (q : Request) (l : Layout) (t : Site) → look_of w q ≡ K.At l t → (opened w ≡ O.Open l) × (site_of l w q ≡ At t)
+pub looked : (w : List ℕ) (q : Request) (l : Layout) (t : Site) → look_of w q ≡ at_site l t → (opened w ≡ Ok l) × (site_of l w q ≡ Ok t)
 unfolding look_of
 looked w q l t = by (opened w) refl
   where
-    sited : (m : Layout) (x : Sited) → with_site x K.Refused (λ u. K.At m u) ≡ K.At l t → (m ≡ l) × (x ≡ At t)
-    sited m (At u) e = (cc, cc)
-    sited m (Refused n) e = let z : ◌≡◌ {A = ℕ} 0 1 = cc in absurd (omega arith)
+    sited : (m : Layout) (x : Result Site Refusal) → with_site x Err (λ u. at_site m u) ≡ at_site l t → (m ≡ l) × (x ≡ Ok t)
+    sited m (Ok u) e =
+        let q : ◌≡◌ {A = Look} (record { layout = m; site = u }) (record { layout = l; site = t }) = cc in
+        (ap (λ (x : Look). x.layout) q, ap (λ (x : Look). Ok x.site) q)
+    sited m (Err n) e = let z : ◌≡◌ {A = ℕ} 0 1 = cc in absurd (omega arith)
 
-    by : (o : Opened) → opened w ≡ o → after_open o K.Refused (λ m. with_site (site_of m w q) K.Refused (λ u. K.At m u)) ≡ K.At l t
-        → (opened w ≡ O.Open l) × (site_of l w q ≡ At t)
-    by (O.Refused n) p e = let z : ◌≡◌ {A = ℕ} 0 1 = cc in absurd (omega arith)
-    by (O.Open m) p e =
+    by : (o : Result Layout Refusal) → opened w ≡ o → after_open o Err (λ m. with_site (site_of m w q) Err (λ u. at_site m u)) ≡ at_site l t
+        → (opened w ≡ Ok l) × (site_of l w q ≡ Ok t)
+    by (Err n) p e = let z : ◌≡◌ {A = ℕ} 0 1 = cc in absurd (omega arith)
+    by (Ok m) p e =
         let r = sited m (site_of m w q) e in
-        (p ∙ ap O.Open r.0, subst (λ (a : Layout). site_of a w q ≡ At t) r.0 r.1)
+        (p ∙ ap Ok r.0, subst (λ (a : Layout). site_of a w q ≡ Ok t) r.0 r.1)
 
 -- what the questions of insert tell of the gap and the free cell
 pub record GapFacts (l : Layout) (w : List ℕ) (k p c m : ℕ) (t : Site) : Type 0 where
@@ -71,15 +71,15 @@ pub record GapFacts (l : Layout) (w : List ℕ) (k p c m : ℕ) (t : Site) : Typ
   pub first : FirstFree (view_of l w).ident (around l c l.nodes) t.cell
   pub site : t ≡ record { before = get_or (k ∷ sequence_of l w k) p 0; cell = t.cell; after = get_or (sequence_of l w k ++ k ∷ []) p 0; count = length (sequence_of l w k) }
 
-pub gap-facts : (l : Layout) (w : List ℕ) (k p c m : ℕ) (t : Site) → site_of l w (Gap k p c m) ≡ At t → GapFacts l w k p c m t
+pub gap-facts : (l : Layout) (w : List ℕ) (k p c m : ℕ) (t : Site) → site_of l w (Gap k p c m) ≡ Ok t → GapFacts l w k p c m t
 unfolding site_in gap_at
 gap-facts l w k p c m t e =
     let s = sequence_of l w k in
-    let a = yes-at (ltb k l.lists) 5 _ t e in
-    let b = yes-at (sound_of l w) 6 _ t a.1 in
-    let d = yes-at (leb p (length s)) 7 _ t b.1 in
-    let f = yes-at (is_node l c) 8 _ t d.1 in
-    let g = yes-at (eqb m l.width) 9 _ t f.1 in
+    let a = yes-at (ltb k l.lists) _ _ t e in
+    let b = yes-at (sound_of l w) _ _ t a.1 in
+    let d = yes-at (leb p (length s)) _ _ t b.1 in
+    let f = yes-at (is_node l c) _ _ t d.1 in
+    let g = yes-at (eqb m l.width) _ _ t f.1 in
     let r = found (first_free (view_of l w).ident (around l c l.nodes)) refl g.1 in
     record {
       list = ltb-true k l.lists a.0;
@@ -94,13 +94,13 @@ gap-facts l w k p c m t e =
     at : ℕ → Site
     at i = record { before = get_or (k ∷ sequence_of l w k) p 0; cell = i; after = get_or (sequence_of l w k ++ k ∷ []) p 0; count = length (sequence_of l w k) }
 
-    found : (x : Free) → first_free (view_of l w).ident (around l c l.nodes) ≡ x → with_free x (Refused 10) (λ i. At (at i)) ≡ At t
+    found : (x : Option ℕ) → first_free (view_of l w).ident (around l c l.nodes) ≡ x → with_free x (Err Full) (λ i. Ok (at i)) ≡ Ok t
         → FirstFree (view_of l w).ident (around l c l.nodes) t.cell × (t ≡ at t.cell)
-    found Full q e = let z : ◌≡◌ {A = ℕ} 0 1 = cc in absurd (omega arith)
-    found (Cell i) q e =
+    found None q e = let z : ◌≡◌ {A = ℕ} 0 1 = cc in absurd (omega arith)
+    found (Some i) q e =
         let u : at i ≡ t = cc in
         let v : i ≡ t.cell = ap (λ (x : Site). x.cell) u in
-        (first-free _ _ t.cell (q ∙ ap Cell v), sym u ∙ ap at v)
+        (first-free _ _ t.cell (q ∙ ap Some v), sym u ∙ ap at v)
 
 -- what the questions of delete tell of the member
 pub record MemberFacts (l : Layout) (w : List ℕ) (k p : ℕ) (t : Site) : Type 0 where
@@ -109,13 +109,13 @@ pub record MemberFacts (l : Layout) (w : List ℕ) (k p : ℕ) (t : Site) : Type
   pub position : p < length (sequence_of l w k)
   pub site : t ≡ record { before = get_or (k ∷ sequence_of l w k) p 0; cell = get_or (sequence_of l w k) p 0; after = get_or (sequence_of l w k ++ k ∷ []) (p + 1) 0; count = length (sequence_of l w k) }
 
-pub member-facts : (l : Layout) (w : List ℕ) (k p : ℕ) (t : Site) → site_of l w (Member k p) ≡ At t → MemberFacts l w k p t
+pub member-facts : (l : Layout) (w : List ℕ) (k p : ℕ) (t : Site) → site_of l w (Member k p) ≡ Ok t → MemberFacts l w k p t
 unfolding site_in member_at
 member-facts l w k p t e =
     let s = sequence_of l w k in
-    let a = yes-at (ltb k l.lists) 5 _ t e in
-    let b = yes-at (sound_of l w) 6 _ t a.1 in
-    let d = yes-at (ltb p (length s)) 7 _ t b.1 in
+    let a = yes-at (ltb k l.lists) _ _ t e in
+    let b = yes-at (sound_of l w) _ _ t a.1 in
+    let d = yes-at (ltb p (length s)) _ _ t b.1 in
     record { list = ltb-true k l.lists a.0; sound = b.0; position = ltb-true p (length s) d.0; site = cc d.1 }
 
 -- what the questions of mark tell of the node
@@ -125,12 +125,12 @@ pub record MarkFacts (l : Layout) (w : List ℕ) (c : ℕ) (t : Site) : Type 0 w
   pub free : get_or w (ident_at l c) 0 ≡ 0
   pub cell : t.cell ≡ c
 
-pub mark-facts : (l : Layout) (w : List ℕ) (c : ℕ) (t : Site) → site_of l w (Mark c) ≡ At t → MarkFacts l w c t
+pub mark-facts : (l : Layout) (w : List ℕ) (c : ℕ) (t : Site) → site_of l w (Mark c) ≡ Ok t → MarkFacts l w c t
 unfolding site_in
 mark-facts l w c t e =
-    let a = yes-at (sound_of l w) 6 _ t e in
-    let b = yes-at (is_node l c) 8 _ t a.1 in
-    let d = yes-at (is_free ((view_of l w).ident c)) 13 (At (record { before = 0; cell = c; after = 0; count = 0 })) t b.1 in
+    let a = yes-at (sound_of l w) _ _ t e in
+    let b = yes-at (is_node l c) _ _ t a.1 in
+    let d = yes-at (is_free ((view_of l w).ident c)) _ (Ok (record { before = 0; cell = c; after = 0; count = 0 })) t b.1 in
     record { sound = a.0; node = is-node l c b.0; free = eqb-true _ 0 d.0; cell = cc d.1 }
 
 -- no store goes to words 0 to 7
@@ -196,11 +196,11 @@ edit w s k t ps head lists wiped others records =
 
 module _ (w : List ℕ) (s : Ordered w) (k p : ℕ) (l : Layout) (t : Site) where
   -- the layout is that of the words, and the sequence is the list's own
-  pub its-layout : (q : Request) → look_of w q ≡ K.At l t → l ≡ layout_of w
+  pub its-layout : (q : Request) → look_of w q ≡ at_site l t → l ≡ layout_of w
   its-layout q e = (opened-open w l (looked w q l t e).0).0
 
-  pub its-site : (q : Request) → look_of w q ≡ K.At l t → site_of (layout_of w) w q ≡ At t
-  its-site q e = subst (λ (m : Layout). site_of m w q ≡ At t) (its-layout q e) (looked w q l t e).1
+  pub its-site : (q : Request) → look_of w q ≡ at_site l t → site_of (layout_of w) w q ≡ Ok t
+  its-site q e = subst (λ (m : Layout). site_of m w q ≡ Ok t) (its-layout q e) (looked w q l t e).1
 
   pub its-sequence : k < (layout_of w).lists → sequence_of (layout_of w) w k ≡ s.lists.sequence k
   its-sequence h = list-sequence (layout_of w) w k h (s.lists.sequence k) (s.lists.lists k h)
@@ -211,7 +211,7 @@ module _ (w : List ℕ) (s : Sound w) (k p : ℕ) (l : Layout) (t : Site) where
 
   -- insert
   pub insert-done
-      : (c : ℕ) (words : List ℕ) → look_of w (Gap k p c (length words)) ≡ K.At l t
+      : (c : ℕ) (words : List ℕ) → look_of w (Gap k p c (length words)) ≡ at_site l t
       → Inserted w s k p t.cell words (run (insert_writes l k t words) w)
   insert-done c words e =
       let f = gap-facts (layout_of w) w k p c (length words) t (its-site w order k p l t (Gap k p c (length words)) e) in
@@ -245,7 +245,7 @@ module _ (w : List ℕ) (s : Sound w) (k p : ℕ) (l : Layout) (t : Site) where
           }
 
   -- delete
-  pub delete-done : look_of w (Member k p) ≡ K.At l t → Deleted w s k p (run (delete_writes l k t) w)
+  pub delete-done : look_of w (Member k p) ≡ at_site l t → Deleted w s k p (run (delete_writes l k t) w)
   delete-done e =
       let f = member-facts (layout_of w) w k p t (its-site w order k p l t (Member k p) e) in
       let q = its-sequence w order k p l t f.list in
@@ -271,24 +271,24 @@ module _ (w : List ℕ) (s : Sound w) (k p : ℕ) (l : Layout) (t : Site) where
             wiped = delete-blank (layout_of w) w order.exact order.lists k hk p hp;
           }
 
--- 10 is answered only where no node is free
-pub no-at : (b : Bool) (m n : ℕ) (r : Sited) → (m ≡ n → ⊥) → ask b (Refused m) r ≡ Refused n → (b ≡ true) × (r ≡ Refused n)
+-- Full is answered only where no node is free
+pub no-at : (b : Bool) (m n : Refusal) (r : Result Site Refusal) → (number_of m ≡ number_of n → ⊥) → ask b (Err m) r ≡ Err n → (b ≡ true) × (r ≡ Err n)
 no-at true m n r d e = (refl, e)
-no-at false m n r d e = absurd (d cc)
+no-at false m n r d e = let q : m ≡ n = cc in absurd (d (ap number_of q))
 
-pub insert-full : (l : Layout) (w : List ℕ) (k p c m : ℕ) → site_of l w (Gap k p c m) ≡ Refused 10 → (x : ℕ) → Node l x → get_or w (ident_at l x) 0 ≡ 0 → ⊥
+pub insert-full : (l : Layout) (w : List ℕ) (k p c m : ℕ) → site_of l w (Gap k p c m) ≡ Err Full → (x : ℕ) → Node l x → get_or w (ident_at l x) 0 ≡ 0 → ⊥
 unfolding site_in gap_at
 insert-full l w k p c m e x hx z =
-    let a = no-at (ltb k l.lists) 5 10 _ (λ q. omega arith) e in
-    let b = no-at (sound_of l w) 6 10 _ (λ q. omega arith) a.1 in
-    let d = no-at (leb p (length (sequence_of l w k))) 7 10 _ (λ q. omega arith) b.1 in
-    let f = no-at (is_node l c) 8 10 _ (λ q. omega arith) d.1 in
-    let g = no-at (eqb m l.width) 9 10 _ (λ q. omega arith) f.1 in
+    let a = no-at (ltb k l.lists) NoList Full _ (λ q. omega arith) e in
+    let b = no-at (sound_of l w) Unsound Full _ (λ q. omega arith) a.1 in
+    let d = no-at (leb p (length (sequence_of l w k))) NoPosition Full _ (λ q. omega arith) b.1 in
+    let f = no-at (is_node l c) NoNode Full _ (λ q. omega arith) d.1 in
+    let g = no-at (eqb m l.width) RecordSize Full _ (λ q. omega arith) f.1 in
     all_in (λ y. get_or w (ident_at l y) 0 ≡ 0 → ⊥) (around l c l.nodes)
     (full (first_free (view_of l w).ident (around l c l.nodes)) refl g.1) (around-all l c x (is-node l c f.0) hx) z
   where
-    full : (y : Free) → first_free (view_of l w).ident (around l c l.nodes) ≡ y
-        → with_free y (Refused 10) (λ i. At (record { before = get_or (k ∷ sequence_of l w k) p 0; cell = i; after = get_or (sequence_of l w k ++ k ∷ []) p 0; count = length (sequence_of l w k) })) ≡ Refused 10
+    full : (y : Option ℕ) → first_free (view_of l w).ident (around l c l.nodes) ≡ y
+        → with_free y (Err Full) (λ i. Ok (gap_site k p i (sequence_of l w k))) ≡ Err Full
         → All (λ y. get_or w (ident_at l y) 0 ≡ 0 → ⊥) (around l c l.nodes)
-    full Full q e = none_free (view_of l w).ident (around l c l.nodes) q
-    full (Cell i) q e = let z : ◌≡◌ {A = ℕ} 0 1 = cc in absurd (omega arith)
+    full None q e = none_free (view_of l w).ident (around l c l.nodes) q
+    full (Some i) q e = let z : ◌≡◌ {A = ℕ} 0 1 = cc in absurd (omega arith)

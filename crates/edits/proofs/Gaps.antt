@@ -13,6 +13,8 @@ use Rattle.sequences.specs.Sequence.{All}
 use Rattle.sequences.proofs.Members.{all_in, all_append, at_in, in-front}
 use Rattle.sequences.proofs.Pigeonhole.{pigeonhole}
 use Rattle.stores.specs.Stores.{Write}
+use Rattle.std.specs.Prelude.{Option, Some, None, Ok, Err}
+use Rattle.layout.specs.declared.Refusal.TheVariants.{NoList, Unsound, NoPosition, NoNode, RecordSize, Full}
 use Rattle.layout.specs.declared.Layout.{Layout}
 use Rattle.layout.specs.Words.{ask, InRange, Node, is_node, cell_count, size_of, ident_at}
 use Rattle.layout.proofs.Laws.{is-node}
@@ -20,10 +22,7 @@ use Rattle.lists.specs.Lists.{SoundLists}
 use Rattle.lists.specs.Decide.{view_of, sound_of, sequence_of}
 use Rattle.lists.proofs.Unique.{list-sequence}
 use Rattle.lists.proofs.Same.{ring-cell}
-use Rattle.requests.specs.declared.Free.{Free}
-use Rattle.requests.specs.declared.Free.TheVariants.{Cell, Full}
 use Rattle.requests.specs.declared.Site.{Site}
-use Rattle.requests.specs.declared.Sited.TheVariants.{At, Refused}
 use Rattle.requests.specs.declared.Request.TheVariants.{Gaps}
 use Rattle.requests.specs.Requests.{around, first_free, with_free, free_cells, free_gap, gaps_at, site_in, site_of}
 use Rattle.requests.specs.Sites.{gap_site}
@@ -43,11 +42,11 @@ pub record GapsLooked (l : Layout) (w : List ℕ) (k p c m : ℕ) (t : Site) : T
   pub sound : sound_of l w ≡ true
   pub facts : GapsFacts l (view_of l w).ident k p c m (sequence_of l w k) t
 
-pub gaps-looked : (l : Layout) (w : List ℕ) (k p c m : ℕ) (t : Site) → site_of l w (Gaps k p c m) ≡ At t → GapsLooked l w k p c m t
+pub gaps-looked : (l : Layout) (w : List ℕ) (k p c m : ℕ) (t : Site) → site_of l w (Gaps k p c m) ≡ Ok t → GapsLooked l w k p c m t
 unfolding site_in
 gaps-looked l w k p c m t e =
-    let a = yes-at (ltb k l.lists) 5 _ t e in
-    let b = yes-at (sound_of l w) 6 _ t a.1 in
+    let a = yes-at (ltb k l.lists) _ _ t e in
+    let b = yes-at (sound_of l w) _ _ t a.1 in
     record {
       list = ltb-true k l.lists a.0;
       sound = b.0;
@@ -64,17 +63,17 @@ free-most l w c h cells f =
     in-free (view_of l w).ident (around l c l.nodes) x (around-all l c x h (all_in (Node l) cells f.nodes m))
     (all_in (λ y. get_or w (ident_at l y) 0 ≡ 0) cells f.free m))
 
--- 10 is answered only where free nodes are fewer than the records
+-- Full is answered only where free nodes are fewer than the records
 pub gaps-full
-    : (l : Layout) (w : List ℕ) → 0 < l.width → (k p c m : ℕ) → site_of l w (Gaps k p c m) ≡ Refused 10
+    : (l : Layout) (w : List ℕ) → 0 < l.width → (k p c m : ℕ) → site_of l w (Gaps k p c m) ≡ Err Full
     → (cells : List ℕ) → FreeNodes l w cells → length cells * l.width < m
 unfolding site_in gaps_at
 gaps-full l w some k p c m e cells f =
-    let a = no-at (ltb k l.lists) 5 10 _ (λ q. omega arith) e in
-    let b = no-at (sound_of l w) 6 10 _ (λ q. omega arith) a.1 in
-    let d = no-at (leb p (length (sequence_of l w k))) 7 10 _ (λ q. omega arith) b.1 in
-    let g = no-at (is_node l c) 8 10 _ (λ q. omega arith) d.1 in
-    let h = no-at (ltb 0 m && eqb (m % l.width) 0) 9 10 _ (λ q. omega arith) g.1 in
+    let a = no-at (ltb k l.lists) NoList Full _ (λ q. omega arith) e in
+    let b = no-at (sound_of l w) Unsound Full _ (λ q. omega arith) a.1 in
+    let d = no-at (leb p (length (sequence_of l w k))) NoPosition Full _ (λ q. omega arith) b.1 in
+    let g = no-at (is_node l c) NoNode Full _ (λ q. omega arith) d.1 in
+    let h = no-at (ltb 0 m && eqb (m % l.width) 0) RecordSize Full _ (λ q. omega arith) g.1 in
     let q = (and-eq-true_iff (ltb 0 m) (eqb (m % l.width) 0)).0 h.0 in
     let few = free-most l w c (is-node l c g.0) cells f in
     fewer (ltb-true 0 m q.0) (eqb-true (m % l.width) 0 q.1) few (leb (m / l.width) number) refl h.1
@@ -83,15 +82,15 @@ gaps-full l w some k p c m e cells f =
     number = length (free_cells (view_of l w).ident (around l c l.nodes))
 
     fewer : 0 < m → m % l.width ≡ 0 → length cells ≤ number → (b : Bool) → leb (m / l.width) number ≡ b
-        → ask b (Refused 10) (free_gap l (view_of l w).ident k p c (sequence_of l w k)) ≡ Refused 10 → length cells * l.width < m
+        → ask b (Err Full) (free_gap l (view_of l w).ident k p c (sequence_of l w k)) ≡ Err Full → length cells * l.width < m
     fewer pos z few false q x =
         omega (arith, suc-mul (length cells) l.width, (le-div_iff_mul-le {k = l.width} {x = suc (length cells)} {y = m} some).0 (omega (arith, leb-false (m / l.width) number q)))
     fewer pos z few true q x = none (first_free (view_of l w).ident (around l c l.nodes)) refl x
       where
-        none : (y : Free) → first_free (view_of l w).ident (around l c l.nodes) ≡ y
-            → with_free y (Refused 10) (λ i. At (gap_site k p i (sequence_of l w k))) ≡ Refused 10 → length cells * l.width < m
-        none (Cell i) u x = let z : ◌≡◌ {A = ℕ} 0 1 = cc in absurd (omega arith)
-        none Full u x =
+        none : (y : Option ℕ) → first_free (view_of l w).ident (around l c l.nodes) ≡ y
+            → with_free y (Err Full) (λ i. Ok (gap_site k p i (sequence_of l w k))) ≡ Err Full → length cells * l.width < m
+        none (Some i) u x = let z : ◌≡◌ {A = ℕ} 0 1 = cc in absurd (omega arith)
+        none None u x =
             let n : m / l.width ≡ 0 =
             omega (arith, leb-true (m / l.width) number q, ap length (free-taken (view_of l w).ident (around l c l.nodes) (none_free (view_of l w).ident (around l c l.nodes) u))) in
             absurd (omega (arith, z, div-add-mod' m l.width, ap (λ (i : ℕ). i * l.width) n, zero-mul l.width))
@@ -111,7 +110,7 @@ chain-inside l r k hk a b n ha hb (c ∷ cs) words nodes few enough =
     (chain-inside l r k hk c b (n + 1) nodes.0.high hb cs (drop l.width words) nodes.1 (omega arith) (other-words l (length cs) words enough))
 
 -- at a site: the stores are those at position p of the list's sequence, in as many cells as there are records
-module _ (l : Layout) (w : List ℕ) (s : SoundLists l w) (k p c m : ℕ) (t : Site) (e : site_of l w (Gaps k p c m) ≡ At t) where
+module _ (l : Layout) (w : List ℕ) (s : SoundLists l w) (k p c m : ℕ) (t : Site) (e : site_of l w (Gaps k p c m) ≡ Ok t) where
   abbrev pub Cells : List ℕ
   Cells = free_from l w c (m / l.width)
 

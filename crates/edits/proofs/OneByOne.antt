@@ -12,8 +12,8 @@ use Rattle.sequences.proofs.Members.{all_in, in_all, append-all, at_in, in-front
 use Rattle.sequences.proofs.Filter.{filter-different}
 use Rattle.stores.specs.Stores.{run}
 use Rattle.stores.proofs.Laws.{run_out, length_run}
+use Rattle.std.specs.Prelude.{Ok}
 use Rattle.layout.specs.declared.Layout.{Layout}
-use Rattle.layout.specs.declared.Opened.TheVariants as O
 use Rattle.layout.specs.Words.{tail_words, Node, cell_count, size_of, opened, ident_at, ident_of, is_free, InRange, Unlisted, free}
 use Rattle.layout.proofs.Laws.{tail-width, node-is, opened-open}
 use Rattle.layout.proofs.Apart.{links-words}
@@ -25,10 +25,8 @@ use Rattle.lists.proofs.Nodes.{list-used}
 use Rattle.lists.proofs.Decided.{lists-sound}
 use Rattle.lists.proofs.Same.{ident-word, ring-cell, same-opened}
 use Rattle.requests.specs.declared.Site.{Site}
-use Rattle.requests.specs.declared.Sited.TheVariants.{At}
-use Rattle.requests.specs.declared.Looked.TheVariants as K
 use Rattle.requests.specs.declared.Request.TheVariants.{Gap}
-use Rattle.requests.specs.Requests.{next_cell, around, free_cells, gap_at, site_in, site_of, look_of}
+use Rattle.requests.specs.Requests.{next_cell, around, free_cells, gap_at, site_in, site_of, look_of, at_site}
 use Rattle.requests.specs.Sites.{gap_site}
 use Rattle.requests.proofs.Laws.{look_at}
 use Rattle.requests.proofs.Turn.{around-nodes, around-different, free_in, free-first}
@@ -127,14 +125,14 @@ next-node l c h = (around-nodes l c 2 h).1.0
 
 -- what a single insert asks of sound lists and records is answered with the gap and the first free cell
 pub gap-look
-    : (l : Layout) (w : List ℕ) → opened w ≡ O.Open l → (s : SoundLists l w) → Wiped l w s.sequence → (k : ℕ) → k < l.lists
+    : (l : Layout) (w : List ℕ) → opened w ≡ Ok l → (s : SoundLists l w) → Wiped l w s.sequence → (k : ℕ) → k < l.lists
     → (p : ℕ) → p ≤ length (s.sequence k)
     → (c : ℕ) → Node l c → (m : ℕ) → m ≡ l.width → (x : ℕ) (xs : List ℕ) → free_cells (view_of l w).ident (around l c l.nodes) ≡ x ∷ xs
-    → look_of w (Gap k p c m) ≡ K.At l (gap_site k p x (s.sequence k))
+    → look_of w (Gap k p c m) ≡ at_site l (gap_site k p x (s.sequence k))
 unfolding site_in gap_at
 gap-look l w o s wiped k hk p hp c hc m q x xs e = sym (look_at w (Gap k p c m) o site)
   where
-    site : site_of l w (Gap k p c m) ≡ At (gap_site k p x (s.sequence k))
+    site : site_of l w (Gap k p c m) ≡ Ok (gap_site k p x (s.sequence k))
     site =
         rw (
           lt-ltb k l.lists hk,
@@ -165,7 +163,7 @@ module _ (l : Layout) (w : List ℕ) (s : SoundLists l w) (k : ℕ) (hk : k < l.
 
 -- The single insert of the first record, as asked of sound lists and records: it gets the first free cell, its stores are the first segment of
 -- the chain (chain-split), the records stay sound (after-wiped), and the next one, started behind that cell, meets the other free cells.
-module _ (l : Layout) (w : List ℕ) (o : opened w ≡ O.Open l) (exact : length w ≡ size_of l) (s : SoundLists l w) (k : ℕ) (hk : k < l.lists)
+module _ (l : Layout) (w : List ℕ) (o : opened w ≡ Ok l) (exact : length w ≡ size_of l) (s : SoundLists l w) (k : ℕ) (hk : k < l.lists)
     (p : ℕ) (hp : p ≤ length (s.sequence k)) (c : ℕ) (hc : Node l c) (x : ℕ) (xs ys words : List ℕ)
     (e : free_cells (view_of l w).ident (around l c l.nodes) ≡ x ∷ xs ++ ys) (enough : suc (length xs) * l.width ≤ length words) where
   pub first-free-nodes : FreeNodes l w (x ∷ xs)
@@ -178,13 +176,13 @@ module _ (l : Layout) (w : List ℕ) (o : opened w ≡ O.Open l) (exact : length
   abbrev pub FirstDone : List ℕ
   FirstDone = run (insert_writes l k (gap_site k p x (s.sequence k)) (take l.width words)) w
 
-  pub first-look : Wiped l w s.sequence → look_of w (Gap k p c (length (take l.width words))) ≡ K.At l (gap_site k p x (s.sequence k))
+  pub first-look : Wiped l w s.sequence → look_of w (Gap k p c (length (take l.width words))) ≡ at_site l (gap_site k p x (s.sequence k))
   first-look wiped = gap-look l w o s wiped k hk p hp c hc (length (take l.width words)) (size ∙ tail-width l) x (xs ++ ys) e
 
   pub next_start : Node l (next_cell l x)
   next_start = next-node l x first-free-nodes.nodes.0
 
-  pub next-opened : opened FirstDone ≡ O.Open l
+  pub next-opened : opened FirstDone ≡ Ok l
   next-opened =
       same-opened w FirstDone (S.after-head l w exact s k hk p hp x xs first-free-nodes words enough)
       (length_run (insert_writes l k (gap_site k p x (s.sequence k)) (take l.width words)) w)

@@ -7,6 +7,7 @@ use lib.ListN.{length, get_or, take, drop}
 use borrow.Author.Tests.{eq-eqb}
 use Rattle.stores.specs.Stores.{run}
 use Rattle.stores.proofs.Laws.{length_run}
+use Rattle.std.specs.Prelude.{Ok}
 use Rattle.layout.specs.declared.Layout.{Layout}
 use Rattle.layout.specs.Words.{tail_words, Node, Laid, ident_at}
 use Rattle.lists.specs.Lists.{SoundLists}
@@ -15,10 +16,8 @@ use Rattle.lists.proofs.Unique.{list-sequence}
 use Rattle.lists.proofs.Decided.{sound-lists}
 use Rattle.lists.proofs.Same.{ring-cell}
 use Rattle.requests.specs.declared.Site.{Site}
-use Rattle.requests.specs.declared.Sited.TheVariants.{At}
-use Rattle.requests.specs.declared.Looked.TheVariants as K
 use Rattle.requests.specs.declared.Request.TheVariants.{Gaps}
-use Rattle.requests.specs.Requests.{next_cell, around, first_free, free_cells, site_of, look_of}
+use Rattle.requests.specs.Requests.{next_cell, around, first_free, free_cells, site_of, look_of, at_site}
 use Rattle.requests.specs.Sites.{gap_site, next_site}
 use Rattle.requests.proofs.Laws.{opened-laid}
 use Rattle.requests.proofs.Sites.{next-found}
@@ -140,7 +139,7 @@ pub record SeveralRoom (l : Layout) (w : List ℕ) (k c m : ℕ) (t : Site) : Ty
   pub whole : m ≡ m / l.width * l.width
   pub cells : free_cells (view_of l w).ident (around l c l.nodes) ≡ free_cells (view_of l w).ident (around l t.cell l.nodes)
 
-pub several-room : (w : List ℕ) (k p c m : ℕ) (l : Layout) (t : Site) → look_of w (Gaps k p c m) ≡ K.At l t → SeveralRoom l w k c m t
+pub several-room : (w : List ℕ) (k p c m : ℕ) (l : Layout) (t : Site) → look_of w (Gaps k p c m) ≡ at_site l t → SeveralRoom l w k c m t
 several-room w k p c m l t e =
     record {
       room = subst (λ (u : Site). Room l w k u r) (sym site) there;
@@ -149,7 +148,7 @@ several-room w k p c m l t e =
       cells = found ∙ sym from;
     }
   where
-    sited : site_of l w (Gaps k p c m) ≡ At t
+    sited : site_of l w (Gaps k p c m) ≡ Ok t
     sited = (looked w (Gaps k p c m) l t e).1
 
     laid : Laid l w

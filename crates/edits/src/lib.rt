@@ -4,62 +4,48 @@
 
 ghost use Rattle.std.specs.Prelude.{◌≡◌, ◌+◌, ◌-◌, ◌*◌, ◌/◌, ◌≤◌, ◌<◌};
 ghost use Rattle.layout.specs.Words.{InRange, link_words, cell_count, cell_at, count_at, size_of};
-ghost use Rattle.stores.specs.Stores.{Listed};
+ghost use Rattle.stores.specs.Stores.{write, Inside};
 ghost use Rattle.edits.specs.Edits.{insert_links, insert_stores, delete_links, Placed};
 
 use layout::Layout;
 use requests::Site;
+use stores::Write;
 
-// Six stores, and four: their addresses and their values.
-#[derive(Clone, Copy)]
-pub struct Six {
-    pub at: [u16; Six::LEN],
-    pub values: [u16; Six::LEN],
-}
+// How many stores link a new cell into its list.
+pub const INSERT_LINKS: usize = 6;
 
-impl Six {
-    pub const LEN: usize = 6;
-}
-
-#[derive(Clone, Copy)]
-pub struct Four {
-    pub at: [u16; 4],
-    pub values: [u16; 4],
-}
-
-// The address of word f of cell i.
-fn place(l: Layout, i: u16, f: usize) -> u16
+// The store of a value to word f of cell i.
+fn set_word(l: Layout, i: u16, f: usize, value: u16) -> Write
     requires { InRange l × (i < cell_count l) × (f < link_words) }
-    ensures { result ≡ cell_at l i + f }
+    ensures { result ≡ write (cell_at l i + f) value }
 {
-    (l.cell(i) + f) as u16
+    let at = (l.cell(i) + f) as u16;
+    Write { at, value }
 }
 
-// The address of the count of list k.
-fn count_place(l: Layout, k: u16) -> u16
+// The store of the count of list k.
+fn set_count(l: Layout, k: u16, value: u16) -> Write
     requires { InRange l × (k < l.lists) }
-    ensures { result ≡ count_at l k }
+    ensures { result ≡ write (count_at l k) value }
 {
-    (l.header(k) + Layout::COUNT) as u16
+    let at = (l.header(k) + Layout::COUNT) as u16;
+    Write { at, value }
 }
 
 // The stores of an insert behind those of the record: the new cell, the count and the two links to the cell.
-pub fn insert_links(l: Layout, k: u16, t: Site) -> Six
+pub fn insert_links(l: Layout, k: u16, t: Site) -> [Write; INSERT_LINKS]
     requires { Placed l k t }
-    ensures { Listed (size_of l) result.at result.values (insert_links l k t) }
+    ensures links { result ≡ insert_links l k t }
+    ensures inside { Inside (size_of l) result }
 {
-    let ident = Layout::ident(k);
-    let count = t.count + 1;
-    let at = [
-        place(l, t.cell, Layout::FORWARD),
-        place(l, t.cell, Layout::BACK),
-        place(l, t.cell, Layout::IDENTIFIER),
-        count_place(l, k),
-        place(l, t.before, Layout::FORWARD),
-        place(l, t.after, Layout::BACK),
-    ];
-    let values = [t.after, t.before, ident, count, t.cell, t.cell];
-    Six { at, values }
+    [
+        set_word(l, t.cell, Layout::FORWARD, t.after),
+        set_word(l, t.cell, Layout::BACK, t.before),
+        set_word(l, t.cell, Layout::IDENTIFIER, Layout::ident(k)),
+        set_count(l, k, t.count + 1),
+        set_word(l, t.before, Layout::FORWARD, t.cell),
+        set_word(l, t.after, Layout::BACK, t.cell),
+    ]
 }
 
 // How many stores an insert makes: the words of the record, and those behind them.
@@ -67,7 +53,7 @@ fn insert_stores(l: Layout) -> usize
     requires { InRange l }
     ensures { result ≡ insert_stores l }
 {
-    l.node_words() - Layout::LINK_WORDS + Six::LEN
+    l.node_words() - Layout::LINK_WORDS + INSERT_LINKS
 }
 
 // How many stores an insert of several records makes, of so many words in all.
@@ -80,23 +66,16 @@ pub fn several_stores(l: Layout, size: usize) -> u16
     (records * insert_stores(l)) as u16
 }
 
-// One less; 0 has none less.
-fn less_one(n: u16) -> u16
-    ensures { result ≡ n - 1 }
-{
-    if n == 0 { 0 } else { n - 1 }
-}
-
 // The stores of a delete in front of those of the record: the two links past the cell, the count and the cell's identifier.
-pub fn delete_links(l: Layout, k: u16, t: Site) -> Four
+pub fn delete_links(l: Layout, k: u16, t: Site) -> [Write; 4]
     requires { Placed l k t }
-    ensures { Listed (size_of l) result.at result.values (delete_links l k t) }
+    ensures links { result ≡ delete_links l k t }
+    ensures inside { Inside (size_of l) result }
 {
-    let back = place(l, t.after, Layout::BACK);
-    let forward = place(l, t.before, Layout::FORWARD);
-    let count = count_place(l, k);
-    let ident = place(l, t.cell, Layout::IDENTIFIER);
-    let at = [back, forward, count, ident];
-    let values = [t.before, t.after, less_one(t.count), Layout::FREE];
-    Four { at, values }
+    [
+        set_word(l, t.after, Layout::BACK, t.before),
+        set_word(l, t.before, Layout::FORWARD, t.after),
+        set_count(l, k, t.count.saturating_sub(1)),
+        set_word(l, t.cell, Layout::IDENTIFIER, Layout::FREE),
+    ]
 }

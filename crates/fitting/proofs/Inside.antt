@@ -1,5 +1,5 @@
 -- The faults of a list are words of the store.
-use Prim.Native.Nat.{ℕ, ◌+◌, ◌-◌, ◌<◌}
+use Prim.Native.Nat.{ℕ, ◌+◌, ◌<◌}
 use mathlib.Core.List.{List, [], ◌∷◌}
 use mathlib.Core.Bool.{Bool, true, false, cond}
 use native.Mathlib.Omega.{arith}
@@ -7,13 +7,14 @@ use lib.Dec.{eqb}
 use Rattle.sequences.specs.Sequence.{All}
 use Rattle.sequences.proofs.Trail.{trail-inside}
 use Rattle.layout.specs.declared.Layout.{Layout}
+use Rattle.layout.specs.declared.Refusal.TheVariants.{NoFit}
 use Rattle.layout.specs.Words.{link_words, ident_word, forward_word, back_word, InRange, Node, is_node, cell_count, cell_at, size_of, ident_of}
 use Rattle.layout.proofs.Laws.{cell-fits}
 use Rattle.lists.specs.Decide.{View}
 use Rattle.lists.proofs.Unique.{all-nodes}
-use Rattle.fitting.specs.declared.Fitted.TheVariants as G
+use Rattle.std.specs.Prelude.{Ok, Err}
 use Rattle.fitting.specs.declared.Walk.{Walk}
-use Rattle.fitting.specs.Fitting.{are_many, fault, turn_faults, others_faults, walked, walk_of, turned, way_of, decides, is_rival, by_count, choose, fit_in}
+use Rattle.fitting.specs.Fitting.{are_many, fault, turn_faults, others_faults, walked, walk_of, turned, way_of, decides, is_rival, ahead, behind, by_count, choose, fit_in}
 use Rattle.fitting.specs.Fitting.{walk_in, Each, FaultFits}
 use Rattle.fitting.proofs.Walks.{Every, every-plus, every-fault}
 
@@ -32,8 +33,8 @@ choose-each {P} x y n p q = by (decides x.faults) (are_many x.faults) (are_many 
     counts false false = tt
 
     by : (d m o r : Bool)
-        → Each P (walk_in (cond d (G.Forward x) (cond m (cond o G.Nothing (G.Backward y))
-        (cond r (by_count (eqb n x.members) (eqb n y.members) x y) (G.Forward x))))).faults
+        → Each P (walk_in (cond d (Ok (ahead x)) (cond m (cond o (Err NoFit) (Ok (behind y)))
+        (cond r (by_count (eqb n x.members) (eqb n y.members) x y) (Ok (ahead x)))))).faults
     by true m o r = p.each
     by false true true r = tt
     by false true false r = q.each

@@ -6,7 +6,7 @@ use mathlib.Core.List.{List, ◌∷◌}
 use mathlib.Core.Bool.{true}
 use borrow.Author.Tests.{eq-eqb}
 use Rattle.sequences.specs.Sequence.{◌∈◌}
-use Rattle.layout.specs.Words.{in_use, ident_word, forward_word, back_word, most_lists, ident_of, Unlisted}
+use Rattle.layout.specs.Words.{ident_word, forward_word, back_word, most_lists, ident_of, Unlisted}
 use Rattle.lists.specs.Decide.{View}
 use Rattle.lists.proofs.Nodes.{in-use, ident-used}
 use Rattle.fitting.specs.declared.Faults.{Faults}

@@ -2,7 +2,7 @@
 use Prim.Native.Nat.{ℕ, ◌+◌, ◌<◌, ◌≤◌}
 use mathlib.Core.Path.{◌≡◌, refl, ap, ap₂, ◌∙◌, sym, subst}
 use mathlib.Core.List.{List, [], ◌∷◌, ◌++◌, map, reverse, reverse-cons}
-use mathlib.Core.Bool.{Bool, true, false, true≢false}
+use mathlib.Core.Bool.{Bool, true, false, cond, true≢false}
 use native.Mathlib.Omega.{arith}
 use lib.Dec.{eqb}
 use lib.ListN.{length, get_or, length-append, length-reverse}
@@ -10,23 +10,26 @@ use borrow.Author.Tests.{eqb-true, ne_eqb, not-false, leb-true, leb-false}
 use Rattle.sequences.specs.Sequence.{◌∈◌, Step, steps}
 use Rattle.sequences.proofs.Reversed.{in-reverse, reverse-in}
 use Rattle.stores.specs.Stores.{Write, write}
+use Rattle.std.specs.Prelude.{Option, Some, None, Result, Ok, Err}
+use Rattle.std.specs.Result.{result_err}
 use Rattle.layout.specs.declared.Layout.{Layout}
+use Rattle.layout.specs.declared.Refusal.{Refusal}
+use Rattle.layout.specs.declared.Refusal.TheVariants.{NoFit}
 use Rattle.layout.specs.Words.{ident_word, forward_word, back_word, cell_at, ident_at, forward_at, back_at, ident_of}
 use Rattle.lists.specs.Lists.{idents_asked, forwards_asked, backs_asked, others_asked}
 use Rattle.lists.specs.Decide.{View, view_of, count_in, sequence_of}
 use Rattle.lists.proofs.Same.{ident-word}
 use Rattle.recovery.specs.Fits.{wrong, backward_of, few_wrong, same, has_count, none, only, several, fitting, fit_of}
 use Rattle.recovery.specs.Fits as W
-use Rattle.recovery.specs.Plan.{fitting_of}
+use Rattle.recovery.specs.Plan.{fitting_of, fit_refusal}
 use Rattle.recovery.proofs.Required.{wrong-append}
 use Rattle.recovery.proofs.Candidates.{same-yes, same_refl, wrong-others, few-fits, forward-candidate, back-candidate, forward-nodes, back-nodes}
 use Rattle.fitting.specs.declared.Faults.{Faults}
 use Rattle.fitting.specs.declared.Faults.TheVariants as F
-use Rattle.fitting.specs.declared.Fitted.{Fitted}
-use Rattle.fitting.specs.declared.Fitted.TheVariants as G
+use Rattle.fitting.specs.declared.Chosen.{Chosen}
 use Rattle.fitting.specs.declared.Walk.{Walk}
-use Rattle.fitting.specs.Fitting.{plus, fault, are_many, turn_faults, others_faults, walked, walk_with, turned, decides, is_rival, by_count, choose, fit_in}
-use Rattle.fitting.specs.Fitting.{mend_of, number_of, walk_in, is_backward, members_by}
+use Rattle.fitting.specs.Fitting.{plus, fault, are_many, turn_faults, others_faults, walked, walk_with, turned, decides, is_rival, ahead, behind, by_count, choose, fit_in}
+use Rattle.fitting.specs.Fitting.{mend_of, walk_in, is_backward, members_by}
 use Rattle.fitting.proofs.Walks.{plus_none, plus_assoc, decided-alone, Every, every-plus, every-fault}
 
 -- f sums up these wrong words
@@ -245,7 +248,7 @@ few-not (F.One c f v) h = refl
 few-not F.Many h = absurd h
 
 -- the choice between two candidates that are one: a wrong back link is no wrong forward link
-choose-same : (x : Walk) (n : ℕ) → Few x.faults → choose x x n ≡ G.Forward x
+choose-same : (x : Walk) (n : ℕ) → Few x.faults → choose x x n ≡ Ok (ahead x)
 choose-same x n h = by (decides x.faults) refl
   where
     no_rival : (f : Faults) → decides f ≡ false → is_rival f ≡ false
@@ -253,22 +256,22 @@ choose-same x n h = by (decides x.faults) refl
     no_rival (F.One c f v) e = let b : f ≡ 2 = eqb-true f back_word (not-false _ e) in ne_eqb f forward_word (λ q. omega (arith, q, b))
     no_rival F.Many e = refl
 
-    by : (b : Bool) → decides x.faults ≡ b → choose x x n ≡ G.Forward x
+    by : (b : Bool) → decides x.faults ≡ b → choose x x n ≡ Ok (ahead x)
     by true e = decided-alone x x n e
     by false e = rw (e, few-not x.faults h, no_rival x.faults e)
 
 -- and where only one fits
-choose-first : (x y : Walk) (n : ℕ) → Few x.faults → y.faults ≡ F.Many → choose x y n ≡ G.Forward x
+choose-first : (x y : Walk) (n : ℕ) → Few x.faults → y.faults ≡ F.Many → choose x y n ≡ Ok (ahead x)
 choose-first x y n h e = by (decides x.faults) refl
   where
-    by : (b : Bool) → decides x.faults ≡ b → choose x y n ≡ G.Forward x
+    by : (b : Bool) → decides x.faults ≡ b → choose x y n ≡ Ok (ahead x)
     by true d = decided-alone x y n d
     by false d = rw (d, few-not x.faults h, e)
 
-choose-second : (x y : Walk) (n : ℕ) → x.faults ≡ F.Many → Few y.faults → choose x y n ≡ G.Backward y
+choose-second : (x y : Walk) (n : ℕ) → x.faults ≡ F.Many → Few y.faults → choose x y n ≡ Ok (behind y)
 choose-second x y n e h = rw (e, few-not y.faults h)
 
-choose-none : (x y : Walk) (n : ℕ) → x.faults ≡ F.Many → y.faults ≡ F.Many → choose x y n ≡ G.Nothing
+choose-none : (x y : Walk) (n : ℕ) → x.faults ≡ F.Many → y.faults ≡ F.Many → choose x y n ≡ Err NoFit
 choose-none x y n e h = rw (e, h)
 
 -- all faults are of word b
@@ -300,11 +303,9 @@ Taken l w k s x =
     (fit_of l w k ≡ only s) × (mend_of l x.faults ≡ wrong w (others_asked l k s)) × (x.faults ≡ fault_sum l w k s) × (x.members ≡ length s)
 
 -- what the decision by the walks says of the decision on the words
-abbrev pub Told : Layout → List ℕ → ℕ → Fitted → Type 0
-Told l w k G.Nothing = fit_of l w k ≡ none
-Told l w k G.Several = fit_of l w k ≡ several
-Told l w k (G.Forward x) = Taken l w k (sequence_of l w k) x
-Told l w k (G.Backward x) = Taken l w k (backward_of l w k) x
+abbrev pub Told : Layout → List ℕ → ℕ → Result Chosen Refusal → Type 0
+Told l w k (Err r) = (rest : Option Refusal) → fit_refusal (fit_of l w k) rest ≡ Some r
+Told l w k (Ok c) = Taken l w k (cond c.backward (backward_of l w k) (sequence_of l w k)) c.walk
 
 module _ (l : Layout) (w : List ℕ) (k : ℕ) (h : k < l.lists) where
   -- the two candidates
@@ -406,10 +407,10 @@ module _ (l : Layout) (w : List ℕ) (k : ℕ) (h : k < l.lists) where
       both = rw (first.2, second.2, x, y)
 
       by : (m n : Bool) → fit_of l w k ≡ W.by_count m n Ahead Behind → Told l w k (by_count m n (walk_sum l w k Ahead) (walk_sum l w k Behind))
-      by true true z = z
+      by true true z = λ rest. rw z
       by true false z = taken Ahead p z
       by false true z = taken Behind q z
-      by false false z = z
+      by false false z = λ rest. rw z
 
   -- both decisions side by side, case by case
   told-by : Told l w k (choose (walk_sum l w k Ahead) (walk_sum l w k Behind) (count_in l w k))
@@ -432,7 +433,7 @@ module _ (l : Layout) (w : List ℕ) (k : ℕ) (h : k < l.lists) where
           subst (Told l w k) (sym (choose-second (walk_sum l w k Ahead) (walk_sum l w k Behind) (count_in l w k) (many-no Ahead p) (few-yes-sum Behind q)))
           (taken Behind q (fit-by false true c m n p q e x y))
       by false p false q c e m x n y =
-          subst (Told l w k) (sym (choose-none (walk_sum l w k Ahead) (walk_sum l w k Behind) (count_in l w k) (many-no Ahead p) (many-no Behind q))) (fit-by false false c m n p q e x y)
+          subst (Told l w k) (sym (choose-none (walk_sum l w k Ahead) (walk_sum l w k Behind) (count_in l w k) (many-no Ahead p) (many-no Behind q))) (λ rest. rw (fit-by false false c m n p q e x y))
 
   -- the decision by the walks is the decision on the words
   pub fit-told : Told l w k (fit_in l (view_of l w) k (count_in l w k))
@@ -444,29 +445,28 @@ module _ (l : Layout) (w : List ℕ) (k : ℕ) (h : k < l.lists) where
 
 -- the members by the walk that was chosen are those of the sequence that is
 pub members-told
-    : (l : Layout) (w : List ℕ) (k : ℕ) → k < l.lists → number_of (fit_in l (view_of l w) k (count_in l w k)) ≡ 0 → (c : ℕ)
+    : (l : Layout) (w : List ℕ) (k : ℕ) → k < l.lists → result_err (fit_in l (view_of l w) k (count_in l w k)) ≡ None → (c : ℕ)
     → (c ∈ members_by l (view_of l w) (is_backward (fit_in l (view_of l w) k (count_in l w k))) k → c ∈ fitting_of l w k)
     × (c ∈ fitting_of l w k → c ∈ members_by l (view_of l w) (is_backward (fit_in l (view_of l w) k (count_in l w k))) k)
 members-told l w k h z c = by (fit_in l (view_of l w) k (count_in l w k)) z (fit-told l w k h)
   where
-    by : (r : Fitted) → number_of r ≡ 0 → Told l w k r
+    by : (r : Result Chosen Refusal) → result_err r ≡ None → Told l w k r
         → (c ∈ members_by l (view_of l w) (is_backward r) k → c ∈ fitting_of l w k)
         × (c ∈ fitting_of l w k → c ∈ members_by l (view_of l w) (is_backward r) k)
-    by G.Nothing z t = absurd (omega (arith, z))
-    by G.Several z t = absurd (omega (arith, z))
-    by (G.Forward x) z t = rw t.0 ((λ m. m), (λ m. m))
-    by (G.Backward x) z t =
-        rw t.0
-        ((λ m. reverse-in (walked l (turned (view_of l w)) k) m), (λ m. in-reverse (walked l (turned (view_of l w)) k) m))
+    by (Err r) z t = absurd (cc)
+    by (Ok x) z t = rw t.0 (way x.backward)
+      where
+        way : (b : Bool) → (c ∈ members_by l (view_of l w) b k → c ∈ cond b (backward_of l w k) (sequence_of l w k))
+            × (c ∈ cond b (backward_of l w k) (sequence_of l w k) → c ∈ members_by l (view_of l w) b k)
+        way false = ((λ m. m), (λ m. m))
+        way true = ((λ m. reverse-in (walked l (turned (view_of l w)) k) m), (λ m. in-reverse (walked l (turned (view_of l w)) k) m))
 
 -- the sequence that is chosen, its faults and its length
 pub chosen-told
-    : (l : Layout) (w : List ℕ) (k : ℕ) → k < l.lists → number_of (fit_in l (view_of l w) k (count_in l w k)) ≡ 0
+    : (l : Layout) (w : List ℕ) (k : ℕ) → k < l.lists → result_err (fit_in l (view_of l w) k (count_in l w k)) ≡ None
     → Taken l w k (fitting_of l w k) (walk_in (fit_in l (view_of l w) k (count_in l w k)))
 chosen-told l w k h z = by (fit_in l (view_of l w) k (count_in l w k)) z (fit-told l w k h)
   where
-    by : (r : Fitted) → number_of r ≡ 0 → Told l w k r → Taken l w k (fitting_of l w k) (walk_in r)
-    by G.Nothing z t = absurd (omega (arith, z))
-    by G.Several z t = absurd (omega (arith, z))
-    by (G.Forward x) z t = rw t.0 (refl, t.1, t.2, t.3)
-    by (G.Backward x) z t = rw t.0 (refl, t.1, t.2, t.3)
+    by : (r : Result Chosen Refusal) → result_err r ≡ None → Told l w k r → Taken l w k (fitting_of l w k) (walk_in r)
+    by (Err r) z t = absurd (cc)
+    by (Ok x) z t = rw t.0 (refl, t.1, t.2, t.3)

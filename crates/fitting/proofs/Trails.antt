@@ -8,15 +8,16 @@ use lib.Dec.{eqb}
 use borrow.Author.Tests.{eqb-true, eqb-false, not-true}
 use Rattle.sequences.specs.Sequence.{steps}
 use Rattle.layout.specs.declared.Layout.{Layout}
+use Rattle.layout.specs.declared.Cell.{Cell}
 use Rattle.layout.specs.Words.{forward_word, back_word, is_node}
 use Rattle.lists.specs.Decide.{View}
 use Rattle.lists.proofs.Agree.{Turn, holds-true}
 use Rattle.spans.specs.Spans.{cell_in, Held}
 use Rattle.fitting.specs.declared.Faults.{Faults}
 use Rattle.fitting.specs.declared.Faults.TheVariants as F
-use Rattle.fitting.specs.declared.Fitted.TheVariants as G
+use Rattle.std.specs.Prelude.{Ok}
 use Rattle.fitting.specs.declared.Trail.{Trail}
-use Rattle.fitting.specs.Fitting.{are_many, turn_faults, others_faults, fit_in}
+use Rattle.fitting.specs.Fitting.{are_many, turn_faults, others_faults, ahead, fit_in}
 use Rattle.fitting.specs.Fitting.{onward_word, backward_word, view_by, walk_with, way_of, first_trail, next_trail, is_open, end_faults, end_of, rest, Walking, Trailing}
 use Rattle.fitting.proofs.Walks.{walking-first, walking-next, walking_many, walking-done, walk-many, rest_out, rest-none, no-fault}
 
@@ -79,6 +80,15 @@ module _ (l : Layout) (v : View) (k : ℕ) where
       by false false false p q r = none_end t w (rest_out w r)
       by false false true p q r = absurd (false≢true (sym (rw (p, q, r) at e)))
 
+-- the trail of a loop: at the header, and one step further
+module _ {l : Layout} (v : View) {back : Bool} (k : ℕ) {t : Trail} where
+  pub begun : {h : Cell} → h ≡ cell_in v k → t ≡ first_trail l back k h → Trailing l v k t × (t.back ≡ back)
+  begun p q = rw (q, p) (trail-first l v k back, refl)
+
+  pub further : {r : Trail} → Trailing l v k t × (t.back ≡ back) → is_open l t ≡ true
+      → r ≡ next_trail k (cell_in v t.at) t → Trailing l v k r × (r.back ≡ back)
+  further w o q = rw q (trail-next l v k t w.0 o, w.1)
+
 -- a turn that finds everything right has no fault
 no-faults : (v : View) (k x : ℕ) (s : List ℕ) → Turn v k x s → turn_faults v forward_word back_word k x s ≡ F.None
 unfolding turn_faults steps
@@ -92,7 +102,7 @@ no-faults v k x (y ∷ s) t =
     )
 
 -- so a list that holds fits as it is
-pub held_fits : (l : Layout) (v : View) (count : ℕ → ℕ) (k : ℕ) → Held l v count k → fit_in l v k (count k) ≡ G.Forward (walk_with F.None (count k))
+pub held_fits : (l : Layout) (v : View) (count : ℕ → ℕ) (k : ℕ) → Held l v count k → fit_in l v k (count k) ≡ Ok (ahead (walk_with F.None (count k)))
 unfolding fit_in others_faults
 held_fits l v count k e = let h = holds-true v k (count k) _ e in
     rw (no-fault _ _ _ _ h.ident, no-faults v k k _ h.turn, h.count)

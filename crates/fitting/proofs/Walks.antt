@@ -13,8 +13,8 @@ use Rattle.layout.specs.Words.{ident_word, is_node, ident_of}
 use Rattle.lists.specs.Decide.{View}
 use Rattle.fitting.specs.declared.Faults.{Faults}
 use Rattle.fitting.specs.declared.Faults.TheVariants as F
-use Rattle.fitting.specs.declared.Fitted.TheVariants as G
-use Rattle.fitting.specs.Fitting.{are_many, way_of, decides, choose, fit_in}
+use Rattle.std.specs.Prelude.{Ok}
+use Rattle.fitting.specs.Fitting.{are_many, way_of, decides, ahead, choose, fit_in}
 use Rattle.fitting.specs.declared.Walk.{Walk}
 use Rattle.fitting.specs.Fitting.{Each, plus, fault, turn_faults, others_faults, walked, walk_with, rest, Walking}
 
@@ -68,10 +68,10 @@ pub one-fault : (x c f v : ℕ) → (x ≡ v → ⊥) → fault x c f v ≡ F.On
 one-fault x c f v h = rw (ne_eqb _ _ h)
 
 -- where the first candidate decides, it is chosen, whatever the second is
-pub decided-alone : (x y : Walk) (n : ℕ) → decides x.faults ≡ true → choose x y n ≡ G.Forward x
+pub decided-alone : (x y : Walk) (n : ℕ) → decides x.faults ≡ true → choose x y n ≡ Ok (ahead x)
 decided-alone x y n e = rw e
 
-pub fit-alone : (l : Layout) (v : View) (k n : ℕ) {x : Walk} → x ≡ way_of l v false k → decides x.faults ≡ true → G.Forward x ≡ fit_in l v k n
+pub fit-alone : (l : Layout) (v : View) (k n : ℕ) {x : Walk} → x ≡ way_of l v false k → decides x.faults ≡ true → Ok (ahead x) ≡ fit_in l v k n
 unfolding fit_in
 fit-alone l v k n {x} e d = sym (decided-alone x (way_of l v true k) n d) ∙ ap (λ (y : Walk). choose y (way_of l v true k) n) e
 

@@ -1,16 +1,17 @@
 -- The wrong words of the two candidates, the count not among them, summed up as none, one or many, and which of the two is chosen for a list by
 -- them and by the count.
-use Rattle.std.specs.Prelude.{ℕ, ◌+◌, ◌-◌, ◌≤◌, ◌<◌, ◌≡◌, List, [], ◌∷◌, Bool, true, false, not, cond, ◌&&◌, eqb, length}
+use Rattle.std.specs.Prelude.{ℕ, ◌+◌, ◌-◌, ◌≤◌, ◌<◌, ◌≡◌, List, [], ◌∷◌, Bool, true, false, not, cond, ◌&&◌, eqb, length, Result, Ok, Err}
 use Rattle.sequences.specs.Sequence.{trail}
 use Rattle.stores.specs.Stores.{Write, write}
 use Rattle.layout.specs.declared.Layout.{Layout}
+use Rattle.layout.specs.declared.Refusal.{Refusal}
+use Rattle.layout.specs.declared.Refusal.TheVariants.{NoFit, TwoFit}
 use Rattle.layout.specs.Words.{ident_word, forward_word, back_word, is_node, cell_at, count_at, ident_of, in_use, cell_count, size_of}
 use Rattle.lists.specs.Decide.{View}
 use Rattle.layout.specs.declared.Cell.{Cell}
 use Rattle.fitting.specs.declared.Faults.{Faults}
 use Rattle.fitting.specs.declared.Faults.TheVariants as F
-use Rattle.fitting.specs.declared.Fitted.{Fitted}
-use Rattle.fitting.specs.declared.Fitted.TheVariants as G
+use Rattle.fitting.specs.declared.Chosen.{Chosen}
 use Rattle.fitting.specs.declared.Trail.{Trail}
 use Rattle.fitting.specs.declared.Walk.{Walk}
 
@@ -140,21 +141,28 @@ is_rival F.None = false
 is_rival (F.One c f v) = eqb f forward_word
 is_rival F.Many = false
 
+-- a walk by the forward links and one by the back links, chosen
+abbrev pub ahead : Walk → Chosen
+ahead x = record { walk = x; backward = false }
+
+abbrev pub behind : Walk → Chosen
+behind x = record { walk = x; backward = true }
+
 -- of two that fit, the one whose length is the count
-abbrev pub by_count : Bool → Bool → Walk → Walk → Fitted
-by_count true true x y = G.Several
-by_count true false x y = G.Forward x
-by_count false true x y = G.Backward y
-by_count false false x y = G.Several
+abbrev pub by_count : Bool → Bool → Walk → Walk → Result Chosen Refusal
+by_count true true x y = Err TwoFit
+by_count true false x y = Ok (ahead x)
+by_count false true x y = Ok (behind y)
+by_count false false x y = Err TwoFit
 
 -- of the walks by the forward and by the back links, the one that is chosen where the count is n
-abbrev pub choose : Walk → Walk → ℕ → Fitted
+abbrev pub choose : Walk → Walk → ℕ → Result Chosen Refusal
 choose x y n =
-    cond (decides x.faults) (G.Forward x)
-    (cond (are_many x.faults) (cond (are_many y.faults) G.Nothing (G.Backward y))
-    (cond (is_rival y.faults) (by_count (eqb n x.members) (eqb n y.members) x y) (G.Forward x)))
+    cond (decides x.faults) (Ok (ahead x))
+    (cond (are_many x.faults) (cond (are_many y.faults) (Err NoFit) (Ok (behind y)))
+    (cond (is_rival y.faults) (by_count (eqb n x.members) (eqb n y.members) x y) (Ok (ahead x))))
 
-unfoldable pub fit_in : Layout → View → ℕ → ℕ → Fitted
+unfoldable pub fit_in : Layout → View → ℕ → ℕ → Result Chosen Refusal
 fit_in l v k n = choose (way_of l v false k) (way_of l v true k) n
 
 -- the store that mends a fault, and that of the count of list k, which is n and is to be m
@@ -166,27 +174,14 @@ mend_of l F.Many = []
 abbrev pub count_mend : Layout → ℕ → ℕ → ℕ → List Write
 count_mend l k n m = cond (eqb n m) [] (write (count_at l k) m ∷ [])
 
--- of a list: its number if refused, the walk that is chosen, and whether it is the back walk
-abbrev pub number_of : Fitted → ℕ
-number_of G.Nothing = 11
-number_of G.Several = 12
-number_of (G.Forward x) = 0
-number_of (G.Backward x) = 0
+-- of a list: the walk that is chosen, and whether it is the back walk
+abbrev pub walk_in : Result Chosen Refusal → Walk
+walk_in (Ok c) = c.walk
+walk_in (Err r) = record { faults = F.None; members = 0 }
 
-abbrev pub no_walk : Walk
-no_walk = record { faults = F.None; members = 0 }
-
-abbrev pub walk_in : Fitted → Walk
-walk_in G.Nothing = no_walk
-walk_in G.Several = no_walk
-walk_in (G.Forward x) = x
-walk_in (G.Backward x) = x
-
-abbrev pub is_backward : Fitted → Bool
-is_backward G.Nothing = false
-is_backward G.Several = false
-is_backward (G.Forward x) = false
-is_backward (G.Backward x) = true
+abbrev pub is_backward : Result Chosen Refusal → Bool
+is_backward (Ok c) = c.backward
+is_backward (Err r) = false
 
 -- whether every member carries an identifier that says in use: the wrong word is none that does not
 abbrev pub carries : (ℕ → ℕ) → Faults → Bool

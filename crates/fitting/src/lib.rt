@@ -1,15 +1,19 @@
-// Which sequence is chosen for a list. Only two can fit: what the forward links lead through, and what the back links do. Each is walked at
-// most once, its wrong words beside the count are summed up as none, one or many, and its members are counted; no sequence is kept. What
-// stands here is what the walks in lent words and in lent bytes share: they differ only in how they read a cell.
+// Which sequence is chosen for a list. Only two can fit: what the forward links lead through, and what the back links do. Lists that hold are
+// told at once, from both ends. Others are walked by their forward links, and by their back links if that does not decide; a walk's wrong
+// words beside the count are summed up as none, one or many, its members are counted, and no sequence is kept. Two lists are walked in one
+// loop: neither waits for the other.
 #![tactic(auto)]
 
-ghost use Rattle.std.specs.Prelude.{◌≡◌, ◌<◌, ◌≤◌, eqb};
+ghost use Rattle.std.specs.Prelude.{◌≡◌, ◌<◌, ◌≤◌, eqb, true};
 ghost use Rattle.layout.specs.Words.{most_lists, most_cells};
-ghost use Rattle.layout.specs.Cells.{Gridded};
+ghost use Rattle.lists.specs.Decide.{view_of, count_in};
+ghost use Rattle.spans.specs.Spans.{cell_in};
 ghost use Rattle.fitting.specs.declared.Faults.TheVariants as F;
-ghost use Rattle.fitting.specs.Fitting.{plus, fault, are_many, walk_with, decides, is_rival, by_count, choose, number_of, no_walk, walk_in, is_backward, onward_word, backward_word, by_way, is_open, first_trail, next_trail, end_of};
+ghost use Rattle.fitting.specs.Fitting.{plus, fault, are_many, walk_with, decides, is_rival, ahead, behind, by_count, choose, way_of, fit_in, onward_word, backward_word, by_way, is_open, first_trail, next_trail, end_of, Trailing};
 
-use layout::{Cell, Grid, Layout};
+use form::Form;
+use layout::{Cell, Layout, Refusal};
+use walks::Store;
 
 // The words of a cell, as a fault names them.
 const IDENTIFIER: u16 = Layout::IDENTIFIER as u16;
@@ -19,7 +23,7 @@ const FORWARD: u16 = Layout::FORWARD as u16;
 const BACK: u16 = Layout::BACK as u16;
 
 // The wrong words of a sequence: word f of cell c is to hold v.
-#[derive(Clone, Copy)]
+#[derive(Clone, Copy, Debug, PartialEq, Eq)]
 pub enum Faults {
     None,
     One(u16, u16, u16),
@@ -28,28 +32,43 @@ pub enum Faults {
 
 // A walk through a list: the wrong words that it met, the count not among them, and the number of members, which is not told where the
 // wrong words are many.
-#[derive(Clone, Copy)]
+#[derive(Clone, Copy, Debug, PartialEq, Eq)]
 pub struct Walk {
     pub faults: Faults,
     pub members: u16,
 }
 
-// Which sequence is chosen for a list: what the forward links or what the back links lead through. Nothing fits, or several do and the
-// count tells none of them.
+// The walk that is chosen for a list, and whether it went by the back links.
+#[derive(Clone, Copy, Debug, PartialEq, Eq)]
+pub struct Chosen {
+    pub walk: Walk,
+    pub backward: bool,
+}
+
+// What is chosen for two lists: a list is refused where nothing fits, or where several sequences do and the count tells none of them.
+#[derive(Clone, Copy, Debug, PartialEq, Eq)]
+pub struct Fits {
+    pub first: Result<Chosen, Refusal>,
+    pub second: Result<Chosen, Refusal>,
+}
+
+// Where a walk through a list stands: by the back links or the forward links, with the wrong words that it met; the last cell that it met,
+// the cell that it comes to, and how many nodes it may meet yet.
 #[derive(Clone, Copy)]
-pub enum Fitted {
-    Nothing,
-    Several,
-    Forward(Walk),
-    Backward(Walk),
+struct Trail {
+    back: bool,
+    faults: Faults,
+    last: u16,
+    at: usize,
+    left: u16,
 }
 
 impl Faults {
     // One word more is compared: it holds found and is to hold v.
-    fn and(self, found: usize, c: u16, f: u16, v: u16) -> Faults
+    fn and(self, found: usize, c: u16, f: u16, v: u16) -> Self
         ensures { result ≡ plus self (fault found c f v) }
     {
-        if found == v as usize {
+        if found == usize::from(v) {
             return self;
         }
         match self {
@@ -63,11 +82,7 @@ impl Faults {
     fn are_many(self) -> bool
         ensures { result ≡ are_many self }
     {
-        match self {
-            Faults::None => false,
-            Faults::One(_, _, _) => false,
-            Faults::Many => true,
-        }
+        matches!(self, Faults::Many)
     }
 
     // Do these faults of the forward walk decide alone? With none, or with one that is no back link, the back links lead through the
@@ -94,69 +109,6 @@ impl Faults {
     }
 }
 
-impl Fitted {
-    // The number of the refusal, 0 for none.
-    pub fn number(self) -> u16
-        ensures { result ≡ number_of self }
-    {
-        match self {
-            Fitted::Nothing => 11,
-            Fitted::Several => 12,
-            Fitted::Forward(_) => 0,
-            Fitted::Backward(_) => 0,
-        }
-    }
-
-    // The walk that is chosen.
-    pub fn walk(self) -> Walk
-        ensures { result ≡ walk_in self }
-    {
-        match self {
-            Fitted::Nothing => Walk::none(),
-            Fitted::Several => Walk::none(),
-            Fitted::Forward(x) => x,
-            Fitted::Backward(x) => x,
-        }
-    }
-
-    // Is it what the back links lead through?
-    pub fn is_backward(self) -> bool
-        ensures { result ≡ is_backward self }
-    {
-        match self {
-            Fitted::Nothing => false,
-            Fitted::Several => false,
-            Fitted::Forward(_) => false,
-            Fitted::Backward(_) => true,
-        }
-    }
-}
-
-// Where a walk through a list stands: by the back links or the forward links, with the wrong words that it met; the last cell that it met,
-// the cell that it comes to, and how many nodes it may meet yet.
-#[derive(Clone, Copy)]
-pub struct Trail {
-    pub back: bool,
-    pub faults: Faults,
-    pub last: u16,
-    pub at: usize,
-    pub left: u16,
-}
-
-// Walks through two lists.
-#[derive(Clone, Copy)]
-pub struct Walked {
-    pub first: Walk,
-    pub second: Walk,
-}
-
-// Which sequences fit two lists.
-#[derive(Clone, Copy)]
-pub struct Fits {
-    pub first: Fitted,
-    pub second: Fitted,
-}
-
 // The word of a cell that a walk follows.
 fn onward(back: bool) -> u16
     ensures { result ≡ onward_word back }
@@ -177,9 +129,9 @@ fn seen(c: Cell, back: bool) -> Cell
 {
     if back {
         Cell {
-            ident: c.ident,
             forward: c.back,
             back: c.forward,
+            ..c
         }
     } else {
         c
@@ -188,13 +140,13 @@ fn seen(c: Cell, back: bool) -> Cell
 
 impl Trail {
     // At the header h of list k.
-    pub fn first(l: Layout, back: bool, k: u16, h: Cell) -> Self
+    fn first(l: Layout, back: bool, k: u16, h: Cell) -> Self
         requires { k < most_lists }
         ensures { result ≡ first_trail l back k h }
     {
         Self {
             back,
-            faults: Faults::None.and(h.ident as usize, k, IDENTIFIER, Layout::ident(k)),
+            faults: Faults::None.and(usize::from(h.ident), k, IDENTIFIER, Layout::ident(k)),
             last: k,
             at: seen(h, back).forward,
             left: l.nodes,
@@ -202,57 +154,45 @@ impl Trail {
     }
 
     // Does it go on? Not with many faults, not behind N nodes, and not to a cell that is no node.
-    pub fn open(self, l: Layout, g: Grid) -> bool
-        requires { Gridded l g }
-        ensures { result ≡ is_open l self }
+    fn open<E: Form>(self, s: &Store<E>) -> bool
+        ensures { result ≡ is_open s.now.layout self }
     {
-        let faults = self.faults;
-        if faults.are_many() {
+        if self.faults.are_many() {
             return false;
         }
-        if self.left == 0 {
-            return false;
-        }
-        g.is_node(l, self.at)
+        self.left != 0 && s.is_node(self.at)
     }
 
     // The cell that it comes to is c, of list k. Most often nothing is wrong.
-    pub fn step(self, k: u16, c: Cell) -> Self
+    fn step(self, k: u16, c: Cell) -> Self
         requires { (k < most_lists) × (self.at ≤ most_cells) × (0 < self.left) }
         ensures { result ≡ next_trail k c self }
     {
         let s = seen(c, self.back);
         let at = self.at as u16;
-        let met = self.faults;
         let id = Layout::ident(k);
-        if c.ident == id {
-            if s.back == self.last as usize {
-                return Self {
-                    back: self.back,
-                    faults: met,
-                    last: at,
-                    at: s.forward,
-                    left: self.left - 1,
-                };
-            }
-        }
-        let faults = met.and(c.ident as usize, at, IDENTIFIER, id);
-        Self {
-            back: self.back,
-            faults: faults.and(s.back, at, backward(self.back), self.last),
+        let next = Self {
             last: at,
             at: s.forward,
             left: self.left - 1,
+            ..self
+        };
+        if c.ident == id && s.back == usize::from(self.last) {
+            return next;
+        }
+        let faults = self.faults.and(usize::from(c.ident), at, IDENTIFIER, id);
+        Self {
+            faults: faults.and(s.back, at, backward(self.back), self.last),
+            ..next
         }
     }
 
     // At the end of list k, whose header is h.
-    pub fn end(self, l: Layout, k: u16, h: Cell) -> Walk
+    fn end(self, l: Layout, k: u16, h: Cell) -> Walk
         requires { self.left ≤ l.nodes }
         ensures { result ≡ end_of l k h self }
     {
-        let met = self.faults;
-        let f = met.and(self.at, self.last, onward(self.back), k);
+        let f = self.faults.and(self.at, self.last, onward(self.back), k);
         let faults = f.and(seen(h, self.back).back, k, backward(self.back), self.last);
         if faults.are_many() {
             return Walk { faults, members: 0 };
@@ -265,18 +205,8 @@ impl Trail {
 }
 
 impl Walk {
-    // A walk that met nothing.
-    fn none() -> Self
-        ensures { result ≡ no_walk }
-    {
-        Self {
-            faults: Faults::None,
-            members: 0,
-        }
-    }
-
     // A walk through a list that holds, whose count is n.
-    pub fn right(n: u16) -> Self
+    fn right(n: u16) -> Self
         ensures { result ≡ walk_with F.None n }
     {
         Self {
@@ -286,48 +216,143 @@ impl Walk {
     }
 
     // Does this walk, by the forward links, decide alone?
-    pub fn decides(self) -> bool
+    fn decides(self) -> bool
         ensures { result ≡ decides self.faults }
     {
-        let f = self.faults;
-        f.decide()
+        self.faults.decide()
     }
 }
 
-// Of two walks that fit a list, whose count is n, the one of that length; neither, if both have it or none.
-fn by_count(ahead: Walk, behind: Walk, n: u16) -> Fitted
-    ensures { result ≡ by_count (eqb n ahead.members) (eqb n behind.members) ahead behind }
-{
-    if n == ahead.members {
-        if n == behind.members {
-            return Fitted::Several;
+impl Chosen {
+    // A walk by the forward links.
+    fn ahead(walk: Walk) -> Self
+        ensures { result ≡ ahead walk }
+    {
+        Self {
+            walk,
+            backward: false,
         }
-        return Fitted::Forward(ahead);
     }
-    if n == behind.members {
-        return Fitted::Backward(behind);
+
+    // A walk by the back links.
+    fn behind(walk: Walk) -> Self
+        ensures { result ≡ behind walk }
+    {
+        Self {
+            walk,
+            backward: true,
+        }
     }
-    Fitted::Several
+}
+
+// Of the walks x and y, which both fit a list, whose count is n, the one of that length; neither, if both have it or none.
+fn by_count(x: Walk, y: Walk, n: u16) -> Result<Chosen, Refusal>
+    ensures { result ≡ by_count (eqb n x.members) (eqb n y.members) x y }
+{
+    match (n == x.members, n == y.members) {
+        (true, false) => Ok(Chosen::ahead(x)),
+        (false, true) => Ok(Chosen::behind(y)),
+        _ => Err(Refusal::TwoFit),
+    }
 }
 
 // Of the forward walk x and the back walk y of a list, whose count is n, the one that is chosen. Where both fit and are two, the count
 // decides.
-pub fn choice(x: Walk, y: Walk, n: u16) -> Fitted
+fn choice(x: Walk, y: Walk, n: u16) -> Result<Chosen, Refusal>
     ensures { result ≡ choose x y n }
 {
     if x.decides() {
-        return Fitted::Forward(x);
+        return Ok(Chosen::ahead(x));
     }
-    let f = x.faults;
-    let g = y.faults;
-    if f.are_many() {
-        if g.are_many() {
-            return Fitted::Nothing;
+    if x.faults.are_many() {
+        if y.faults.are_many() {
+            return Err(Refusal::NoFit);
         }
-        return Fitted::Backward(y);
+        return Ok(Chosen::behind(y));
     }
-    if g.is_rival() {
+    if y.faults.is_rival() {
         return by_count(x, y, n);
     }
-    Fitted::Forward(x)
+    Ok(Chosen::ahead(x))
+}
+
+// One step of a walk through list k.
+fn step<E: Form>(s: &Store<E>, k: u16, t: Trail) -> Trail
+    requires { (k < s.now.layout.lists) × (is_open s.now.layout t ≡ true) }
+    ensures { result ≡ next_trail k (cell_in (view_of s.now.layout (E.words_in s.now.lent.now)) t.at) t }
+{
+    t.step(k, s.node(t.at))
+}
+
+// Step after step: a walk through list k.
+fn rest<E: Form>(s: &Store<E>, k: u16, t: Trail) -> Walk
+    requires { (k < s.now.layout.lists) × Trailing s.now.layout (view_of s.now.layout (E.words_in s.now.lent.now)) k t }
+    ensures { result ≡ way_of s.now.layout (view_of s.now.layout (E.words_in s.now.lent.now)) t.back k }
+{
+    let mut t = t;
+    while t.open(s) {
+        t = step(s, k, t);
+    }
+    t.end(s.layout, k, s.header(k))
+}
+
+// The walks through lists k and j, each by its back links or its forward links.
+fn walk_two<E: Form>(s: &Store<E>, k: u16, back: bool, j: u16, other: bool) -> (Walk, Walk)
+    requires { (k < s.now.layout.lists) × (j < s.now.layout.lists) }
+    ensures { (result.0 ≡ way_of s.now.layout (view_of s.now.layout (E.words_in s.now.lent.now)) back k) × (result.1 ≡ way_of s.now.layout (view_of s.now.layout (E.words_in s.now.lent.now)) other j) }
+{
+    let mut t = Trail::first(s.layout, back, k, s.header(k));
+    let mut u = Trail::first(s.layout, other, j, s.header(j));
+    while t.open(s) && u.open(s) {
+        t = step(s, k, t);
+        u = step(s, j, u);
+    }
+    (rest(s, k, t), rest(s, j, u))
+}
+
+// What is chosen for list k: both walks at once.
+fn fit_one<E: Form>(s: &Store<E>, k: u16) -> Result<Chosen, Refusal>
+    requires { k < s.now.layout.lists }
+    ensures { result ≡ fit_in s.now.layout (view_of s.now.layout (E.words_in s.now.lent.now)) k (count_in s.now.layout (E.words_in s.now.lent.now) k) }
+{
+    let n = s.count(k);
+    if s.one_holds(k) {
+        return Ok(Chosen::ahead(Walk::right(n)));
+    }
+    let (x, y) = walk_two(s, k, false, k, true);
+    choice(x, y, n)
+}
+
+// What is chosen for lists k and j, which may be the same.
+pub fn fit_two<E: Form>(s: &Store<E>, k: u16, j: u16) -> Fits
+    requires { (k < s.now.layout.lists) × (j < s.now.layout.lists) }
+    ensures { (result.first ≡ fit_in s.now.layout (view_of s.now.layout (E.words_in s.now.lent.now)) k (count_in s.now.layout (E.words_in s.now.lent.now) k)) × (result.second ≡ fit_in s.now.layout (view_of s.now.layout (E.words_in s.now.lent.now)) j (count_in s.now.layout (E.words_in s.now.lent.now) j)) }
+{
+    if k == j {
+        let fit = fit_one(s, k);
+        return Fits {
+            first: fit,
+            second: fit,
+        };
+    }
+    let m = s.count(k);
+    let n = s.count(j);
+    if s.two_hold(k, j) {
+        return Fits {
+            first: Ok(Chosen::ahead(Walk::right(m))),
+            second: Ok(Chosen::ahead(Walk::right(n))),
+        };
+    }
+    let (x, y) = walk_two(s, k, false, j, false);
+    if x.decides() && y.decides() {
+        return Fits {
+            first: Ok(Chosen::ahead(x)),
+            second: Ok(Chosen::ahead(y)),
+        };
+    }
+    let (z, w) = walk_two(s, k, true, j, true);
+    Fits {
+        first: choice(x, z, m),
+        second: choice(y, w, n),
+    }
 }

@@ -10,8 +10,8 @@ use lib.ListN.{length, get_or, replicate, length-append, length-replicate, get_o
 use lib.Seq.{get_or-append-add}
 use borrow.Author.Tests.{lt-ltb, le-ltb, le-leb, eq-eqb, ltb-true, ltb-false, leb-true, eqb-true}
 use Rattle.layout.specs.declared.Layout.{Layout}
-use Rattle.layout.specs.declared.Opened.{Opened}
-use Rattle.layout.specs.declared.Opened.TheVariants.{Open, Refused}
+use Rattle.std.specs.Prelude.{Result, Ok, Err}
+use Rattle.layout.specs.declared.Refusal.{Refusal}
 use Rattle.layout.specs.Words.{newest, most_lists, most_nodes, most_width, head_words, header_words, link_words, header_at, first_node, cell_count, Node, is_node, check_words, tail_words, node_words, nodes_at, node_at, cell_at, size_of, marked, layout_of, InRange, between, in_range, opened_by, opened, head, empty_header, empty_headers, formatted}
 
 -- a test b that a call answered by r, where the code asked `!r`: it held, or it did not
@@ -131,18 +131,18 @@ range-in l r =
     )
 
 -- a question that did not refuse was answered yes
-granted : (b : Bool) (k : ℕ) (o : Opened) (l : Layout) → cond b o (Refused k) ≡ Open l → (b ≡ true) × (o ≡ Open l)
+granted : (b : Bool) (k : Refusal) (o : Result Layout Refusal) (l : Layout) → cond b o (Err k) ≡ Ok l → (b ≡ true) × (o ≡ Ok l)
 granted true k o l h = (refl, h)
 granted false k o l h = let z : ◌≡◌ {A = ℕ} 0 1 = cc in absurd (omega arith)
 
 -- an opened store has a mark, L, N and P in range and the exact length, and its layout is that of its words
-pub opened-open : (w : List ℕ) (l : Layout) → opened w ≡ Open l → (l ≡ layout_of w) × (marked w ≡ true) × (InRange l) × (length w ≡ size_of l)
+pub opened-open : (w : List ℕ) (l : Layout) → opened w ≡ Ok l → (l ≡ layout_of w) × (marked w ≡ true) × (InRange l) × (length w ≡ size_of l)
 unfolding opened_by
 opened-open w l h =
-    let a = granted (leb head_words (length w)) 1 _ l h in
-    let b = granted (marked w) 2 _ l a.1 in
-    let c = granted (in_range (layout_of w)) 3 _ l b.1 in
-    let d = granted (eqb (length w) (size_of (layout_of w))) 4 _ l c.1 in
+    let a = granted (leb head_words (length w)) _ _ l h in
+    let b = granted (marked w) _ _ l a.1 in
+    let c = granted (in_range (layout_of w)) _ _ l b.1 in
+    let d = granted (eqb (length w) (size_of (layout_of w))) _ _ l c.1 in
     let e : l ≡ layout_of w = cc d.1 in
     rw e (refl, b.0, in-range (layout_of w) c.0, eqb-true (length w) (size_of (layout_of w)) d.0)
 
@@ -152,7 +152,7 @@ unfolding size_of
 size-head l = omega arith
 
 -- and a store of which all that is so is opened
-pub open-opened : (w : List ℕ) → marked w ≡ true → InRange (layout_of w) → length w ≡ size_of (layout_of w) → opened w ≡ Open (layout_of w)
+pub open-opened : (w : List ℕ) → marked w ≡ true → InRange (layout_of w) → length w ≡ size_of (layout_of w) → opened w ≡ Ok (layout_of w)
 unfolding opened_by
 open-opened w m r e =
     let n : head_words ≤ length w = omega (arith, size-head (layout_of w)) in

@@ -1,8 +1,8 @@
 -- The words of a store: where each thing stands, what words 0 to 7 hold, and what a formatted store holds.
-use Rattle.std.specs.Prelude.{ℕ, zero, suc, ◌+◌, ◌*◌, ◌-◌, ◌≤◌, ◌<◌, ◌≡◌, List, [], ◌∷◌, ◌++◌, Bool, cond, not, ◌&&◌, ◌||◌, eqb, leb, ltb, length, get_or, replicate}
+use Rattle.std.specs.Prelude.{ℕ, zero, suc, ◌+◌, ◌*◌, ◌-◌, ◌≤◌, ◌<◌, ◌≡◌, List, [], ◌∷◌, ◌++◌, Bool, cond, not, ◌&&◌, ◌||◌, eqb, leb, ltb, length, get_or, replicate, Result, Ok, Err}
 use Rattle.layout.specs.declared.Layout.{Layout}
-use Rattle.layout.specs.declared.Opened.{Opened}
-use Rattle.layout.specs.declared.Opened.TheVariants.{Open, Refused}
+use Rattle.layout.specs.declared.Refusal.{Refusal}
+use Rattle.layout.specs.declared.Refusal.TheVariants.{Short, NoStore, Range, Size, NoList, Unsound, NoPosition, NoNode, RecordSize, Full, NoFit, TwoFit, NotFree}
 
 -- the bounds of L, N and P, and the most cells
 abbrev pub most_lists : ℕ
@@ -164,22 +164,38 @@ in_range l =
 abbrev pub ask {ℓ} : {A : Type ℓ} → Bool → A → A → A
 ask answer refusal rest = cond answer rest refusal
 
--- questions 1 to 4, of a store of n words whose first eight are those of h
-unfoldable pub opened_by : ℕ → List ℕ → Opened
-opened_by n h =
-    ask (leb head_words n) (Refused 1)
-    (ask (marked h) (Refused 2)
-    (ask (in_range (layout_of h)) (Refused 3)
-    (ask (eqb n (size_of (layout_of h))) (Refused 4)
-    (Open (layout_of h)))))
+-- "the first no decides, and its number is the answer"
+abbrev pub number_of : Refusal → ℕ
+number_of Short = 1
+number_of NoStore = 2
+number_of Range = 3
+number_of Size = 4
+number_of NoList = 5
+number_of Unsound = 6
+number_of NoPosition = 7
+number_of NoNode = 8
+number_of RecordSize = 9
+number_of Full = 10
+number_of NoFit = 11
+number_of TwoFit = 12
+number_of NotFree = 13
 
-abbrev pub opened : List ℕ → Opened
+-- questions 1 to 4, of a store of n words whose first eight are those of h
+unfoldable pub opened_by : ℕ → List ℕ → Result Layout Refusal
+opened_by n h =
+    ask (leb head_words n) (Err Short)
+    (ask (marked h) (Err NoStore)
+    (ask (in_range (layout_of h)) (Err Range)
+    (ask (eqb n (size_of (layout_of h))) (Err Size)
+    (Ok (layout_of h)))))
+
+abbrev pub opened : List ℕ → Result Layout Refusal
 opened w = opened_by (length w) w
 
 -- what a call does after them: a refusal is handed on, else the rest is asked of the layout
-abbrev pub after_open {ℓ} : {A : Type ℓ} → Opened → (ℕ → A) → (Layout → A) → A
-after_open (Refused n) refuse rest = refuse n
-after_open (Open l) refuse rest = rest l
+abbrev pub after_open {ℓ} : {A : Type ℓ} → Result Layout Refusal → (Refusal → A) → (Layout → A) → A
+after_open (Err n) refuse rest = refuse n
+after_open (Ok l) refuse rest = rest l
 
 -- the same in words: what a store's words are like once questions 1 to 4 are answered yes
 pub record Laid (l : Layout) (w : List ℕ) : Type 0 where

@@ -8,11 +8,11 @@
 #![tactic(auto)]
 
 ghost use Rattle.std.specs.Prelude.{◌≡◌, ◌≤◌, length};
-ghost use Rattle.layout.specs.Words.{newest, most_lists, head_words, first_node, cell_count, Node, is_node, header_at, check_words, tail_words, node_words, nodes_at, node_at, cell_at, size_of, ident_of, is_free, in_use, between, in_range, InRange, marked, opened_by, head, empty_header};
+ghost use Rattle.layout.specs.Words.{newest, most_lists, head_words, first_node, cell_count, Node, is_node, header_at, check_words, tail_words, node_words, nodes_at, node_at, cell_at, size_of, number_of, ident_of, is_free, in_use, between, in_range, InRange, marked, opened_by, head, empty_header};
 ghost use Rattle.layout.specs.Cells.{Gridded};
 
 // Version, L, N and P of a store.
-#[derive(Clone, Copy)]
+#[derive(Clone, Copy, Debug, PartialEq, Eq)]
 pub struct Layout {
     pub version: u16,
     pub lists: u16,
@@ -38,11 +38,30 @@ pub struct Cell {
     pub back: usize,
 }
 
-// The answer to questions 1 to 4.
-#[derive(Clone, Copy)]
-pub enum Opened {
-    Open(Layout),
-    Refused(u16),
+// Why a call is refused: the question whose answer is no. Its number stands in docs/FORMAT.md.
+#[derive(Clone, Copy, Debug, PartialEq, Eq)]
+pub enum Refusal {
+    Short = 1,
+    NoStore = 2,
+    Range = 3,
+    Size = 4,
+    NoList = 5,
+    Unsound = 6,
+    NoPosition = 7,
+    NoNode = 8,
+    RecordSize = 9,
+    Full = 10,
+    NoFit = 11,
+    TwoFit = 12,
+    NotFree = 13,
+}
+
+impl Refusal {
+    pub fn number(self) -> u16
+        ensures { result ≡ number_of self }
+    {
+        self as u16
+    }
 }
 
 impl Layout {
@@ -105,7 +124,7 @@ impl Layout {
 
     pub const WORN: u16 = 65535;
 
-    // Are the version, L, N and P in range?
+    // Are the version, L, N and P in range? (No invariant of the type: format and the definitions speak of layouts that are not.)
     pub fn in_range(self) -> bool
         ensures { result ≡ in_range self }
     {
@@ -249,6 +268,7 @@ impl Layout {
     }
 }
 
+// (That a grid is its layout's is asked here alone: whoever reads a store has a Store, which holds it.)
 impl Grid {
     pub fn of(l: Layout) -> Self
         requires { InRange l }
@@ -331,12 +351,12 @@ fn is_marked(head: &[u16]) -> bool
 }
 
 // Questions 2 to 4 of a store of n words, eight or more, that begins with the words of head.
-pub fn open_with(n: usize, head: &[u16]) -> Opened
+pub fn open_with(n: usize, head: &[u16]) -> Result<Layout, Refusal>
     requires { (head_words ≤ n) × (head_words ≤ length head.now) }
     ensures { result ≡ opened_by n head.now }
 {
     if !is_marked(head) {
-        return Opened::Refused(2);
+        return Err(Refusal::NoStore);
     }
     let l = Layout {
         version: head[Layout::VERSION_AT],
@@ -345,10 +365,10 @@ pub fn open_with(n: usize, head: &[u16]) -> Opened
         width: head[Layout::WIDTH_AT],
     };
     if !l.in_range() {
-        return Opened::Refused(3);
+        return Err(Refusal::Range);
     }
     if n != l.size() {
-        return Opened::Refused(4);
+        return Err(Refusal::Size);
     }
-    Opened::Open(l)
+    Ok(l)
 }

@@ -11,15 +11,18 @@ use borrow.Author.Tests.{le-leb, lt-leb, eq-eqb, ne_eqb}
 use Rattle.sequences.proofs.Members.{all-nth}
 use Rattle.sequences.proofs.Trail.{trail-length, trail-inside}
 use Rattle.layout.specs.declared.Layout.{Layout}
-use Rattle.layout.specs.declared.Opened.TheVariants as O
-use Rattle.layout.specs.Words.{most_width, InRange, first_node, is_node, record_at, opened, in_use}
+use Rattle.std.specs.Prelude.{Result, Ok, Err}
+use Rattle.layout.specs.declared.Refusal.{Refusal}
+use Rattle.layout.specs.declared.Refusal.TheVariants as R
+use Rattle.layout.specs.Words.{number_of, most_width, InRange, first_node, is_node, record_at, opened, in_use}
 use Rattle.layout.proofs.Laws.{is-node}
 use Rattle.lists.specs.Decide.{view_of, count_in, members, sequence_of, sound_of}
 use Rattle.lists.proofs.Nodes.{cells-few}
 use Rattle.lists.proofs.Stepwise.{members-more, sound-number}
 use Rattle.requests.specs.Requests.{site_in, look_of}
+use Rattle.requests.proofs.Laws.{opened-laid}
 use Rattle.edits.specs.Edited.{record_in}
-use Rattle.byte_form.specs.Bytes.{words_in}
+use Rattle.encoding.specs.Bytes.{words_in}
 use Rattle.writing.specs.Text.{codes, decimal, overwritten, Wrote, Room, spaced}
 use Rattle.listing_text.specs.Listing.{record_line, record_lines, list_line, list_lines, lists_from, refused_line, sound_lines, listed_of, listing_of, most_bytes, byte_listing, longest}
 use Rattle.writing.proofs.Writing.{decimal-short, wrote-over}
@@ -35,11 +38,11 @@ module _ (l : Layout) (w : List ℕ) where
   listed-unsound e = rw e
 
 module _ (w : List ℕ) where
-  pub listing-shut : {n : ℕ} → opened w ≡ O.Refused n → listing_of w ≡ refused_line n
+  pub listing-shut : {n : Refusal} → opened w ≡ Err n → listing_of w ≡ refused_line (number_of n)
   unfolding listing_of look_of
   listing-shut e = rw e
 
-  pub listing-open : {l : Layout} → opened w ≡ O.Open l → listing_of w ≡ listed_of l w
+  pub listing-open : {l : Layout} → opened w ≡ Ok l → listing_of w ≡ listed_of l w
   unfolding listing_of look_of site_in listed_of
   listing-open {l} e = by (sound_of l w) refl
     where
@@ -181,6 +184,30 @@ module _ (l : Layout) (w : List ℕ) (r : InRange l) (small : (i : ℕ) → get_
             r.lists,
             r.nodes,
           ))
+
+-- a refusal's number is small
+number-few : (n : Refusal) → number_of n < 65536
+number-few R.Short = omega arith
+number-few R.NoStore = omega arith
+number-few R.Range = omega arith
+number-few R.Size = omega arith
+number-few R.NoList = omega arith
+number-few R.Unsound = omega arith
+number-few R.NoPosition = omega arith
+number-few R.NoNode = omega arith
+number-few R.RecordSize = omega arith
+number-few R.Full = omega arith
+number-few R.NoFit = omega arith
+number-few R.TwoFit = omega arith
+number-few R.NotFree = omega arith
+
+-- the listing of any words of 16 bits
+pub listing-short : (w : List ℕ) → ((i : ℕ) → get_or w i 0 < 65536) → length (listing_of w) ≤ longest
+listing-short w small = by (opened w) refl
+  where
+    by : (o : Result Layout Refusal) → opened w ≡ o → length (listing_of w) ≤ longest
+    by (Err n) e = rw (listing-shut w e) (refused-short (number_of n) (number-few n))
+    by (Ok l) e = rw (listing-open w e) (listed-short l w (opened-laid w l e).in_range small)
 
 -- the cases of a listing of bytes
 module _ (bytes : List ℕ) where

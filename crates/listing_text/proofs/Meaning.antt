@@ -5,20 +5,20 @@ use mathlib.Core.Path.{◌≡◌, refl, ap, ap₂, ◌∙◌, sym}
 use mathlib.Core.List.{List, [], ◌∷◌, ◌++◌}
 use native.Mathlib.Omega.{arith}
 use lib.ListN.{length, get_or}
-use Rattle.byte_form.specs.Bytes.{words_in}
-use Rattle.byte_form.proofs.Laws.{length-words}
+use Rattle.encoding.specs.Bytes.{words_in}
+use Rattle.encoding.proofs.Laws.{length-words}
+use Rattle.std.specs.Prelude.{Result, Ok, Err}
 use Rattle.layout.specs.declared.Layout.{Layout}
-use Rattle.layout.specs.Words.{layout_of, check_words, node_at, cell_at, size_of, marked, is_node, in_range, opened_by}
+use Rattle.layout.specs.declared.Refusal.{Refusal}
+use Rattle.layout.specs.Words.{number_of, layout_of, check_words, node_at, cell_at, size_of, marked, is_node, in_range, opened_by}
 use Rattle.layout.proofs.Laws.{size-most}
 use Rattle.sequences.specs.Sequence.{trail, range, filter}
 use Rattle.lists.specs.Lists.{Sound}
 use Rattle.lists.specs.Decide.{sequence_of, blank_from, turn, holds, all_hold, members, ordered_in, sound_in}
 use Rattle.lists.proofs.Unique.{list-sequence}
 use Rattle.requests.specs.declared.Request.TheVariants.{Check}
-use Rattle.requests.specs.declared.Looked.{Looked}
-use Rattle.requests.specs.declared.Looked.TheVariants as K
+use Rattle.requests.specs.declared.Look.{Look}
 use Rattle.requests.specs.Requests.{site_in, look_of, with_look}
-use Rattle.calls.specs.declared.Checked.TheVariants as C
 use Rattle.calls.specs.Calls.{check_answer}
 use Rattle.calls.proofs.Calls.{sound-opened, sound-decided}
 use Rattle.writing.specs.Text.{codes, digits, decimal, spaced}
@@ -26,14 +26,14 @@ use Rattle.listing_text.specs.Listing.{record_line, record_lines, list_line, lis
 use Rattle.listing_text.proofs.Listed.{listed-sound, listing-open, bytes-even}
 
 -- a refusal of check
-pub listing-refused : (w : List ℕ) (n : ℕ) → check_answer w ≡ C.Refused n → listing_of w ≡ refused_line n
+pub listing-refused : (w : List ℕ) (n : Refusal) → check_answer w ≡ Err n → listing_of w ≡ refused_line (number_of n)
 unfolding check_answer listing_of
 listing-refused w n = by (look_of w Check)
   where
-    by : (x : Looked) → with_look x C.Refused (λ l t. C.Sound) ≡ C.Refused n
-        → with_look x refused_line (λ l t. sound_lines l w (sequence_of l w)) ≡ refused_line n
-    by (K.Refused m) e = let q : m ≡ n = cc in ap refused_line q
-    by (K.At l t) e = let z : ◌≡◌ {A = ℕ} 0 1 = cc in absurd (omega arith)
+    by : (x : Result Look Refusal) → ◌≡◌ {A = Result (Unit {0}) Refusal} (with_look x Err (λ l t. Ok tt)) (Err n)
+        → with_look x (λ m. refused_line (number_of m)) (λ l t. sound_lines l w (sequence_of l w)) ≡ refused_line (number_of n)
+    by (Err m) e = let q : m ≡ n = cc in ap (λ m. refused_line (number_of m)) q
+    by (Ok o) e = let z : ◌≡◌ {A = ℕ} 0 1 = cc in absurd (omega arith)
 
 -- lists that have the same sequences are listed the same
 lists-same : (l : Layout) (w : List ℕ) (s t : ℕ → List ℕ) (k n : ℕ) → k + n ≤ l.lists → ((j : ℕ) → j < l.lists → s j ≡ t j)

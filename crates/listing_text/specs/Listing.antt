@@ -1,12 +1,12 @@
 -- The listing of a store.
 use Rattle.std.specs.Prelude.{ℕ, zero, suc, ◌+◌, ◌*◌, ◌%◌, List, [], ◌∷◌, ◌++◌, eqb, leb, length}
 use Rattle.layout.specs.declared.Layout.{Layout}
-use Rattle.layout.specs.Words.{most_lists, most_nodes, ask}
+use Rattle.layout.specs.Words.{most_lists, most_nodes, ask, number_of}
 use Rattle.lists.specs.Decide.{sequence_of, sound_of}
 use Rattle.requests.specs.declared.Request.TheVariants.{Check}
 use Rattle.requests.specs.Requests.{look_of, with_look}
 use Rattle.edits.specs.Edited.{record_in}
-use Rattle.byte_form.specs.Bytes.{words_in}
+use Rattle.encoding.specs.Bytes.{words_in}
 use Rattle.writing.specs.Text.{codes, decimal, spaced}
 
 -- "for each record its position, cell and words, decimal and parted by one space"
@@ -41,7 +41,7 @@ sound_lines l w sequence = lists_from l w sequence 0 l.lists ++ codes "sound\n"
 
 -- the listing of the words w: check's questions, and the lists of a sound store
 unfoldable pub listing_of : List ℕ → List ℕ
-listing_of w = with_look (look_of w Check) refused_line (λ l t. sound_lines l w (sequence_of l w))
+listing_of w = with_look (look_of w Check) (λ n. refused_line (number_of n)) (λ l t. sound_lines l w (sequence_of l w))
 
 -- "It reads a store in that byte form .. More than 64,080 bytes, or an odd number, gives `refused 4`"
 abbrev pub most_bytes : ℕ

@@ -8,7 +8,8 @@ use lib.ListN.{length, get_or}
 use borrow.Author.Tests.{eq-eqb, eqb-true}
 use Rattle.sequences.specs.Sequence.{All, Step, steps, Forward, Backward}
 use Rattle.sequences.proofs.Members.{all_append, append-all}
-use Rattle.stores.specs.Stores.{Write, write}
+use Rattle.stores.specs.declared.Write.{Write}
+use Rattle.stores.specs.Stores.{write}
 use Rattle.layout.specs.declared.Layout.{Layout}
 use Rattle.layout.specs.Words.{ident_at, forward_at, back_at, ident_of}
 use Rattle.lists.specs.Lists.{idents_asked, forwards_asked, backs_asked, count_asked, others_asked, asked, Agrees}

@@ -1,7 +1,8 @@
 -- The lists of a store, in the words of CS-85-18, section 2: distances 1 and -1, identifiers, counts.
 use Rattle.std.specs.Prelude.{ℕ, ◌+◌, ◌<◌, ◌≡◌, List, [], ◌∷◌, ◌++◌, map, true, length, get_or, replicate}
 use Rattle.sequences.specs.Sequence.{◌∈◌, All, Different, steps}
-use Rattle.stores.specs.Stores.{Write, write, in_row}
+use Rattle.stores.specs.declared.Write.{Write}
+use Rattle.stores.specs.Stores.{write, in_row}
 use Rattle.layout.specs.declared.Layout.{Layout}
 use Rattle.layout.specs.Words.{cell_at, cell_words, tail_words, Node, InRange, marked, layout_of, size_of, ident_at, forward_at, back_at, count_at, record_at, ident_of, worn_ident, Unlisted}
 

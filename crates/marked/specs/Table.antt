@@ -1,12 +1,11 @@
 -- The marked store: L = 1, N = 3, P = 1 (24 words, nodes 1 to 3 at words 12, 16, 20), as a table of calls and outcomes.
-use Rattle.std.specs.Prelude.{ℕ, ◌+◌, List, [], ◌∷◌, ◌++◌, replicate}
-use Rattle.calls.specs.declared.Answer.{Answer}
-use Rattle.calls.specs.declared.Answer.TheVariants as A
+use Rattle.std.specs.Prelude.{ℕ, List, [], ◌∷◌, ◌++◌, replicate, Ok, Err}
+use Rattle.stores.specs.declared.Outcome.TheVariants.{Done, Stopped}
 use Rattle.stores.specs.Stores.{Write, write, Plan, words_after, made_by}
 use Rattle.layout.specs.declared.Layout.{Layout}
-use Rattle.layout.specs.Words.{layout_for}
+use Rattle.layout.specs.Words.{number_of, layout_for}
 use Rattle.recovery.specs.Plan.{recover_plan}
-use Rattle.calls.specs.Answers.{formatted_number, checked_number, counted_number, counted_length, answer_of}
+use Rattle.calls.specs.Answers.{formatted_number, checked_number, counted_number, counted_length, Answer, answer_of}
 use Rattle.calls.specs.Calls.{format_answer, format_words, check_answer, length_answer, read_number, read_words, insert_plan, delete_plan}
 
 abbrev pub small : Layout
@@ -29,9 +28,9 @@ pub data End : Type 0 where
   stopped : ℕ → End
 
 abbrev pub end_of : Answer → End
-end_of (A.Refused n) = number n
-end_of (A.Done n) = done n
-end_of (A.Stopped n) = stopped n
+end_of (Err n) = number (number_of n)
+end_of (Ok (Done n)) = done n
+end_of (Ok (Stopped n)) = stopped n
 
 -- its end, the values that it gives, the stores that it makes, and the words that it leaves
 pub record Outcome : Type 0 where

@@ -1,6 +1,6 @@
 -- Laws of the mends of all lists, and of the column after all of them are erased.
-use Prim.Native.Nat.{ℕ, suc, ◌+◌, ◌*◌, ◌-◌, ◌≤◌, ◌<◌}
-use mathlib.Core.Path.{◌≡◌, refl, ap, ap₂, ◌∙◌, sym}
+use Prim.Native.Nat.{ℕ, zero, suc, ◌+◌, ◌*◌, ◌-◌, ◌≤◌, ◌<◌}
+use mathlib.Core.Path.{◌≡◌, refl, ap, ◌∙◌, sym}
 use mathlib.Core.List.{List, [], ◌∷◌, ◌++◌, append-nil, append_assoc}
 use mathlib.Core.Bool.{Bool, true, false, cond, ◌&&◌, and-eq-true_iff}
 use native.Mathlib.Omega.{arith}
@@ -9,24 +9,32 @@ use lib.Dec.{eqb}
 use lib.ListN.{length, get_or, set, length-set, length-append}
 use lib.Seq.{get_or-set_same, get_or-set_other}
 use borrow.Author.Count.{below_more}
-use borrow.Author.Tests.{eq-eqb, ne_eqb}
-use Rattle.stores.specs.declared.Rows.{Rows}
-use Rattle.stores.specs.Stores.{write, writes_in, Held}
+use Rattle.std.specs.Prelude.{Ok, Err}
+use Rattle.sequences.proofs.Members.{all_append}
+use Rattle.stores.specs.Stores.{Write, write, Inside}
 use Rattle.layout.specs.declared.Layout.{Layout}
+use Rattle.layout.specs.declared.Refusal.{Refusal}
 use Rattle.layout.specs.Words.{most_lists, InRange, count_at, size_of}
+use Rattle.layout.proofs.Laws.{header-fits}
 use Rattle.lists.specs.Decide.{View}
+use Rattle.fitting.specs.declared.Chosen.{Chosen}
 use Rattle.fitting.specs.declared.Faults.{Faults}
 use Rattle.fitting.specs.declared.Faults.TheVariants as F
-use Rattle.fitting.specs.declared.Fitted.{Fitted}
-use Rattle.fitting.specs.declared.Walk.{Walk}
-use Rattle.fitting.specs.Fitting.{fit_in, mend_of, count_mend, number_of, walk_in, is_backward, carries, members_by}
-use Rattle.mending.specs.Mending.{refusal_in, walk_at, mends_in, total, MendsOf, erased, erased_from}
+use Rattle.fitting.specs.Fitting.{fit_in, mend_of, count_mend, is_backward, carries, members_by, FaultFits}
+use Rattle.fitting.proofs.Inside.{fit-fits}
+use Rattle.mending.specs.declared.Mends.{Mends}
+use Rattle.mending.specs.Mending.{refusal_in, walk_at, mends_in, total, Mended, MendsOf, erased, erased_from}
 
--- a fault has one mend at most, and so has a count
+-- a fault has one mend at most, and so has a count; each goes to a word of the store
 mend-few : (l : Layout) (f : Faults) → length (mend_of l f) ≤ 1
 mend-few l F.None = omega arith
 mend-few l (F.One c f v) = omega arith
 mend-few l F.Many = omega arith
+
+mend-inside : (l : Layout) (f : Faults) → FaultFits l f → Inside (size_of l) (mend_of l f)
+mend-inside l F.None h = tt
+mend-inside l (F.One c f v) h = (h.1, tt)
+mend-inside l F.Many h = tt
 
 count-few : (l : Layout) (k n m : ℕ) → length (count_mend l k n m) ≤ 1
 count-few l k n m = by (eqb n m)
@@ -35,105 +43,118 @@ count-few l k n m = by (eqb n m)
     by true = omega arith
     by false = omega arith
 
--- where the search stands at list k: no list before it is refused, their members are counted, their mends are in the rows and their
--- directions in back
-pub record Found (l : Layout) (v : View) (count : ℕ → ℕ) (m : ℕ) (a : Bool) (back : List Bool) (rows : Rows) (k : ℕ) : Type 0 where
-  pub inside : k ≤ l.lists
-  pub refusal : refusal_in l v count k (l.lists - k) ≡ refusal_in l v count 0 l.lists
-  pub members : m ≡ total (λ j. (walk_at l v count j).members) k
-  pub carried : a ≡ true → (j : ℕ) → j < k → carries v.ident (walk_at l v count j).faults ≡ true
-  pub mends : writes_in rows ++ mends_in l v count k (l.lists - k) ≡ mends_in l v count 0 l.lists
-  pub held : Held (size_of l) rows (writes_in rows)
-  pub few : rows.len ≤ 2 * k
-  pub size : length back ≡ most_lists
-  pub ways : (j : ℕ) → j < k → get_or back j false ≡ is_backward (fit_in l v j (count j))
+count-inside : (l : Layout) (k n m : ℕ) → k < l.lists → Inside (size_of l) (count_mend l k n m)
+count-inside l k n m h = by (eqb n m)
+  where
+    by : (b : Bool) → Inside (size_of l) (cond b [] (write (count_at l k) m ∷ []))
+    by true = tt
+    by false = (omega (arith, header-fits l k h), tt)
 
 module _ (l : Layout) (r : InRange l) (v : View) (count : ℕ → ℕ) where
+  -- the mends are two of each list at most, and go to words of the store
+  pub mends-few : (k n : ℕ) → length (mends_in l v count k n) ≤ 2 * n
+  unfolding mends_in
+  mends-few k zero = omega arith
+  mends-few k (suc n) =
+      let m = mend_of l (walk_at l v count k).faults in
+      let c = count_mend l k (count k) (walk_at l v count k).members in
+      omega (
+        arith,
+        length-append (m ++ c) (mends_in l v count (suc k) n),
+        length-append m c,
+        mend-few l (walk_at l v count k).faults,
+        count-few l k (count k) (walk_at l v count k).members,
+        mends-few (suc k) n,
+      )
+
+  pub mends-inside : (k n : ℕ) → k + n ≤ l.lists → Inside (size_of l) (mends_in l v count k n)
+  unfolding mends_in
+  mends-inside k zero h = tt
+  mends-inside k (suc n) h =
+      let m = mend_of l (walk_at l v count k).faults in
+      let c = count_mend l k (count k) (walk_at l v count k).members in
+      all_append _ (m ++ c) (mends_in l v count (suc k) n)
+      (all_append _ m c (mend-inside l _ (fit-fits l r v k (count k) (omega arith))) (count-inside l k _ _ (omega arith)))
+      (mends-inside (suc k) n (omega arith))
+
+  -- where the search stands at list k: no list before it is refused, their members are counted, their mends are written and their directions
+  -- are in back
+  pub record Searched (m : ℕ) (a : Bool) (back : List Bool) (ps : List Write) (k : ℕ) : Type 0 where
+    pub refusal : refusal_in l v count k (l.lists - k) ≡ refusal_in l v count 0 l.lists
+    pub members : m ≡ total (λ j. (walk_at l v count j).members) k
+    pub carried : a ≡ true → (j : ℕ) → j < k → carries v.ident (walk_at l v count j).faults ≡ true
+    pub mends : ps ++ mends_in l v count k (l.lists - k) ≡ mends_in l v count 0 l.lists
+    pub few : length ps ≤ 2 * k
+    pub size : length back ≡ most_lists
+    pub ways : (j : ℕ) → j < k → get_or back j false ≡ is_backward (fit_in l v j (count j))
+
   -- before list 0
-  pub found_none : (back : List Bool) (rows : Rows) → length back ≡ most_lists → Held (size_of l) rows [] → Found l v count 0 true back rows 0
+  pub searched_none : (back : List Bool) → length back ≡ most_lists → Searched 0 true back [] 0
   unfolding total
-  found_none back rows e h =
+  searched_none back e =
       let z : l.lists - 0 ≡ l.lists = omega arith in
       record {
-        inside = omega arith;
         refusal = rw z;
         members = refl;
         carried = λ i j p. absurd (omega arith);
-        mends = rw (h.same, z);
-        held = rw h.same h;
-        few = omega (arith, h.len);
+        mends = rw z;
+        few = omega arith;
         size = e;
         ways = λ j p. absurd (omega arith);
       }
 
-  module _ {members : ℕ} {carried : Bool} {back : List Bool} {rows : Rows} {k : ℕ} (w : Found l v count members carried back rows k) where
-    -- a list more, whose fit f is not refused
-    pub found-more : {f : Fitted} {n m : ℕ} {a b : Bool} {x : Walk} {rows' : Rows} → k < l.lists → f ≡ fit_in l v k (count k)
-        → n ≡ number_of f → n ≡ 0 → x ≡ walk_in f → m ≡ x.members → a ≡ carries v.ident x.faults → b ≡ is_backward f
-        → Held (size_of l) rows' ((writes_in rows ++ mend_of l x.faults) ++ count_mend l k (count k) x.members)
-        → Found l v count (members + m) (carried && a) (set back k b) rows' (k + 1)
+  module _ {members : ℕ} {carried : Bool} {back : List Bool} {writes : List Write} {k : ℕ} (s : Searched members carried back writes k) (h : k < l.lists) where
+    here : l.lists - k ≡ suc (l.lists - (k + 1))
+    here = omega arith
+
+    -- a list more, of which a walk is chosen
+    pub searched-more : {c : Chosen} {a : Bool} → fit_in l v k (count k) ≡ Ok c → a ≡ carries v.ident c.walk.faults
+        → Searched (members + c.walk.members) (carried && a) (set back k c.backward)
+        ((writes ++ mend_of l c.walk.faults) ++ count_mend l k (count k) c.walk.members) (k + 1)
     unfolding refusal_in mends_in total
-    found-more {m = m} {a = a} {b = b} {x = x} h e en z ex em ea eb held =
-        let s : l.lists - k ≡ suc (l.lists - (k + 1)) = omega arith in
-        let q : number_of (fit_in l v k (count k)) ≡ 0 = ap number_of (sym e) ∙ sym en ∙ z in
-        let d : x ≡ walk_at l v count k = ex ∙ ap walk_in e in
+    searched-more {c = c} {a = a} e ea =
+        let m = mend_of l c.walk.faults in
+        let n = count_mend l k (count k) c.walk.members in
         record {
-          inside = omega arith;
-          refusal = (rw (s, refusal_in, eq-eqb _ _ q, ← add-one k) at w.refusal);
-          members = rw (add-one k) (ap₂ ◌+◌ w.members (em ∙ ap (λ (y : Walk). y.members) d));
+          refusal = (rw (here, refusal_in, e, ← add-one k) at s.refusal);
+          members = rw (add-one k, e) (ap (λ (i : ℕ). i + c.walk.members) s.members);
           carried =
               λ i.
               let o = (and-eq-true_iff carried a).0 i in
-              below_more _ k (w.carried o.0) (ap (λ (y : Walk). carries v.ident y.faults) (sym d) ∙ sym ea ∙ o.1);
-          mends = rw (held.same, ex, e, append_assoc, append_assoc) (rw (s, mends_in, append_assoc, ← add-one k) at w.mends);
-          held = rw held.same held;
+              below_more _ k (s.carried o.0) (rw e (sym ea ∙ o.1));
+          mends = simp append_assoc (rw (here, mends_in, e, append_assoc, ← add-one k) at s.mends);
           few =
               omega (
                 arith,
-                held.len,
-                length-append (writes_in rows ++ mend_of l x.faults) (count_mend l k (count k) x.members),
-                length-append (writes_in rows) (mend_of l x.faults),
-                mend-few l x.faults,
-                count-few l k (count k) x.members,
-                w.held.len,
-                w.few,
+                s.few,
+                length-append (writes ++ m) n,
+                length-append writes m,
+                mend-few l c.walk.faults,
+                count-few l k (count k) c.walk.members,
               );
-          size = length-set back k b ∙ w.size;
+          size = length-set back k c.backward ∙ s.size;
           ways =
-              below_more _ k (λ j p. get_or-set_other back k j b false (λ i. omega arith) ∙ w.ways j p)
-              (get_or-set_same back k b false (omega arith) ∙ eb ∙ ap is_backward e);
+              below_more _ k (λ j p. get_or-set_other back k j c.backward false (λ i. omega arith) ∙ s.ways j p)
+              (get_or-set_same back k c.backward false (omega (arith, s.size, r.lists)) ∙ rw e);
         }
 
     -- list k is refused
-    pub found-refused : {f : Fitted} {n : ℕ} → k < l.lists → f ≡ fit_in l v k (count k) → n ≡ number_of f → (n ≡ 0 → ⊥)
-        → MendsOf l v count (record { refusal = n; members = members; carried = carried; back = back; rows = rows })
+    pub searched-refused : {n : Refusal} → fit_in l v k (count k) ≡ Err n → MendsOf l v count (Err n)
     unfolding refusal_in
-    found-refused {n = n} h e en z =
-        let s : l.lists - k ≡ suc (l.lists - (k + 1)) = omega arith in
-        let m : n ≡ number_of (fit_in l v k (count k)) = en ∙ ap number_of e in
-        record {
-          refusal = m ∙ (rw (s, refusal_in, ne_eqb _ _ (λ i. z (m ∙ i))) at w.refusal);
-          members = λ i. absurd (z i);
-          carried = λ i. absurd (z i);
-          rows = λ i. absurd (z i);
-          held = w.held;
-          back = λ i. absurd (z i);
-        }
+    searched-refused e = sym s.refusal ∙ rw (here, refusal_in, e)
 
-    -- no list is left
-    pub found_all : l.lists ≤ k → MendsOf l v count (record { refusal = 0; members = members; carried = carried; back = back; rows = rows })
-    unfolding refusal_in mends_in
-    found_all h =
-        let s : l.lists - k ≡ 0 = omega arith in
-        let e : k ≡ l.lists = omega arith in
-        record {
-          refusal = rw s at w.refusal;
-          members = λ i. w.members ∙ ap (total (λ j. (walk_at l v count j).members)) e;
-          carried = λ i c j p. w.carried c j (omega arith);
-          rows = λ i. sym (append-nil (writes_in rows)) ∙ (rw s at w.mends);
-          held = w.held;
-          back = λ i j p. w.ways j (omega arith);
-        }
+  -- no list is left
+  pub searched_all : (m : Mends) (k : ℕ) → Searched m.members m.carried m.back m.writes.items k → k ≡ l.lists → Mended l v count m
+  unfolding refusal_in mends_in
+  searched_all m k s e =
+      let z : l.lists - k ≡ 0 = omega arith in
+      record {
+        accepted = sym s.refusal ∙ rw z;
+        writes = sym (append-nil m.writes.items) ∙ (rw z at s.mends);
+        back = λ j p. s.ways j (omega arith);
+        members = s.members ∙ ap (total (λ j. (walk_at l v count j).members)) e;
+        carried = λ c j p. s.carried c j (omega arith);
+      }
 
 module _ (l : Layout) (v : View) (back : ℕ → Bool) (k : ℕ) where
   -- a list more is erased

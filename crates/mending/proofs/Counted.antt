@@ -11,10 +11,11 @@ use lib.ListN.{length, get_or, length-append}
 use borrow.Author.Tests.{eq-eqb, ne_eqb, eqb-true, eqb-false}
 use Rattle.sequences.specs.Sequence.{◌∈◌, range, filter}
 use Rattle.sequences.proofs.Members.{member?}
-use Rattle.calls.specs.declared.Needed.TheVariants as N
+use Rattle.std.specs.Prelude.{Some, Ok, Err}
 use Rattle.calls.specs.Answers.{needed_of}
-use Rattle.stores.specs.Stores.{Write, write, writes_in}
+use Rattle.stores.specs.Stores.{Write, write}
 use Rattle.layout.specs.declared.Layout.{Layout}
+use Rattle.layout.specs.declared.Refusal.{Refusal}
 use Rattle.layout.specs.Words.{most_cells, first_node, Node, InRange, size_of, ident_at, worn_ident, Unlisted, free, worn, is_free, is_worn}
 use Rattle.lists.specs.Lists.{blank_asked}
 use Rattle.lists.specs.Decide.{View, view_of, count_in, cells_with, used, unwiped}
@@ -23,7 +24,7 @@ use Rattle.recovery.specs.Plan.{joined, out_of, nodes_out, clears_asked, blanks_
 use Rattle.recovery.proofs.Required.{wrong-right, wrong-wrong, wrong-length}
 use Rattle.recovery.proofs.Joined.{joined-one, out-member, out-worn, out-other, out-told}
 use Rattle.mending.specs.declared.Mends.{Mends}
-use Rattle.mending.specs.Mending.{erased_from, wipes, outside_of, outside_from, MendsOf}
+use Rattle.mending.specs.Mending.{erased_from, wipes, outside_of, outside_from, refusal_in, Mended}
 use Rattle.mending.proofs.Cleared.{Column}
 use Rattle.mending.proofs.Counting.{entry_free, entry-used}
 use Rattle.mending.proofs.LeftOver.{clears-nothing}
@@ -89,55 +90,55 @@ module _ (l : Layout) (w : List ℕ) where
       other o false q =
           sym (outside-more a rest q) ∙ ap outside (sym (out-other (view_of l w).ident ms a n o (eqb-false _ worn_ident q)))
 
-module _ (l : Layout) (w : List ℕ) (m : Mends) (told : MendsOf l (view_of l w) (count_in l w) m) where
+-- a refusal
+pub needed-refused : (l : Layout) (w : List ℕ) (n : Refusal) → refusal_in l (view_of l w) (count_in l w) 0 l.lists ≡ Some n → needed_of (recover_of l w) ≡ Err n
+needed-refused l w n e = ap needed_of (recover-refused l w n e)
+
+module _ (l : Layout) (w : List ℕ) (m : Mends) (told : Mended l (view_of l w) (count_in l w) m) where
   abbrev v : View
   v = view_of l w
 
-  -- a refusal
-  pub needed-refused : (m.refusal ≡ 0 → ⊥) → needed_of (recover_of l w) ≡ N.Refused m.refusal
-  needed-refused n = ap needed_of (recover-refused l w m told n)
-
   -- no refusal: the mends, and the stores to the nodes outside all lists ..
-  module _ (z : m.refusal ≡ 0) (exact : length w ≡ size_of l) where
+  module _ (exact : length w ≡ size_of l) where
     abbrev s : ℕ → List ℕ
     s = fitting_of l w
 
-    parts : needed_of (recover_of l w) ≡ N.Stores (length (writes_in m.rows) + outside l w (nodes_out l w s))
+    parts : needed_of (recover_of l w) ≡ Ok (length (m.writes.items) + outside l w (nodes_out l w s))
     parts =
-        ap needed_of (parts-told l w m told z exact)
-        ∙ ap N.Stores
+        ap needed_of (parts-told l w m told exact)
+        ∙ ap Ok
         (omega (
           arith,
-          length-append (writes_in m.rows ++ wrong w (clears_asked l w s)) (wrong w (wipes_asked l w s)),
-          length-append (writes_in m.rows) (wrong w (clears_asked l w s)),
+          length-append (m.writes.items ++ wrong w (clears_asked l w s)) (wrong w (wipes_asked l w s)),
+          length-append (m.writes.items) (wrong w (clears_asked l w s)),
         ))
 
     -- .. by what is left of the nodes' identifiers
     pub needed-left : InRange l → (idents : List ℕ) → most_cells ≡ length idents → ((c : ℕ) → Node l c → get_or idents c 0 ≡ v.ident c)
         → let left = erased_from l v (λ k. get_or m.back k false) 0 l.lists idents in
-        needed_of (recover_of l w) ≡ N.Stores (length (writes_in m.rows) + outside_from l w left (first_node l) l.nodes)
+        needed_of (recover_of l w) ≡ Ok (length (m.writes.items) + outside_from l w left (first_node l) l.nodes)
     needed-left r idents room same =
         parts
-        ∙ ap (λ (n : ℕ). N.Stores (length (writes_in m.rows) + n))
-        (sym (outside_told l w _ (joined s l.lists) (first_node l) l.nodes (column l w m told z exact r idents room same)))
+        ∙ ap (λ (n : ℕ). Ok (length (m.writes.items) + n))
+        (sym (outside_told l w _ (joined s l.lists) (first_node l) l.nodes (column l w m told exact r idents room same)))
 
     -- .. which are the wipes of the free nodes, if nobody is left over; and the mends alone, if no free node has a record
     module _ (r : InRange l) (e : (m.carried && eqb m.members (length (used v (first_node l) l.nodes))) ≡ true) where
       free-out : cells_with is_free v (first_node l) l.nodes ≡ nodes_out l w s
       free-out =
           out-told v.ident (joined s l.lists) (λ c. is_free (v.ident c)) (first_node l) l.nodes
-          (λ c p q i. let k = joined-one s l.lists c i in ne_eqb (v.ident c) 0 (λ x. listed l w m told z exact r e k.0 k.1 c k.2 (free x)))
-          (λ c p q o. by (v.ident c) (unlisted l w m told z exact r e c (record { low = p; high = q }) o))
+          (λ c p q i. let k = joined-one s l.lists c i in ne_eqb (v.ident c) 0 (λ x. listed l w m told exact r e k.0 k.1 c k.2 (free x)))
+          (λ c p q o. by (v.ident c) (unlisted l w m told exact r e c (record { low = p; high = q }) o))
         where
           by : (x : ℕ) → Unlisted x → is_free x ≡ not (is_worn x)
           by x (free i) = rw i
           by x (worn i) = rw i
 
-      pub needed-wipes : needed_of (recover_of l w) ≡ N.Stores (length (writes_in m.rows) + length (wipes l w))
+      pub needed-wipes : needed_of (recover_of l w) ≡ Ok (length (m.writes.items) + length (wipes l w))
       needed-wipes =
-          let none = ap length (clears-nothing l w s (unlisted l w m told z exact r e)) in
+          let none = ap length (clears-nothing l w s (unlisted l w m told exact r e)) in
           let same = ap (λ (cs : List ℕ). length (wrong w (blanks_asked l cs))) free-out in
-          parts ∙ ap N.Stores (omega (arith, none, same))
+          parts ∙ ap Ok (omega (arith, none, same))
 
-      pub needed-mends : length (unwiped v (first_node l) l.nodes) ≡ 0 → needed_of (recover_of l w) ≡ N.Stores (length (writes_in m.rows))
-      needed-mends q = ap needed_of (recover-mends l w m told z exact r e q)
+      pub needed-mends : length (unwiped v (first_node l) l.nodes) ≡ 0 → needed_of (recover_of l w) ≡ Ok (length (m.writes.items))
+      needed-mends q = ap needed_of (recover-mends l w m told exact r e q)

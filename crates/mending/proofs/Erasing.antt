@@ -10,10 +10,15 @@ use lib.Seq.{get_or-set_same, get_or-set_other}
 use Rattle.sequences.specs.Sequence.{trail}
 use Rattle.sequences.proofs.Trail.{trail-on, trail-out, trail-none}
 use Rattle.layout.specs.declared.Layout.{Layout}
-use Rattle.layout.specs.Words.{first_node, is_node, worn_ident}
+use Rattle.layout.specs.Words.{most_cells, InRange, first_node, is_node, worn_ident}
+use Rattle.layout.proofs.Laws.{is-node}
 use Rattle.lists.specs.Decide.{View}
 use Rattle.fitting.specs.Fitting.{members_by}
 use Rattle.mending.specs.Mending.{erased, link_by, erased_along}
+
+-- a node has an entry in the column
+pub node-entry : (l : Layout) → InRange l → (y : ℕ) → is_node l y ≡ true → y < most_cells
+node-entry l r y e = omega (arith, (is-node l y e).high, r.lists, r.nodes)
 
 -- the column has the identifiers of the nodes below n
 abbrev pub ReadTo : Layout → View → List ℕ → ℕ → Type 0

@@ -9,6 +9,8 @@ use lib.ListN.{length, get_or, length-append}
 use Rattle.sequences.specs.Sequence.{◌∈◌, Different}
 use Rattle.sequences.proofs.Members.{all_in, different-append}
 use Rattle.sequences.proofs.Pigeonhole.{pigeonhole-less}
+use Rattle.std.specs.Prelude.{None}
+use Rattle.std.specs.Result.{result_err}
 use Rattle.layout.specs.declared.Layout.{Layout}
 use Rattle.layout.specs.Words.{Node, InRange, first_node, ident_at, worn_ident, Unlisted, free, worn, in_use}
 use Rattle.lists.specs.Lists.{others_asked, Blank}
@@ -22,7 +24,7 @@ use Rattle.recovery.proofs.Joined.{joined-one}
 use Rattle.recovery.proofs.Disjoint.{fits-disjoint}
 use Rattle.recovery.proofs.Whole.{clear_none, wipe-none}
 use Rattle.recovery.proofs.Candidates.{fit-accepted}
-use Rattle.fitting.specs.Fitting.{number_of, fit_in, carries}
+use Rattle.fitting.specs.Fitting.{fit_in, carries}
 use Rattle.mending.specs.Mending.{total, walk_at}
 use Rattle.fitting.proofs.Members.{members-carry}
 use Rattle.fitting.proofs.Told.{few-summed, fault_sum, summed-others, chosen-told}
@@ -83,7 +85,7 @@ module _ (l : Layout) (w : List ℕ) (s : ℕ → List ℕ) (fits : (k : ℕ) �
 
 -- As it is told by the walks: no list is refused, and all members carry an identifier that says in use.
 module _ (l : Layout) (r : InRange l) (w : List ℕ)
-    (fitted : (k : ℕ) → k < l.lists → number_of (fit_in l (view_of l w) k (count_in l w k)) ≡ 0)
+    (fitted : (k : ℕ) → k < l.lists → result_err (fit_in l (view_of l w) k (count_in l w k)) ≡ None)
     (carried : (k : ℕ) → k < l.lists → carries (view_of l w).ident (walk_at l (view_of l w) (count_in l w) k).faults ≡ true) where
   abbrev s : ℕ → List ℕ
   s = fitting_of l w

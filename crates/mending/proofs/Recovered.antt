@@ -2,7 +2,7 @@
 use Prim.Native.Nat.{ℕ, zero, suc, ◌+◌, ◌<◌, ◌≤◌}
 use mathlib.Core.Path.{◌≡◌, refl, ap, ap₂, ◌∙◌, sym, subst}
 use mathlib.Core.List.{List, [], ◌++◌, append-nil, append_assoc}
-use mathlib.Core.Bool.{Bool, true, false, cond, ◌&&◌, and-eq-true_iff}
+use mathlib.Core.Bool.{Bool, true, false, ◌&&◌, and-eq-true_iff}
 use native.Mathlib.Decide.{ℕ_discrete}
 use native.Mathlib.Omega.{arith}
 use native.Mathlib.Nat.{eq-or-lt_of_le}
@@ -11,21 +11,24 @@ use lib.Dec.{eqb}
 use lib.ListN.{length, get_or}
 use borrow.Author.Tests.{eq-eqb, ne_eqb, eqb-true}
 use Rattle.sequences.specs.Sequence.{◌∈◌}
-use Rattle.stores.specs.Stores.{Write, write, run, refuse, stores, writes_in}
+use Rattle.std.specs.Prelude.{Option, Some, None, Result, Ok, Err}
+use Rattle.std.specs.Option.{option_or}
+use Rattle.std.specs.Result.{result_err}
+use Rattle.stores.specs.Stores.{Write, write, run, refuse, stores}
 use Rattle.layout.specs.declared.Layout.{Layout}
+use Rattle.layout.specs.declared.Refusal.{Refusal}
 use Rattle.layout.specs.Words.{most_cells, first_node, Node, InRange, size_of, ident_at, count_at, Unlisted}
 use Rattle.lists.specs.Lists.{asked, others_asked, count_asked}
 use Rattle.lists.specs.Decide.{View, view_of, count_in, used, unwiped}
 use Rattle.recovery.specs.Fits.{wrong}
 use Rattle.recovery.specs.Plan.{joined, lists_asked, clears_asked, wipes_asked, fitting_of, refusal_from, recover_of, Accepted}
 use Rattle.recovery.proofs.Required.{wrong-right, wrong-wrong, wrong-append}
-use Rattle.recovery.proofs.Whole.{number-accepted}
-use Rattle.fitting.specs.declared.Fitted.{Fitted}
-use Rattle.fitting.specs.declared.Fitted.TheVariants as G
-use Rattle.fitting.specs.Fitting.{fit_in, count_mend, number_of, members_by}
+use Rattle.recovery.proofs.Whole.{unrefused-accepted}
+use Rattle.fitting.specs.declared.Chosen.{Chosen}
+use Rattle.fitting.specs.Fitting.{fit_in, count_mend, members_by}
 use Rattle.fitting.proofs.Told.{Told, fit-told, chosen-told, members-told}
 use Rattle.mending.specs.declared.Mends.{Mends}
-use Rattle.mending.specs.Mending.{refusal_in, list_mends, mends_in, erased_from, clears, wipes, MendsOf}
+use Rattle.mending.specs.Mending.{refusal_in, list_mends, mends_in, erased_from, clears, wipes, Mended}
 use Rattle.mending.proofs.Cleared.{Column, column-told, clears-told}
 use Rattle.mending.proofs.LeftOver.{all-carry, nothing_left, clears-nothing, wipes-nothing}
 use Rattle.mending.proofs.Wiping.{plan-parted, plan-told}
@@ -38,13 +41,11 @@ refusal-told l w k zero h = refl
 refusal-told l w k (suc n) h =
     by (fit_in l (view_of l w) k (count_in l w k)) refl (fit-told l w k (omega arith)) (refusal-told l w (suc k) n (omega arith))
   where
-    by : (r : Fitted) → fit_in l (view_of l w) k (count_in l w k) ≡ r → Told l w k r
+    by : (r : Result Chosen Refusal) → fit_in l (view_of l w) k (count_in l w k) ≡ r → Told l w k r
         → refusal_in l (view_of l w) (count_in l w) (suc k) n ≡ refusal_from l w (suc k) n
         → refusal_in l (view_of l w) (count_in l w) k (suc n) ≡ refusal_from l w k (suc n)
-    by G.Nothing e t i = rw (e, t)
-    by G.Several e t i = rw (e, t)
-    by (G.Forward x) e t i = rw (e, t.0) i
-    by (G.Backward x) e t i = rw (e, t.0) i
+    by (Err n) e t i = rw e (sym (t _))
+    by (Ok c) e t i = rw (e, t.0) i
 
 -- list j more at the end
 mends-more : (l : Layout) (v : View) (c : ℕ → ℕ) (k n j : ℕ) → k + n ≡ j → mends_in l v c k (suc n) ≡ mends_in l v c k n ++ list_mends l v c j
@@ -67,7 +68,7 @@ count-told l w k s m e = ap (count_mend l k (count_in l w k)) e ∙ by (ℕ_disc
 
 -- the mends are the wrong words of the sequences that are chosen
 mend-told
-    : (l : Layout) (w : List ℕ) (k : ℕ) → k < l.lists → number_of (fit_in l (view_of l w) k (count_in l w k)) ≡ 0
+    : (l : Layout) (w : List ℕ) (k : ℕ) → k < l.lists → result_err (fit_in l (view_of l w) k (count_in l w k)) ≡ None
     → list_mends l (view_of l w) (count_in l w) k ≡ wrong w (asked l k (fitting_of l w k))
 unfolding asked
 mend-told l w k h z =
@@ -76,7 +77,7 @@ mend-told l w k h z =
     ap₂ ◌++◌ t.1 (count-told l w k s _ t.3) ∙ sym (wrong-append w (others_asked l k s) (count_asked l k s))
 
 mends-told
-    : (l : Layout) (w : List ℕ) → ((k : ℕ) → k < l.lists → number_of (fit_in l (view_of l w) k (count_in l w k)) ≡ 0)
+    : (l : Layout) (w : List ℕ) → ((k : ℕ) → k < l.lists → result_err (fit_in l (view_of l w) k (count_in l w k)) ≡ None)
     → (n : ℕ) → n ≤ l.lists → mends_in l (view_of l w) (count_in l w) 0 n ≡ wrong w (joined (λ k. asked l k (fitting_of l w k)) n)
 unfolding mends_in joined wrong
 mends-told l w z zero h = refl
@@ -86,58 +87,56 @@ mends-told l w z (suc n) h =
     ∙ sym (wrong-append w (joined (λ k. asked l k (fitting_of l w k)) n) (asked l n (fitting_of l w n)))
 
 -- where none is refused, every list is not
-none-refused : (l : Layout) (v : View) (c : ℕ → ℕ) (k n : ℕ) → refusal_in l v c k n ≡ 0 → (j : ℕ) → k ≤ j → j < k + n → number_of (fit_in l v j (c j)) ≡ 0
+none-refused : (l : Layout) (v : View) (c : ℕ → ℕ) (k n : ℕ) → refusal_in l v c k n ≡ None → (j : ℕ) → k ≤ j → j < k + n → result_err (fit_in l v j (c j)) ≡ None
 unfolding refusal_in
 none-refused l v c k zero e j p q = absurd (omega arith)
 none-refused l v c k (suc n) e j p q =
-    let r = by (eqb (number_of (fit_in l v k (c k))) 0) refl e in
-    ⊎_elim (λ z. ap (λ (i : ℕ). number_of (fit_in l v i (c i))) (sym z) ∙ r.0) (λ z. none-refused l v c (suc k) n r.1 j z (omega arith)) (eq-or-lt_of_le p)
+    let r = by (result_err (fit_in l v k (c k))) (refusal_in l v c (suc k) n) e in
+    ⊎_elim (λ z. ap (λ (i : ℕ). result_err (fit_in l v i (c i))) (sym z) ∙ r.0) (λ z. none-refused l v c (suc k) n r.1 j z (omega arith)) (eq-or-lt_of_le p)
   where
-    by : (b : Bool) → eqb (number_of (fit_in l v k (c k))) 0 ≡ b → cond b (refusal_in l v c (suc k) n) (number_of (fit_in l v k (c k))) ≡ 0
-        → (number_of (fit_in l v k (c k)) ≡ 0) × (refusal_in l v c (suc k) n ≡ 0)
-    by true z e = (eqb-true _ _ z, e)
-    by false z e = let y : true ≡ false = sym (eq-eqb _ _ e) ∙ z in let o : ◌≡◌ {A = ℕ} 1 0 = ap (λ (b : Bool). cond b 1 0) y in absurd (omega arith)
+    by : (a b : Option Refusal) → option_or a b ≡ None → (a ≡ None) × (b ≡ None)
+    by None b e = (refl, e)
+    by (Some n) b e = absurd (cc)
 
-module _ (l : Layout) (w : List ℕ) (m : Mends) (told : MendsOf l (view_of l w) (count_in l w) m) where
+-- the first refusal decides
+pub recover-refused : (l : Layout) (w : List ℕ) (n : Refusal) → refusal_in l (view_of l w) (count_in l w) 0 l.lists ≡ Some n → recover_of l w ≡ refuse n
+unfolding recover_of
+recover-refused l w n e = rw (sym (refusal-told l w 0 l.lists (omega arith)) ∙ e)
+
+module _ (l : Layout) (w : List ℕ) (m : Mends) (told : Mended l (view_of l w) (count_in l w) m) where
   abbrev v : View
   v = view_of l w
 
-  refusal : m.refusal ≡ refusal_from l w 0 l.lists
-  refusal = told.refusal ∙ refusal-told l w 0 l.lists (omega arith)
+  refusal : refusal_from l w 0 l.lists ≡ None
+  refusal = sym (refusal-told l w 0 l.lists (omega arith)) ∙ told.accepted
 
-  -- a refusal
-  pub recover-refused : (m.refusal ≡ 0 → ⊥) → recover_of l w ≡ refuse m.refusal
-  unfolding recover_of
-  recover-refused n = rw (ne_eqb _ _ (λ e. n (refusal ∙ e))) (ap refuse (sym refusal))
-
-  -- no refusal
-  module _ (z : m.refusal ≡ 0) (exact : length w ≡ size_of l) where
+  module _ (exact : length w ≡ size_of l) where
     abbrev s : ℕ → List ℕ
     s = fitting_of l w
 
     accepted : Accepted l w s
-    accepted = number-accepted l w (sym refusal ∙ z)
+    accepted = unrefused-accepted l w refusal
 
-    fitted : (k : ℕ) → k < l.lists → number_of (fit_in l v k (count_in l w k)) ≡ 0
-    fitted k h = none-refused l v (count_in l w) 0 l.lists (sym told.refusal ∙ z) k (omega arith) (omega arith)
+    fitted : (k : ℕ) → k < l.lists → result_err (fit_in l v k (count_in l w k)) ≡ None
+    fitted k h = none-refused l v (count_in l w) 0 l.lists told.accepted k (omega arith) (omega arith)
 
-    mends : writes_in m.rows ≡ wrong w (lists_asked l s)
-    mends = told.rows z ∙ mends-told l w fitted l.lists (omega arith)
+    mends : m.writes.items ≡ wrong w (lists_asked l s)
+    mends = told.writes ∙ mends-told l w fitted l.lists (omega arith)
 
     -- the stores in three parts, as they are required of the words
-    pub parts-told : recover_of l w ≡ stores ((writes_in m.rows ++ wrong w (clears_asked l w s)) ++ wrong w (wipes_asked l w s))
+    pub parts-told : recover_of l w ≡ stores ((m.writes.items ++ wrong w (clears_asked l w s)) ++ wrong w (wipes_asked l w s))
     unfolding recover_of
     parts-told =
-        rw (eq-eqb _ _ (sym refusal ∙ z))
+        rw refusal
         (ap stores
         (plan-parted l w s exact accepted
         ∙ ap (λ (ps : List Write). (ps ++ wrong w (clears_asked l w s)) ++ wrong w (wipes_asked l w s)) (sym mends)))
 
     -- as they are made: the mends, the clears, and the wipes of what these leave ..
-    stores-told : (cs : List Write) → cs ≡ wrong w (clears_asked l w s) → let ps = writes_in m.rows ++ cs in recover_of l w ≡ stores (ps ++ wipes l (run ps w))
+    stores-told : (cs : List Write) → cs ≡ wrong w (clears_asked l w s) → let ps = m.writes.items ++ cs in recover_of l w ≡ stores (ps ++ wipes l (run ps w))
     unfolding recover_of
     stores-told cs e =
-        rw (eq-eqb _ _ (sym refusal ∙ z))
+        rw refusal
         (ap stores
         (plan-told l w s exact accepted
         ∙ ap₂ (λ (a b : List Write). (a ++ b) ++ wipes l (run (a ++ b) w)) (sym mends) (sym e)))
@@ -151,9 +150,9 @@ module _ (l : Layout) (w : List ℕ) (m : Mends) (told : MendsOf l (view_of l w)
       column =
           column-told l w idents v (λ k. get_or m.back k false) s (omega arith) same
           (λ k h. subst (λ (b : Bool). (c : ℕ) → (c ∈ members_by l v b k → c ∈ s k) × (c ∈ s k → c ∈ members_by l v b k))
-          (sym (told.back z k h)) (members-told l w k h (fitted k h)))
+          (sym (told.back k h)) (members-told l w k h (fitted k h)))
 
-      pub recover-stores : let ps = writes_in m.rows ++ clears l left in recover_of l w ≡ stores (ps ++ wipes l (run ps w))
+      pub recover-stores : let ps = m.writes.items ++ clears l left in recover_of l w ≡ stores (ps ++ wipes l (run ps w))
       recover-stores = stores-told (clears l left) (clears-told l w left (joined s l.lists) (first_node l) l.nodes column)
 
     -- .. without clears, if nobody is left over; and the mends alone, if no free node has a record
@@ -162,20 +161,20 @@ module _ (l : Layout) (w : List ℕ) (m : Mends) (told : MendsOf l (view_of l w)
       both = (and-eq-true_iff _ _).0 e
 
       pub listed : (k : ℕ) → k < l.lists → (c : ℕ) → c ∈ s k → Unlisted (get_or w (ident_at l c) 0) → ⊥
-      listed = all-carry l r w fitted (told.carried z both.0)
+      listed = all-carry l r w fitted (told.carried both.0)
 
       pub unlisted : (c : ℕ) → Node l c → (c ∈ joined s l.lists → ⊥) → Unlisted (get_or w (ident_at l c) 0)
-      unlisted = nothing_left l r w fitted (told.carried z both.0) (sym (told.members z) ∙ eqb-true _ _ both.1)
+      unlisted = nothing_left l r w fitted (told.carried both.0) (sym (told.members) ∙ eqb-true _ _ both.1)
 
-      pub recover-wipes : recover_of l w ≡ stores (writes_in m.rows ++ wipes l (run (writes_in m.rows) w))
+      pub recover-wipes : recover_of l w ≡ stores (m.writes.items ++ wipes l (run (m.writes.items) w))
       recover-wipes =
           stores-told [] (sym (clears-nothing l w s unlisted))
-          ∙ ap (λ (ps : List Write). stores (ps ++ wipes l (run ps w))) (append-nil (writes_in m.rows))
+          ∙ ap (λ (ps : List Write). stores (ps ++ wipes l (run ps w))) (append-nil (m.writes.items))
 
-      pub recover-mends : length (unwiped v (first_node l) l.nodes) ≡ 0 → recover_of l w ≡ stores (writes_in m.rows)
+      pub recover-mends : length (unwiped v (first_node l) l.nodes) ≡ 0 → recover_of l w ≡ stores (m.writes.items)
       recover-mends q =
           parts-told
           ∙ ap stores
-          (ap₂ (λ (a b : List Write). (writes_in m.rows ++ a) ++ b) (clears-nothing l w s unlisted) (wipes-nothing l w s unlisted q)
-          ∙ append-nil (writes_in m.rows ++ [])
-          ∙ append-nil (writes_in m.rows))
+          (ap₂ (λ (a b : List Write). (m.writes.items ++ a) ++ b) (clears-nothing l w s unlisted) (wipes-nothing l w s unlisted q)
+          ∙ append-nil (m.writes.items ++ [])
+          ∙ append-nil (m.writes.items))

@@ -1,19 +1,21 @@
 -- Recovery as it is decided: the mends of all lists, and the clears and wipes of the nodes in none.
-use Rattle.std.specs.Prelude.{ℕ, zero, suc, ◌+◌, ◌-◌, ◌<◌, ◌≤◌, ◌≡◌, List, [], ◌∷◌, ◌++◌, Bool, true, false, not, cond, ◌&&◌, eqb, length, get_or, set, take}
-use Rattle.sequences.specs.Sequence.{All, trail}
-use Rattle.calls.specs.declared.Answer.{Answer}
-use Rattle.calls.specs.declared.Answer.TheVariants as A
-use Rattle.calls.specs.Answers.{answer_of, more}
-use Rattle.stores.specs.Stores.{Write, write, stores, writes_in, Held}
+use Rattle.std.specs.Prelude.{ℕ, zero, suc, ◌+◌, ◌-◌, ◌<◌, ◌≡◌, List, [], ◌∷◌, ◌++◌, Bool, true, false, not, cond, ◌&&◌, eqb, length, get_or, set, take, Option, Some, None, Result, Ok, Err}
+use Rattle.std.specs.Option.{option_or}
+use Rattle.std.specs.Result.{result_err}
+use Rattle.sequences.specs.Sequence.{trail}
+use Rattle.stores.specs.declared.Outcome.{Outcome}
+use Rattle.stores.specs.declared.Outcome.TheVariants.{Done, Stopped}
+use Rattle.stores.specs.Stores.{Write, write, outcome_of}
+use Rattle.stores.specs.Stores as S
 use Rattle.layout.specs.declared.Layout.{Layout}
-use Rattle.layout.specs.Words.{first_node, is_node, ident_at, worn_ident, is_free, is_worn, in_use, size_of}
+use Rattle.layout.specs.declared.Refusal.{Refusal}
+use Rattle.layout.specs.Words.{first_node, is_node, ident_at, worn_ident, is_free, is_worn, in_use}
 use Rattle.lists.specs.Lists.{blank_asked}
 use Rattle.lists.specs.Decide.{View, view_of, count_in, cells_with, used, unwiped}
 use Rattle.recovery.specs.Fits.{wrong}
 use Rattle.recovery.specs.Plan.{blanks_asked}
 use Rattle.fitting.specs.declared.Walk.{Walk}
-use Rattle.fitting.specs.Fitting.{fit_in, mend_of, count_mend, number_of, walk_in, is_backward, carries, members_by}
-use Rattle.mending.specs.declared.Mend.{Mend}
+use Rattle.fitting.specs.Fitting.{fit_in, mend_of, count_mend, walk_in, is_backward, carries, members_by}
 use Rattle.mending.specs.declared.Mends.{Mends}
 use Rattle.mending.specs.declared.Found.{Found}
 
@@ -22,11 +24,10 @@ unfoldable pub total : (ℕ → ℕ) → ℕ → ℕ
 total f zero = 0
 total f (suc n) = total f n + f n
 
--- of the n lists from k on: the first number that is not 0, and, below, the mends in order
-unfoldable pub refusal_in : Layout → View → (ℕ → ℕ) → ℕ → ℕ → ℕ
-refusal_in l v count k zero = 0
-refusal_in l v count k (suc n) =
-    cond (eqb (number_of (fit_in l v k (count k))) 0) (refusal_in l v count (suc k) n) (number_of (fit_in l v k (count k)))
+-- of the n lists from k on: the first refusal, if there is one, and, below, the mends in order
+unfoldable pub refusal_in : Layout → View → (ℕ → ℕ) → ℕ → ℕ → Option Refusal
+refusal_in l v count k zero = None
+refusal_in l v count k (suc n) = option_or (result_err (fit_in l v k (count k))) (refusal_in l v count (suc k) n)
 
 -- the walk that is chosen for list k, and the stores that mend it: "the other word .. before the count"
 abbrev pub walk_at : Layout → View → (ℕ → ℕ) → ℕ → Walk
@@ -89,29 +90,34 @@ unfoldable pub outside_from : Layout → List ℕ → List ℕ → ℕ → ℕ �
 outside_from l w idents a zero = 0
 outside_from l w idents a (suc n) = outside_of l w (get_or idents a 0) a + outside_from l w idents (suc a) n
 
--- stores that follow on others, which were answered r under the allowance m: the answer to all
-abbrev pub answer_on : Answer → List Write → ℕ → Answer
-answer_on (A.Done n) qs m = more n (answer_of (stores qs) (m - n))
-answer_on (A.Stopped n) qs m = A.Stopped n
-answer_on (A.Refused n) qs m = A.Refused n
+-- stores that follow on others, whose outcome under the allowance m is r: the outcome of all, and those that are made of the stores that follow
+abbrev pub outcome_on : Outcome → List Write → ℕ → Outcome
+outcome_on (Done n) qs m = S.onward n (outcome_of qs (m - n))
+outcome_on (Stopped n) qs m = Stopped n
 
--- the stores ps, one at most: as many of this store as there are
-pub record IsMend (l : Layout) (ps : List Write) (m : Mend) : Type 0 where
-  pub few : m.number ≤ 1
-  pub same : take m.number (write m.at m.value ∷ []) ≡ ps
-  pub inside : All (λ (p : Write). p.at < size_of l) ps
+abbrev pub made_on : Outcome → List Write → ℕ → List Write
+made_on (Done n) qs m = take (m - n) qs
+made_on (Stopped n) qs m = []
 
--- what is found of all lists; all but the refusal and that the rows hold stores counts only where no list is refused
-pub record MendsOf (l : Layout) (v : View) (count : ℕ → ℕ) (m : Mends) : Type 0 where
-  pub refusal : m.refusal ≡ refusal_in l v count 0 l.lists
-  pub members : m.refusal ≡ 0 → m.members ≡ total (λ k. (walk_at l v count k).members) l.lists
-  pub carried : m.refusal ≡ 0 → m.carried ≡ true → (k : ℕ) → k < l.lists → carries v.ident (walk_at l v count k).faults ≡ true
-  pub rows : m.refusal ≡ 0 → writes_in m.rows ≡ mends_in l v count 0 l.lists
-  pub held : Held (size_of l) m.rows (writes_in m.rows)
-  pub back : m.refusal ≡ 0 → (k : ℕ) → k < l.lists → get_or m.back k false ≡ is_backward (fit_in l v k (count k))
+-- what is found of all lists, where none is refused
+pub record Mended (l : Layout) (v : View) (count : ℕ → ℕ) (m : Mends) : Type 0 where
+  pub accepted : refusal_in l v count 0 l.lists ≡ None
+  pub writes : m.writes.items ≡ mends_in l v count 0 l.lists
+  pub back : (k : ℕ) → k < l.lists → get_or m.back k false ≡ is_backward (fit_in l v k (count k))
+  pub members : m.members ≡ total (λ k. (walk_at l v count k).members) l.lists
+  pub carried : m.carried ≡ true → (k : ℕ) → k < l.lists → carries v.ident (walk_at l v count k).faults ≡ true
 
--- what is found of the words before the first store
+-- this, or the first list that is refused
+abbrev pub MendsOf : Layout → View → (ℕ → ℕ) → Result Mends Refusal → Type 0
+MendsOf l v count (Ok m) = Mended l v count m
+MendsOf l v count (Err n) = refusal_in l v count 0 l.lists ≡ Some n
+
+-- what is found of the words before the first store, or the first list that is refused
 pub record FoundIn (l : Layout) (w : List ℕ) (f : Found) : Type 0 where
-  pub mends : MendsOf l (view_of l w) (count_in l w) f.mends
+  pub mends : Mended l (view_of l w) (count_in l w) f.mends
   pub left : f.left ≡ not (f.mends.carried && eqb f.mends.members (length (used (view_of l w) (first_node l) l.nodes)))
   pub unwiped : f.unwiped ≡ not (eqb (length (unwiped (view_of l w) (first_node l) l.nodes)) 0)
+
+abbrev pub FoundOf : Layout → List ℕ → Result Found Refusal → Type 0
+FoundOf l w (Ok f) = FoundIn l w f
+FoundOf l w (Err n) = refusal_in l (view_of l w) (count_in l w) 0 l.lists ≡ Some n

@@ -12,19 +12,17 @@ use lib.ListN.{length, get_or, take, drop, replicate, drop_of_length-le}
 use lib.Seq.{drop-cons}
 use borrow.Author.Tests.{lt-ltb, le-ltb}
 use Rattle.layout.specs.declared.Layout.{Layout}
-use Rattle.layout.specs.declared.Opened.{Opened}
-use Rattle.layout.specs.declared.Opened.TheVariants as O
+use Rattle.std.specs.Prelude.{Result, Ok, Err}
+use Rattle.layout.specs.declared.Refusal.{Refusal}
+use Rattle.layout.specs.declared.Refusal.TheVariants.{NoList, Unsound, NoPosition}
 use Rattle.layout.specs.Words.{most_nodes, layout_of, opened}
 use Rattle.lists.specs.Lists.{Sound}
 use Rattle.lists.specs.Decide.{sound_of, sequence_of}
 use Rattle.lists.proofs.Unique.{nodes-few, list-sequence}
-use Rattle.requests.specs.declared.Sited.TheVariants.{At, Refused}
 use Rattle.requests.specs.declared.Request.TheVariants.{Whole, Member}
 use Rattle.requests.specs.Requests.{site_in, site_of, member_at}
 use Rattle.requests.proofs.Laws.{look-shut, look-refused, look_at}
 use Rattle.edits.specs.Edited.{record_in}
-use Rattle.calls.specs.declared.Counted.{Counted}
-use Rattle.calls.specs.declared.Counted.TheVariants as L
 use Rattle.calls.specs.Calls.{read_words, length_answer}
 use Rattle.calls.proofs.Cases.{length_at, read-refused}
 use Rattle.calls.proofs.Calls.{sound-opened, sound-decided, sound-read}
@@ -76,7 +74,7 @@ module _ (w : List ℕ) (s : Sound w) (k : ℕ) (h : k < (layout_of w).lists) wh
   beyond p g =
       let q : length (sequence_of (layout_of w) w k) ≤ p =
       subst (λ (x : List ℕ). length x ≤ p) (sym (list-sequence (layout_of w) w k h members (s.ordered.lists.lists k h))) g in
-      let e : site_of (layout_of w) w (Member k p) ≡ Refused 7 =
+      let e : site_of (layout_of w) w (Member k p) ≡ Err NoPosition =
       rw (lt-ltb k (layout_of w).lists h, sound-decided w s, le-ltb p (length (sequence_of (layout_of w) w k)) q) in
       sym (read-refused w k p (sym (look-refused w (Member k p) (sound-opened w s) e))).0
 
@@ -100,29 +98,29 @@ module _ (w : List ℕ) (s : Sound w) (k : ℕ) (h : k < (layout_of w).lists) wh
   handed_out n = handed-from (length members) 0 (zero-add (length members)) n
 
 -- "Made over a refused store or list it hands out empty parts only": a store or list that length refuses, by questions 1 to 6
-module _ (w : List ℕ) (k c : ℕ) (refused : length_answer w k ≡ L.Refused c) where
-  abbrev told : Counted → ℕ
-  told (L.Length n) = 0
-  told (L.Refused n) = 1
+module _ (w : List ℕ) (k : ℕ) (c : Refusal) (refused : length_answer w k ≡ Err c) where
+  abbrev told : Result ℕ Refusal → ℕ
+  told (Ok n) = 0
+  told (Err n) = 1
 
   refused-read : (p : ℕ) → read_words w k p ≡ []
   unfolding site_in
   refused-read p = by (opened w) refl
     where
-      no-site : (l : Layout) (n : ℕ) → opened w ≡ O.Open l → site_of l w (Member k p) ≡ Refused n → read_words w k p ≡ []
+      no-site : (l : Layout) (n : Refusal) → opened w ≡ Ok l → site_of l w (Member k p) ≡ Err n → read_words w k p ≡ []
       no-site l n e q = sym (read-refused w k p (sym (look-refused w (Member k p) e q))).0
 
-      within : (l : Layout) (b d : Bool) → opened w ≡ O.Open l → ltb k l.lists ≡ b → sound_of l w ≡ d → read_words w k p ≡ []
-      within l false d e x y = no-site l 5 e (rw x)
-      within l true false e x y = no-site l 6 e (rw (x, y))
+      within : (l : Layout) (b d : Bool) → opened w ≡ Ok l → ltb k l.lists ≡ b → sound_of l w ≡ d → read_words w k p ≡ []
+      within l false d e x y = no-site l NoList e (rw x)
+      within l true false e x y = no-site l Unsound e (rw (x, y))
       within l true true e x y =
-          let q : site_of l w (Whole k) ≡ At (record { before = k; cell = k; after = k; count = length (sequence_of l w k) }) = rw (x, y) in
+          let q : site_of l w (Whole k) ≡ Ok (record { before = k; cell = k; after = k; count = length (sequence_of l w k) }) = rw (x, y) in
           let z : ◌≡◌ {A = ℕ} 0 1 = ap told (length_at w k (sym (look_at w (Whole k) e q)) ∙ refused) in
           absurd (omega arith)
 
-      by : (o : Opened) → opened w ≡ o → read_words w k p ≡ []
-      by (O.Refused n) e = sym (read-refused w k p (sym (look-shut w (Member k p) e))).0
-      by (O.Open l) e = within l (ltb k l.lists) (sound_of l w) e refl refl
+      by : (o : Result Layout Refusal) → opened w ≡ o → read_words w k p ≡ []
+      by (Err n) e = sym (read-refused w k p (sym (look-shut w (Member k p) e))).0
+      by (Ok l) e = within l (ltb k l.lists) (sound_of l w) e refl refl
 
   pub refused-out : (n p : ℕ) → hand_outs n w k p ≡ replicate n []
   refused-out n p = all-empty w k 0 (λ q _. refused-read q) n p (omega arith)

@@ -25,12 +25,9 @@ impl Place {
     pub fn step(self) -> Place
         ensures { result ≡ next_place self }
     {
-        if self.at == 65535 {
-            return self;
-        }
         Place {
-            list: self.list,
-            at: self.at + 1,
+            at: self.at.saturating_add(1),
+            ..self
         }
     }
 }
@@ -55,16 +52,12 @@ pub fn hand_out<'a>(r: Reader<'a>) -> &'a [u16]
 pub fn next<'a>(r: Reader<'a>) -> Reader<'a>
     ensures { (result.words ≡ r.entry.words) × (result.list ≡ r.entry.list) × (result.at ≡ next_at r.entry.at) }
 {
-    let p = Place {
+    let Place { list, at } = Place {
         list: r.list,
         at: r.at,
-    };
-    let q = p.step();
-    Reader {
-        words: r.words,
-        list: q.list,
-        at: q.at,
     }
+    .step();
+    Reader { list, at, ..r }
 }
 
 // The same for callers with plain words: what a reader at this place hands out.

@@ -13,14 +13,14 @@ use Rattle.sequences.specs.Sequence.{◌∈◌, All}
 use Rattle.sequences.proofs.Members.{all_in, in_all, all_append, append-all}
 use Rattle.stores.specs.Stores.{Write, write, run, stores}
 use Rattle.stores.proofs.Laws.{run-word, length-row}
+use Rattle.std.specs.Prelude.{None, Ok}
 use Rattle.layout.specs.declared.Layout.{Layout}
-use Rattle.layout.specs.declared.Opened.TheVariants as O
 use Rattle.layout.specs.Words.{tail_words, first_node, Node, size_of, ident_at, record_at, worn_ident, Unlisted, free, worn, is_worn, opened}
 use Rattle.lists.specs.Lists.{asked, others_asked, count_asked, Agrees, IsList, SoundLists, Blank, blank_asked, Wiped}
 use Rattle.lists.specs.Decide.{view_of}
 use Rattle.lists.proofs.Blank.{agrees-blank}
 use Rattle.recovery.specs.Fits.{wrong, Fits, alone, Fit, none, only, several, fit_of}
-use Rattle.recovery.specs.Plan.{joined, out_of, nodes_out, lists_asked, clears_asked, blanks_asked, wipes_asked, required, recover_stores, most_stores, only_of, fitting_of, fit_number, refusal_from, recover_of, recover_plan, Accepted}
+use Rattle.recovery.specs.Plan.{joined, out_of, nodes_out, lists_asked, clears_asked, blanks_asked, wipes_asked, required, recover_stores, most_stores, only_of, fitting_of, fit_refusal, refusal_from, recover_of, recover_plan, Accepted}
 use Rattle.recovery.proofs.Candidates.{accepted-fit, fit-accepted}
 use Rattle.recovery.proofs.Required.{Right, wrong-append, wrong-length, agrees-wrong, wrong-in, wrong-most, wrong-agreed}
 use Rattle.recovery.proofs.Joined.{one-joined, joined-one, joined_same, is-out, out-few}
@@ -28,27 +28,27 @@ use Rattle.recovery.proofs.Count.{in-lists, in-clears, in-wipes, required-once, 
 use Rattle.recovery.proofs.Suffix.{right_unique, worn-kept}
 
 -- no list is refused
-pub accepted-number : (l : Layout) (w : List ℕ) (s : ℕ → List ℕ) → Accepted l w s → (k n : ℕ) → k + n ≤ l.lists → refusal_from l w k n ≡ 0
+pub accepted-unrefused : (l : Layout) (w : List ℕ) (s : ℕ → List ℕ) → Accepted l w s → (k n : ℕ) → k + n ≤ l.lists → refusal_from l w k n ≡ None
 unfolding refusal_from
-accepted-number l w s a k zero h = refl
-accepted-number l w s a k (suc n) h =
-    ap (λ (f : Fit). fit_number f (refusal_from l w (suc k) n)) (accepted-fit l w s a k (omega arith)) ∙ accepted-number l w s a (suc k) n (omega arith)
+accepted-unrefused l w s a k zero h = refl
+accepted-unrefused l w s a k (suc n) h =
+    ap (λ (f : Fit). fit_refusal f (refusal_from l w (suc k) n)) (accepted-fit l w s a k (omega arith)) ∙ accepted-unrefused l w s a (suc k) n (omega arith)
 
 -- and the other way round: each list has its sequence
-all-only : (l : Layout) (w : List ℕ) (k n : ℕ) → refusal_from l w k n ≡ 0 → (j : ℕ) → k ≤ j → j < k + n → fit_of l w j ≡ only (fitting_of l w j)
+all-only : (l : Layout) (w : List ℕ) (k n : ℕ) → refusal_from l w k n ≡ None → (j : ℕ) → k ≤ j → j < k + n → fit_of l w j ≡ only (fitting_of l w j)
 unfolding refusal_from
 all-only l w k zero e j p q = absurd (omega arith)
 all-only l w k (suc n) e j p q =
     let r = by (fit_of l w k) e in
     ⊎_elim (λ z. subst (λ (i : ℕ). fit_of l w i ≡ only (fitting_of l w i)) z r.0) (λ z. all-only l w (suc k) n r.1 j z (omega arith)) (eq-or-lt_of_le p)
   where
-    by : (f : Fit) → fit_number f (refusal_from l w (suc k) n) ≡ 0 → (f ≡ only (only_of f)) × (refusal_from l w (suc k) n ≡ 0)
-    by none e = absurd (omega arith)
+    by : (f : Fit) → fit_refusal f (refusal_from l w (suc k) n) ≡ None → (f ≡ only (only_of f)) × (refusal_from l w (suc k) n ≡ None)
+    by none e = let z : ◌≡◌ {A = ℕ} 0 1 = cc in absurd (omega arith)
     by (only s) e = (refl, e)
-    by several e = absurd (omega arith)
+    by several e = let z : ◌≡◌ {A = ℕ} 0 1 = cc in absurd (omega arith)
 
-pub number-accepted : (l : Layout) (w : List ℕ) → refusal_from l w 0 l.lists ≡ 0 → Accepted l w (fitting_of l w)
-number-accepted l w e = fit-accepted l w (fitting_of l w) (λ k h. all-only l w 0 l.lists e k (omega arith) (omega arith))
+pub unrefused-accepted : (l : Layout) (w : List ℕ) → refusal_from l w 0 l.lists ≡ None → Accepted l w (fitting_of l w)
+unrefused-accepted l w e = fit-accepted l w (fitting_of l w) (λ k h. all-only l w 0 l.lists e k (omega arith) (omega arith))
 
 -- sequences that agree below L require the same words, and give one plan
 pub required-same : (l : Layout) (w : List ℕ) (s t : ℕ → List ℕ) → ((k : ℕ) → k < l.lists → s k ≡ t k) → required l w s ≡ required l w t
@@ -64,10 +64,10 @@ plan-same l w s t h = ap (wrong w) (required-same l w s t h)
 accepted-stores : (l : Layout) (w : List ℕ) (s : ℕ → List ℕ) → Accepted l w s → recover_of l w ≡ stores (recover_stores l w s)
 unfolding recover_of
 accepted-stores l w s a =
-    rw (accepted-number l w s a 0 l.lists (omega arith))
+    rw (accepted-unrefused l w s a 0 l.lists (omega arith))
     (ap stores (plan-same l w (fitting_of l w) s (λ k h. ap only_of (accepted-fit l w s a k h))))
 
-pub accepted-plan : (l : Layout) (w : List ℕ) (s : ℕ → List ℕ) → opened w ≡ O.Open l → Accepted l w s → recover_plan w ≡ stores (recover_stores l w s)
+pub accepted-plan : (l : Layout) (w : List ℕ) (s : ℕ → List ℕ) → opened w ≡ Ok l → Accepted l w s → recover_plan w ≡ stores (recover_stores l w s)
 unfolding recover_plan
 accepted-plan l w s o a = rw o (accepted-stores l w s a)
 

@@ -1,10 +1,12 @@
 -- What recovery stores.
-use Rattle.std.specs.Prelude.{ℕ, zero, suc, ◌+◌, ◌*◌, ◌<◌, ◌≤◌, ◌≡◌, Bool, false, not, ◌&&◌, ◌||◌, cond, eqb, get_or}
+use Rattle.std.specs.Prelude.{ℕ, zero, suc, ◌+◌, ◌*◌, ◌<◌, ◌≤◌, ◌≡◌, Bool, false, not, ◌&&◌, ◌||◌, cond, eqb, get_or, Option, Some, None}
 use mathlib.Core.List.{List, [], ◌∷◌, ◌++◌, map, Memᴰ}
 use Rattle.sequences.specs.Sequence.{◌∈◌, range, filter}
 use Rattle.stores.specs.Stores.{Write, write, Plan, refuse, stores}
 use Rattle.layout.specs.declared.Layout.{Layout}
-use Rattle.layout.specs.Words.{tail_words, first_node, Node, ident_at, record_at, worn_ident, Unlisted, is_worn, opened, after_open, ask}
+use Rattle.layout.specs.declared.Refusal.{Refusal}
+use Rattle.layout.specs.declared.Refusal.TheVariants.{NoFit, TwoFit}
+use Rattle.layout.specs.Words.{tail_words, first_node, Node, ident_at, record_at, worn_ident, Unlisted, is_worn, opened, after_open}
 use Rattle.lists.specs.Lists.{asked, blank_asked}
 use Rattle.lists.specs.Decide.{view_of}
 use Rattle.recovery.specs.Fits.{wrong, Fit, none, only, several, fit_of, Fits, Chosen}
@@ -64,21 +66,24 @@ only_of several = []
 abbrev pub fitting_of : Layout → List ℕ → ℕ → List ℕ
 fitting_of l w k = only_of (fit_of l w k)
 
--- questions 11 and 12, list by list: the number of the first no of the n lists from k on, 0 for none
-abbrev pub fit_number : Fit → ℕ → ℕ
-fit_number none rest = 11
-fit_number several rest = 12
-fit_number (only s) rest = rest
+-- questions 11 and 12, list by list: the first no of the n lists from k on, if there is one
+abbrev pub fit_refusal : Fit → Option Refusal → Option Refusal
+fit_refusal none rest = Some NoFit
+fit_refusal several rest = Some TwoFit
+fit_refusal (only s) rest = rest
 
-unfoldable pub refusal_from : Layout → List ℕ → ℕ → ℕ → ℕ
-refusal_from l w k zero = 0
-refusal_from l w k (suc n) = fit_number (fit_of l w k) (refusal_from l w (suc k) n)
+unfoldable pub refusal_from : Layout → List ℕ → ℕ → ℕ → Option Refusal
+refusal_from l w k zero = None
+refusal_from l w k (suc n) = fit_refusal (fit_of l w k) (refusal_from l w (suc k) n)
+
+-- a refusal, if there is one, comes before what a call does
+abbrev pub unless_refused : Option Refusal → Plan → Plan
+unless_refused (Some n) rest = refuse n
+unless_refused None rest = rest
 
 -- recover: 1 to 4, then for each list 11 and 12
 unfoldable pub recover_of : Layout → List ℕ → Plan
-recover_of l w =
-    ask (eqb (refusal_from l w 0 l.lists) 0) (refuse (refusal_from l w 0 l.lists))
-    (stores (recover_stores l w (fitting_of l w)))
+recover_of l w = unless_refused (refusal_from l w 0 l.lists) (stores (recover_stores l w (fitting_of l w)))
 
 unfoldable pub recover_plan : List ℕ → Plan
 recover_plan w = after_open (opened w) refuse (λ l. recover_of l w)

@@ -12,20 +12,20 @@ use borrow.Author.Tests.{eq-eqb, eqb-true, eqb-false}
 use Rattle.sequences.specs.Sequence.{◌∈◌, All, Different, filter}
 use Rattle.sequences.proofs.Members.{all_in, in_all, all_append, at_in, out-without}
 use Rattle.sequences.proofs.Filter.{filter-append, filter-length}
+use Rattle.std.specs.Prelude.{Some, None}
 use Rattle.layout.specs.declared.Layout.{Layout}
 use Rattle.layout.specs.Words.{Node, is_free}
-use Rattle.requests.specs.declared.Free.TheVariants.{Cell, Full}
 use Rattle.requests.specs.Requests.{next_cell, around, first_free, FirstFree, free_cells, nth}
 use Rattle.requests.proofs.Turn.{around-nodes, around-different, around-behind, free_in, free-taken, free-first, free-found, free-same}
 
 -- what is found is free, and those before it are not
-pub first-free : (ident : ℕ → ℕ) (cs : List ℕ) (i : ℕ) → first_free ident cs ≡ Cell i → FirstFree ident cs i
+pub first-free : (ident : ℕ → ℕ) (cs : List ℕ) (i : ℕ) → first_free ident cs ≡ Some i → FirstFree ident cs i
 unfolding first_free
 first-free ident [] i e = let z : ◌≡◌ {A = ℕ} 0 1 = cc in absurd (omega arith)
 first-free ident (c ∷ cs) i e = by (eqb (ident c) 0) refl (λ q. first-free ident cs i q) e
   where
-    by : (b : Bool) → eqb (ident c) 0 ≡ b → (first_free ident cs ≡ Cell i → FirstFree ident cs i)
-        → cond b (Cell c) (first_free ident cs) ≡ Cell i → FirstFree ident (c ∷ cs) i
+    by : (b : Bool) → eqb (ident c) 0 ≡ b → (first_free ident cs ≡ Some i → FirstFree ident cs i)
+        → cond b (Some c) (first_free ident cs) ≡ Some i → FirstFree ident (c ∷ cs) i
     by true q below e =
         let s : c ≡ i = cc in
         record { passed = []; rest = cs; order = ap (λ (x : ℕ). x ∷ cs) s; free = ap ident (sym s) ∙ eqb-true _ _ q; taken = tt }
@@ -40,13 +40,13 @@ first-free ident (c ∷ cs) i e = by (eqb (ident c) 0) refl (λ q. first-free id
         }
 
 -- nothing is found only where no cell is free
-pub none_free : (ident : ℕ → ℕ) (cs : List ℕ) → first_free ident cs ≡ Full → All (λ c. ident c ≡ 0 → ⊥) cs
+pub none_free : (ident : ℕ → ℕ) (cs : List ℕ) → first_free ident cs ≡ None → All (λ c. ident c ≡ 0 → ⊥) cs
 unfolding first_free
 none_free ident [] e = tt
 none_free ident (c ∷ cs) e = by (eqb (ident c) 0) refl (λ q. none_free ident cs q) e
   where
-    by : (b : Bool) → eqb (ident c) 0 ≡ b → (first_free ident cs ≡ Full → All (λ c. ident c ≡ 0 → ⊥) cs)
-        → cond b (Cell c) (first_free ident cs) ≡ Full → All (λ c. ident c ≡ 0 → ⊥) (c ∷ cs)
+    by : (b : Bool) → eqb (ident c) 0 ≡ b → (first_free ident cs ≡ None → All (λ c. ident c ≡ 0 → ⊥) cs)
+        → cond b (Some c) (first_free ident cs) ≡ None → All (λ c. ident c ≡ 0 → ⊥) (c ∷ cs)
     by true q below e = let z : ◌≡◌ {A = ℕ} 0 1 = cc in absurd (omega arith)
     by false q below e = (eqb-false _ _ q, below e)
 
@@ -143,19 +143,19 @@ free-from l ident c x xs h some e =
         ∙ take_at (f.rest ++ f.passed) (x ∷ []) n others
 
 -- the cell at a place, if there is one
-pub nth-cell : (cs : List ℕ) (i x : ℕ) → nth cs i ≡ Cell x → (i < length cs) × (x ≡ get_or cs i 0)
+pub nth-cell : (cs : List ℕ) (i x : ℕ) → nth cs i ≡ Some x → (i < length cs) × (x ≡ get_or cs i 0)
 unfolding nth
 nth-cell [] i x e = let z : ◌≡◌ {A = ℕ} 0 1 = cc in absurd (omega arith)
 nth-cell (c ∷ cs) zero x e = let q : c ≡ x = cc in (omega arith, sym q)
 nth-cell (c ∷ cs) (suc i) x e = let r = nth-cell cs i x e in (omega (arith, r.0), r.1)
 
-pub nth-none : (cs : List ℕ) (i : ℕ) → nth cs i ≡ Full → length cs ≤ i
+pub nth-none : (cs : List ℕ) (i : ℕ) → nth cs i ≡ None → length cs ≤ i
 unfolding nth
 nth-none [] i e = omega arith
 nth-none (c ∷ cs) zero e = let z : ◌≡◌ {A = ℕ} 0 1 = cc in absurd (omega arith)
 nth-none (c ∷ cs) (suc i) e = omega (arith, nth-none cs i e)
 
-pub nth-at : (cs : List ℕ) (i : ℕ) → i < length cs → nth cs i ≡ Cell (get_or cs i 0)
+pub nth-at : (cs : List ℕ) (i : ℕ) → i < length cs → nth cs i ≡ Some (get_or cs i 0)
 unfolding nth
 nth-at [] i h = absurd (omega arith)
 nth-at (c ∷ cs) zero h = refl
@@ -168,12 +168,12 @@ nth-first ident [] = refl
 nth-first ident (c ∷ cs) = by (is_free (ident c)) (nth-first ident cs)
   where
     by : (b : Bool) → nth (free_cells ident cs) 0 ≡ first_free ident cs
-        → nth (cond b (c ∷ free_cells ident cs) (free_cells ident cs)) 0 ≡ cond b (Cell c) (first_free ident cs)
+        → nth (cond b (c ∷ free_cells ident cs) (free_cells ident cs)) 0 ≡ cond b (Some c) (first_free ident cs)
     by true below = refl
     by false below = below
 
 -- a cell found in a turn is a node
-pub free-node : (l : Layout) (ident : ℕ → ℕ) (c i x : ℕ) → Node l c → nth (free_cells ident (around l c l.nodes)) i ≡ Cell x → Node l x
+pub free-node : (l : Layout) (ident : ℕ → ℕ) (c i x : ℕ) → Node l c → nth (free_cells ident (around l c l.nodes)) i ≡ Some x → Node l x
 free-node l ident c i x h e =
     let free = free_cells ident (around l c l.nodes) in
     let r = nth-cell free i x e in
@@ -181,7 +181,7 @@ free-node l ident c i x h e =
     (free_in ident (around l c l.nodes) x (subst (λ (y : ℕ). y ∈ free) (sym r.1) (at_in free i r.0))).0
 
 -- the turn begun at the first of them meets the same
-pub free-again : (l : Layout) (ident : ℕ → ℕ) (c x : ℕ) → Node l c → 0 < l.nodes → nth (free_cells ident (around l c l.nodes)) 0 ≡ Cell x
+pub free-again : (l : Layout) (ident : ℕ → ℕ) (c x : ℕ) → Node l c → 0 < l.nodes → nth (free_cells ident (around l c l.nodes)) 0 ≡ Some x
     → free_cells ident (around l x l.nodes) ≡ free_cells ident (around l c l.nodes)
 free-again l ident c x h some e =
     let f = free-found ident (around l c l.nodes) x (sym (nth-first ident (around l c l.nodes)) ∙ e) in

@@ -9,26 +9,21 @@ use native.Mathlib.Nat.{div-add-mod', zero-mul}
 use native.Mathlib.Numerals.{add-one}
 use lib.Dec.{eqb, leb, ltb}
 use lib.ListN.{length, get_or}
-use borrow.Author.Tests.{lt-ltb, le-ltb, le-leb, lt-leb, eq-eqb, ne_eqb, leb-true, ltb-true, eqb-true}
+use borrow.Author.Tests.{lt-ltb, le-ltb, le-leb, lt-leb, leb-true, ltb-true, eqb-true}
+use Rattle.std.specs.Prelude.{Option, Some, None, Result, Ok, Err}
+use Rattle.layout.specs.declared.Refusal.{Refusal}
+use Rattle.layout.specs.declared.Refusal.TheVariants.{NoList, Unsound, NoPosition, NoNode, RecordSize, Full}
+use Rattle.requests.specs.declared.Ends.{Ends}
 use Rattle.layout.specs.declared.Layout.{Layout}
-use Rattle.layout.specs.declared.Opened.{Opened}
-use Rattle.layout.specs.declared.Opened.TheVariants as O
 use Rattle.layout.specs.Words.{Node, is_node, cell_count, ask, opened, after_open}
 use Rattle.layout.proofs.Laws.{is-node}
 use Rattle.lists.specs.Decide.{View, view_of, count_in, sequence_in, sequence_of, sound_in, HeldList}
 use Rattle.lists.proofs.Ring.{held-count, ring-node, ring-inside, ring-end, ring-after, ring-before}
-use Rattle.requests.specs.declared.Free.{Free}
-use Rattle.requests.specs.declared.Free.TheVariants.{Cell, Full}
-use Rattle.requests.specs.declared.Ends.{Ends}
-use Rattle.requests.specs.declared.Ends.TheVariants as E
 use Rattle.requests.specs.declared.Site.{Site}
-use Rattle.requests.specs.declared.Sited.{Sited}
-use Rattle.requests.specs.declared.Sited.TheVariants.{At, Refused}
 use Rattle.requests.specs.declared.Request.TheVariants.{Whole, Gaps}
-use Rattle.requests.specs.declared.Looked.TheVariants as K
-use Rattle.requests.specs.Requests.{next_cell, around, first_free, with_free, free_cells, nth, ends_of, member_at, ask_gap, free_gap, gap_at, ask_gaps, gaps_at, ends_at, with_ends, site_in, site_of, with_site, look_of, with_look}
+use Rattle.requests.specs.Requests.{next_cell, around, first_free, with_free, free_cells, nth, ends_of, member_at, ask_gap, free_gap, gap_at, ask_gaps, gaps_at, ends_at, with_ends, site_in, site_of, with_site, at_site, look_of, with_look}
 use Rattle.requests.specs.Sites.{gap_site, next_site}
-use Rattle.requests.proofs.Laws.{asked-number, gaps_asked, gaps-number}
+use Rattle.requests.proofs.Laws.{gap-granted, gap-refused, gaps_asked, gaps-granted, gaps-refused}
 use Rattle.requests.proofs.Search.{nth-cell, nth-none, nth-at, nth-first}
 
 module _ {l : Layout} {v : View} {k n : ℕ} (h : HeldList l v k n) where
@@ -36,7 +31,7 @@ module _ {l : Layout} {v : View} {k n : ℕ} (h : HeldList l v k n) where
   members = sequence_in l v k
 
   -- the member at a position: no such, or its site, which its own links give
-  pub member-past : (p : ℕ) → n ≤ p → Refused 7 ≡ member_at k p members
+  pub member-past : (p : ℕ) → n ≤ p → Err NoPosition ≡ member_at k p members
   unfolding member_at
   member-past p g = rw (le-ltb p (length members) (omega (arith, held-count h)))
 
@@ -53,12 +48,12 @@ module _ {l : Layout} {v : View} {k n : ℕ} (h : HeldList l v k n) where
     pub member-links : (v.back c < cell_count l) × (v.forward c < cell_count l)
     member-links = rw (member-before, member-after) (ring-inside h p (omega arith), ring-end h (p + 1) (omega arith))
 
-    pub member-found : At (record { before = v.back c; cell = c; after = v.forward c; count = n }) ≡ member_at k p members
+    pub member-found : Ok (record { before = v.back c; cell = c; after = v.forward c; count = n }) ≡ member_at k p members
     unfolding member_at
     member-found =
         let m : c ≡ get_or members p 0 = q ∙ rw add-one in
         rw (lt-ltb p (length members) (omega (arith, held-count h)))
-        (λ i. At (record { before = member-before i; cell = m i; after = member-after i; count = held-count h i }))
+        (λ i. Ok (record { before = member-before i; cell = m i; after = member-after i; count = held-count h i }))
 
   -- the gap at a position, behind cell x
   module _ (p : ℕ) (g : p ≤ n) {x : ℕ} (q : x ≡ get_or (k ∷ members) p 0) where
@@ -77,21 +72,21 @@ module _ {l : Layout} {v : View} {k n : ℕ} (h : HeldList l v k n) where
 -- the gap of list k, of members s, at position p, with a free cell searched from cell c
 module _ (l : Layout) (ident : ℕ → ℕ) (k p c : ℕ) (s : List ℕ) where
   -- no free cell, or the site
-  pub gap-full : Full ≡ first_free ident (around l c l.nodes) → Refused 10 ≡ free_gap l ident k p c s
+  pub gap-full : None ≡ first_free ident (around l c l.nodes) → Err Full ≡ free_gap l ident k p c s
   gap-full g = rw (← g)
 
-  pub gap-free : {x : ℕ} → Cell x ≡ first_free ident (around l c l.nodes) → At (gap_site k p x s) ≡ free_gap l ident k p c s
+  pub gap-free : {x : ℕ} → Some x ≡ first_free ident (around l c l.nodes) → Ok (gap_site k p x s) ≡ free_gap l ident k p c s
   gap-free g = rw (← g)
 
   -- refused by question 7, 8 or 9, or not
-  module _ {n : ℕ} (h : n ≡ length s) (m : ℕ) {r : ℕ} (e : r ≡ ask_gap l n p c m (λ x. x) 0) where
-    pub gap-shut : (r ≡ 0 → ⊥) → Refused r ≡ gap_at l ident k p c m s
+  module _ {n : ℕ} (h : n ≡ length s) (m : ℕ) {r : Result (Unit {0}) Refusal} (e : r ≡ ask_gap l n p c m Err (Ok tt)) where
+    pub gap-shut : {x : Refusal} → r ≡ Err x → Err x ≡ gap_at l ident k p c m s
     unfolding gap_at
-    gap-shut z = rw (← h) (sym (asked-number l n p c m e Refused _ ∙ rw (ne_eqb r 0 z)))
+    gap-shut z = rw (← h) (sym (gap-refused l n p c m e Err _ z))
 
-    pub gap-open : r ≡ 0 → free_gap l ident k p c s ≡ gap_at l ident k p c m s
+    pub gap-open : {u : Unit {0}} → r ≡ Ok u → free_gap l ident k p c s ≡ gap_at l ident k p c m s
     unfolding gap_at
-    gap-open z = rw (← h) (sym (asked-number l n p c m e Refused _ ∙ rw (eq-eqb r 0 z)))
+    gap-open z = rw (← h) (sym (gap-granted l n p c m e Err _ z))
 
 -- words that are whole records, and not none, are one record or more
 pub some-whole : (m w : ℕ) → 0 < m → m ≡ m / w * w → 0 < m / w
@@ -110,52 +105,52 @@ module _ (l : Layout) (ident : ℕ → ℕ) (n p c m : ℕ) where
   met = free_cells ident (around l c l.nodes)
 
   -- refused by question 7, 8 or 9, or by question 10, or not
-  module _ {r : ℕ} (e : r ≡ ask_gaps l n p c m (λ x. x) 0) where
-    pub ends-shut : (r ≡ 0 → ⊥) → E.Refused r ≡ ends_at l ident n p c m
+  module _ {r : Result (Unit {0}) Refusal} (e : r ≡ ask_gaps l n p c m Err (Ok tt)) where
+    pub ends-shut : {x : Refusal} → r ≡ Err x → Err x ≡ ends_at l ident n p c m
     unfolding ends_at
-    ends-shut z = sym (gaps-number l n p c m e E.Refused _ ∙ rw (ne_eqb r 0 z))
+    ends-shut z = sym (gaps-refused l n p c m e Err _ z)
 
-    module _ (z : r ≡ 0) where
+    module _ {u : Unit {0}} (z : r ≡ Ok u) where
       pub ends_some : 0 < m / l.width
       ends_some = let a = gaps_asked l n p c m e z in some-records m l.width a.2 a.3
 
-      few : length met < m / l.width → E.Refused 10 ≡ ends_at l ident n p c m
+      few : length met < m / l.width → Err Full ≡ ends_at l ident n p c m
       unfolding ends_at
-      few g = sym (gaps-number l n p c m e E.Refused _ ∙ rw (eq-eqb r 0 z, lt-leb (m / l.width) (length met) g))
+      few g = sym (gaps-granted l n p c m e Err _ z ∙ rw (lt-leb (m / l.width) (length met) g))
 
-      pub ends-none : nth met 0 ≡ Full → E.Refused 10 ≡ ends_at l ident n p c m
+      pub ends-none : nth met 0 ≡ None → Err Full ≡ ends_at l ident n p c m
       ends-none f = few (omega (arith, ends_some, nth-none met 0 f))
 
-      pub ends-short : nth met (m / l.width - 1) ≡ Full → E.Refused 10 ≡ ends_at l ident n p c m
+      pub ends-short : nth met (m / l.width - 1) ≡ None → Err Full ≡ ends_at l ident n p c m
       ends-short f = few (omega (arith, ends_some, nth-none met (m / l.width - 1) f))
 
-      pub ends-cells : {a b : ℕ} → nth met 0 ≡ Cell a → nth met (m / l.width - 1) ≡ Cell b → E.Cells a b ≡ ends_at l ident n p c m
+      pub ends-cells : {a b : ℕ} → nth met 0 ≡ Some a → nth met (m / l.width - 1) ≡ Some b → Ok (record { first = a; last = b }) ≡ ends_at l ident n p c m
       unfolding ends_at
       ends-cells {a} {b} f g =
           let x = nth-cell met 0 a f in
           let y = nth-cell met (m / l.width - 1) b g in
-          ap₂ E.Cells x.1 y.1
-          ∙ sym (gaps-number l n p c m e E.Refused _ ∙ rw (eq-eqb r 0 z, le-leb (m / l.width) (length met) (omega (arith, y.0))))
+          ap₂ (λ (a b : ℕ). Ok (record { first = a; last = b })) x.1 y.1
+          ∙ sym (gaps-granted l n p c m e Err _ z ∙ rw (le-leb (m / l.width) (length met) (omega (arith, y.0))))
 
   -- what they tell
-  pub ends-facts : {a b : ℕ} → ends_at l ident n p c m ≡ E.Cells a b
-      → (p ≤ n) × Node l c × (0 < m) × (m ≡ m / l.width * l.width) × (m / l.width ≤ length met) × (ends_of met (m / l.width) ≡ E.Cells a b)
+  pub ends-facts : {a b : ℕ} → ends_at l ident n p c m ≡ Ok (record { first = a; last = b })
+      → (p ≤ n) × Node l c × (0 < m) × (m ≡ m / l.width * l.width) × (m / l.width ≤ length met) × (ends_of met (m / l.width) ≡ record { first = a; last = b })
   unfolding ends_at
   ends-facts {a} {b} e =
-      let f = yes-cells (leb p n) 7 _ e in
-      let g = yes-cells (is_node l c) 8 _ f.1 in
-      let h = yes-cells (ltb 0 m && eqb (m % l.width) 0) 9 _ g.1 in
-      let i = yes-cells (leb (m / l.width) (length met)) 10 _ h.1 in
+      let f = yes-cells (leb p n) _ _ e in
+      let g = yes-cells (is_node l c) _ _ f.1 in
+      let h = yes-cells (ltb 0 m && eqb (m % l.width) 0) _ _ g.1 in
+      let i = yes-cells (leb (m / l.width) (length met)) _ _ h.1 in
       let q = (and-eq-true_iff (ltb 0 m) (eqb (m % l.width) 0)).0 h.0 in (
         leb-true p n f.0,
         is-node l c g.0,
         ltb-true 0 m q.0,
         whole-records (eqb-true (m % l.width) 0 q.1),
         leb-true (m / l.width) (length met) i.0,
-        i.1,
+        cc i.1,
       )
     where
-      yes-cells : (y : Bool) (k : ℕ) (x : Ends) → ask y (E.Refused k) x ≡ E.Cells a b → (y ≡ true) × (x ≡ E.Cells a b)
+      yes-cells : (y : Bool) (k : Refusal) (x : Result Ends Refusal) → ask y (Err k) x ≡ Ok (record { first = a; last = b }) → (y ≡ true) × (x ≡ Ok (record { first = a; last = b }))
       yes-cells true k x e = (refl, e)
       yes-cells false k x e = let z : ◌≡◌ {A = ℕ} 0 1 = cc in absurd (omega arith)
 
@@ -164,7 +159,7 @@ module _ (l : Layout) (ident : ℕ → ℕ) (n p c m : ℕ) where
 
 -- the gap for several records is that with the first of their cells
 pub gaps-ends : (l : Layout) (ident : ℕ → ℕ) (k p c m : ℕ) (s : List ℕ)
-    → gaps_at l ident k p c m s ≡ with_ends (ends_at l ident (length s) p c m) Refused (λ a b. At (gap_site k p a s))
+    → gaps_at l ident k p c m s ≡ with_ends (ends_at l ident (length s) p c m) Err (λ a b. Ok (gap_site k p a s))
 unfolding gaps_at ends_at
 gaps-ends l ident k p c m s =
     by (leb p (length s)) (is_node l c) (ltb 0 m && eqb (m % l.width) 0) refl (leb (m / l.width) (length cells)) refl
@@ -173,9 +168,9 @@ gaps-ends l ident k p c m s =
     cells = free_cells ident (around l c l.nodes)
 
     by : (a b d : Bool) → (ltb 0 m && eqb (m % l.width) 0) ≡ d → (f : Bool) → leb (m / l.width) (length cells) ≡ f
-        → ask a (Refused 7) (ask b (Refused 8) (ask d (Refused 9) (ask f (Refused 10) (free_gap l ident k p c s))))
-        ≡ with_ends (ask a (E.Refused 7) (ask b (E.Refused 8) (ask d (E.Refused 9) (ask f (E.Refused 10) (ends_of cells (m / l.width))))))
-        Refused (λ a b. At (gap_site k p a s))
+        → ask a (Err NoPosition) (ask b (Err NoNode) (ask d (Err RecordSize) (ask f (Err Full) (free_gap l ident k p c s))))
+        ≡ with_ends (ask a (Err NoPosition) (ask b (Err NoNode) (ask d (Err RecordSize) (ask f (Err Full) (Ok (ends_of cells (m / l.width)))))))
+        Err (λ a b. Ok (gap_site k p a s))
     by false b d g f h = refl
     by true false d g f h = refl
     by true true false g f h = refl
@@ -190,42 +185,42 @@ gaps-ends l ident k p c m s =
 -- so the questions of several records are those of the whole list, and then those of their cells
 pub look-gaps : (w : List ℕ) (k p c m : ℕ)
     → look_of w (Gaps k p c m)
-    ≡ with_look (look_of w (Whole k)) K.Refused
-    (λ l t. with_ends (ends_at l (view_of l w).ident t.count p c m) K.Refused (λ a b. K.At l (gap_site k p a (sequence_of l w k))))
+    ≡ with_look (look_of w (Whole k)) Err
+    (λ l t. with_ends (ends_at l (view_of l w).ident t.count p c m) Err (λ a b. at_site l (gap_site k p a (sequence_of l w k))))
 unfolding look_of site_in
 look-gaps w k p c m = by (opened w)
   where
-    ended : (l : Layout) (s : List ℕ) (x : Ends)
-        → with_site (with_ends x Refused (λ a b. At (gap_site k p a s))) K.Refused (λ t. K.At l t) ≡ with_ends x K.Refused (λ a b. K.At l (gap_site k p a s))
-    ended l s (E.Refused n) = refl
-    ended l s (E.Cells a b) = refl
+    ended : (l : Layout) (s : List ℕ) (x : Result Ends Refusal)
+        → with_site (with_ends x Err (λ a b. Ok (gap_site k p a s))) Err (at_site l) ≡ with_ends x Err (λ a b. at_site l (gap_site k p a s))
+    ended l s (Err n) = refl
+    ended l s (Ok e) = refl
 
     sited : (l : Layout) (a b : Bool)
         → (let s = sequence_of l w k in
-        with_site (ask a (Refused 5) (ask b (Refused 6) (gaps_at l (view_of l w).ident k p c m s))) K.Refused (λ t. K.At l t)
-        ≡ with_look (with_site (ask a (Refused 5) (ask b (Refused 6) (At (record { before = k; cell = k; after = k; count = length s })))) K.Refused (λ t. K.At l t)) K.Refused
-        (λ l t. with_ends (ends_at l (view_of l w).ident t.count p c m) K.Refused (λ a b. K.At l (gap_site k p a (sequence_of l w k)))))
+        with_site (ask a (Err NoList) (ask b (Err Unsound) (gaps_at l (view_of l w).ident k p c m s))) Err (at_site l)
+        ≡ with_look (with_site (ask a (Err NoList) (ask b (Err Unsound) (Ok (record { before = k; cell = k; after = k; count = length s })))) Err (at_site l)) Err
+        (λ l t. with_ends (ends_at l (view_of l w).ident t.count p c m) Err (λ a b. at_site l (gap_site k p a (sequence_of l w k)))))
     sited l false b = refl
     sited l true false = refl
     sited l true true =
         let s = sequence_of l w k in
         let ident = (view_of l w).ident in
-        ap (λ (x : Sited). with_site x K.Refused (λ t. K.At l t)) (gaps-ends l ident k p c m s) ∙ ended l s (ends_at l ident (length s) p c m)
+        ap (λ (x : Result Site Refusal). with_site x Err (at_site l)) (gaps-ends l ident k p c m s) ∙ ended l s (ends_at l ident (length s) p c m)
 
-    by : (o : Opened)
-        → after_open o K.Refused (λ l. with_site (site_of l w (Gaps k p c m)) K.Refused (λ t. K.At l t))
-        ≡ with_look (after_open o K.Refused (λ l. with_site (site_of l w (Whole k)) K.Refused (λ t. K.At l t))) K.Refused
-        (λ l t. with_ends (ends_at l (view_of l w).ident t.count p c m) K.Refused (λ a b. K.At l (gap_site k p a (sequence_of l w k))))
-    by (O.Refused n) = refl
-    by (O.Open l) = sited l (ltb k l.lists) (sound_in l (view_of l w) (count_in l w))
+    by : (o : Result Layout Refusal)
+        → after_open o Err (λ l. with_site (site_of l w (Gaps k p c m)) Err (at_site l))
+        ≡ with_look (after_open o Err (λ l. with_site (site_of l w (Whole k)) Err (at_site l))) Err
+        (λ l t. with_ends (ends_at l (view_of l w).ident t.count p c m) Err (λ a b. at_site l (gap_site k p a (sequence_of l w k))))
+    by (Err n) = refl
+    by (Ok l) = sited l (ltb k l.lists) (sound_in l (view_of l w) (count_in l w))
 
 -- the next site: no cell is free, or the first that is
 module _ (l : Layout) (ident : ℕ → ℕ) (t : Site) where
-  pub next-full : Full ≡ first_free ident (around l (next_cell l t.cell) l.nodes) → t ≡ next_site l ident t
+  pub next-full : None ≡ first_free ident (around l (next_cell l t.cell) l.nodes) → t ≡ next_site l ident t
   unfolding next_site
   next-full g = rw (← g)
 
-  pub next-found : {x : ℕ} → Cell x ≡ first_free ident (around l (next_cell l t.cell) l.nodes)
+  pub next-found : {x : ℕ} → Some x ≡ first_free ident (around l (next_cell l t.cell) l.nodes)
       → record { before = t.cell; cell = x; after = t.after; count = t.count + 1 } ≡ next_site l ident t
   unfolding next_site
   next-found g = rw (← g)
@@ -237,16 +232,16 @@ pub record GapsFacts (l : Layout) (ident : ℕ → ℕ) (k p c m : ℕ) (s : Lis
   pub some : 0 < m
   pub whole : m ≡ m / l.width * l.width
   pub enough : m / l.width ≤ length (free_cells ident (around l c l.nodes))
-  pub first : first_free ident (around l c l.nodes) ≡ Cell t.cell
+  pub first : first_free ident (around l c l.nodes) ≡ Some t.cell
   pub site : t ≡ gap_site k p t.cell s
 
-pub gaps-facts : (l : Layout) (ident : ℕ → ℕ) (k p c m : ℕ) (s : List ℕ) (t : Site) → gaps_at l ident k p c m s ≡ At t → GapsFacts l ident k p c m s t
+pub gaps-facts : (l : Layout) (ident : ℕ → ℕ) (k p c m : ℕ) (s : List ℕ) (t : Site) → gaps_at l ident k p c m s ≡ Ok t → GapsFacts l ident k p c m s t
 unfolding gaps_at
 gaps-facts l ident k p c m s t e =
-    let a = yes-at (leb p (length s)) 7 _ t e in
-    let b = yes-at (is_node l c) 8 _ t a.1 in
-    let d = yes-at (ltb 0 m && eqb (m % l.width) 0) 9 _ t b.1 in
-    let f = yes-at (leb (m / l.width) (length (free_cells ident (around l c l.nodes)))) 10 _ t d.1 in
+    let a = yes-at (leb p (length s)) _ _ t e in
+    let b = yes-at (is_node l c) _ _ t a.1 in
+    let d = yes-at (ltb 0 m && eqb (m % l.width) 0) _ _ t b.1 in
+    let f = yes-at (leb (m / l.width) (length (free_cells ident (around l c l.nodes)))) _ _ t d.1 in
     let q = (and-eq-true_iff (ltb 0 m) (eqb (m % l.width) 0)).0 d.0 in
     let g = found (first_free ident (around l c l.nodes)) refl f.1 in
     record {
@@ -259,14 +254,14 @@ gaps-facts l ident k p c m s t e =
       site = g.1;
     }
   where
-    yes-at : (b : Bool) (n : ℕ) (r : Sited) (t : Site) → ask b (Refused n) r ≡ At t → (b ≡ true) × (r ≡ At t)
+    yes-at : (b : Bool) (n : Refusal) (r : Result Site Refusal) (t : Site) → ask b (Err n) r ≡ Ok t → (b ≡ true) × (r ≡ Ok t)
     yes-at true n r t e = (refl, e)
     yes-at false n r t e = let z : ◌≡◌ {A = ℕ} 0 1 = cc in absurd (omega arith)
 
-    found : (x : Free) → first_free ident (around l c l.nodes) ≡ x → with_free x (Refused 10) (λ i. At (gap_site k p i s)) ≡ At t
-        → (first_free ident (around l c l.nodes) ≡ Cell t.cell) × (t ≡ gap_site k p t.cell s)
-    found Full q e = let z : ◌≡◌ {A = ℕ} 0 1 = cc in absurd (omega arith)
-    found (Cell i) q e =
+    found : (x : Option ℕ) → first_free ident (around l c l.nodes) ≡ x → with_free x (Err Full) (λ i. Ok (gap_site k p i s)) ≡ Ok t
+        → (first_free ident (around l c l.nodes) ≡ Some t.cell) × (t ≡ gap_site k p t.cell s)
+    found None q e = let z : ◌≡◌ {A = ℕ} 0 1 = cc in absurd (omega arith)
+    found (Some i) q e =
         let u : gap_site k p i s ≡ t = cc in
         let v : i ≡ t.cell = ap (λ (x : Site). x.cell) u in
-        (q ∙ ap Cell v, sym u ∙ ap (λ (x : ℕ). gap_site k p x s) v)
+        (q ∙ ap Some v, sym u ∙ ap (λ (x : ℕ). gap_site k p x s) v)

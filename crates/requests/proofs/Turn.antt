@@ -14,10 +14,10 @@ use Rattle.sequences.specs.Sequence.{◌∈◌, All, Different, range, filter}
 use Rattle.sequences.proofs.Members.{all_in, in_all, different-append}
 use Rattle.sequences.proofs.Range.{in-range, range-between, range-different, range-append}
 use Rattle.sequences.proofs.Filter.{filter-in, in-filter, filter-append, filter_none, filter_same}
+use Rattle.std.specs.Prelude.{Some}
 use Rattle.layout.specs.declared.Layout.{Layout}
 use Rattle.layout.specs.Words.{first_node, cell_count, Node, is_free}
 use Rattle.lists.specs.Decide.{View, cells_with}
-use Rattle.requests.specs.declared.Free.TheVariants.{Cell}
 use Rattle.requests.specs.Requests.{next_cell, around, first_free, free_cells}
 use Rattle.requests.proofs.Laws.{next-wraps, next-follows}
 
@@ -180,23 +180,23 @@ module _ (ident : ℕ → ℕ) where
       filter_none free cs (in_all (λ c. free c ≡ false) cs (λ c m. ne_eqb (ident c) 0 (all_in (λ c. ident c ≡ 0 → ⊥) cs h m)))
 
   -- the first of them is the one that the search finds
-  pub free-first : (cs : List ℕ) (x : ℕ) (xs : List ℕ) → free_cells ident cs ≡ x ∷ xs → first_free ident cs ≡ Cell x
+  pub free-first : (cs : List ℕ) (x : ℕ) (xs : List ℕ) → free_cells ident cs ≡ x ∷ xs → first_free ident cs ≡ Some x
   unfolding filter first_free
   free-first [] x xs e = absurd (omega (arith, ap length e))
   free-first (c ∷ cs) x xs e = by (eqb (ident c) 0) (λ q. free-first cs x xs q) e
     where
-      by : (b : Bool) → (free_cells ident cs ≡ x ∷ xs → first_free ident cs ≡ Cell x)
-          → cond b (c ∷ free_cells ident cs) (free_cells ident cs) ≡ x ∷ xs → cond b (Cell c) (first_free ident cs) ≡ Cell x
-      by true below e = ap Cell (ap (λ (s : List ℕ). get_or s 0 0) e)
+      by : (b : Bool) → (free_cells ident cs ≡ x ∷ xs → first_free ident cs ≡ Some x)
+          → cond b (c ∷ free_cells ident cs) (free_cells ident cs) ≡ x ∷ xs → cond b (Some c) (first_free ident cs) ≡ Some x
+      by true below e = ap Some (ap (λ (s : List ℕ). get_or s 0 0) e)
       by false below e = below e
 
-  pub free-found : (cs : List ℕ) (x : ℕ) → first_free ident cs ≡ Cell x → free_cells ident cs ≡ x ∷ drop 1 (free_cells ident cs)
+  pub free-found : (cs : List ℕ) (x : ℕ) → first_free ident cs ≡ Some x → free_cells ident cs ≡ x ∷ drop 1 (free_cells ident cs)
   unfolding filter first_free
   free-found [] x e = let z : ◌≡◌ {A = ℕ} 0 1 = cc in absurd (omega arith)
   free-found (c ∷ cs) x e = by (eqb (ident c) 0) (λ q. free-found cs x q) e
     where
-      by : (b : Bool) → (first_free ident cs ≡ Cell x → free_cells ident cs ≡ x ∷ drop 1 (free_cells ident cs))
-          → cond b (Cell c) (first_free ident cs) ≡ Cell x
+      by : (b : Bool) → (first_free ident cs ≡ Some x → free_cells ident cs ≡ x ∷ drop 1 (free_cells ident cs))
+          → cond b (Some c) (first_free ident cs) ≡ Some x
           → cond b (c ∷ free_cells ident cs) (free_cells ident cs) ≡ x ∷ drop 1 (cond b (c ∷ free_cells ident cs) (free_cells ident cs))
       by true below e = let s : c ≡ x = cc in ap (λ (y : ℕ). y ∷ free_cells ident cs) s
       by false below e = below e

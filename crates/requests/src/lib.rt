@@ -1,16 +1,16 @@
 // Questions 5 to 10 and 13. A request says what a call asks of the lists, and the site is what it gets: a cell with the cells before
-// and after it, and the list's length. All is decided before the first store. Crates byte_requests and word_requests find the
-// site in what is lent.
+// and after it, and the list's length. All is decided before the first store. Crate sites finds the site in what is lent.
 #![tactic(auto)]
 
-ghost use Rattle.std.specs.Prelude.{◌≡◌, leb};
+ghost use Rattle.std.specs.Prelude.{◌≡◌, leb, Ok, Err};
 ghost use Rattle.layout.specs.Words.{ask, is_node, InRange, Node};
+ghost use Rattle.layout.specs.declared.Refusal.TheVariants.{NoPosition, NoNode, RecordSize};
 ghost use Rattle.requests.specs.Requests.{next_cell, ask_gap, ask_gaps, list_of};
 
-use layout::Layout;
+use layout::{Layout, Refusal};
 
-// What a call asks for.
-#[derive(Clone, Copy)]
+// What a call asks for. (A value and no closure, since the definitions of the calls speak of it.)
+#[derive(Clone, Copy, Debug, PartialEq, Eq)]
 pub enum Request {
     // The store is sound.
     Check,
@@ -27,7 +27,7 @@ pub enum Request {
 }
 
 // Where a call works.
-#[derive(Clone, Copy)]
+#[derive(Clone, Copy, Debug, PartialEq, Eq)]
 pub struct Site {
     pub before: u16,
     pub cell: u16,
@@ -35,30 +35,18 @@ pub struct Site {
     pub count: u16,
 }
 
-#[derive(Clone, Copy)]
-pub enum Sited {
-    At(Site),
-    Refused(u16),
-}
-
-#[derive(Clone, Copy)]
-pub enum Looked {
-    At(Layout, Site),
-    Refused(u16),
-}
-
-// A search for a free node.
-#[derive(Clone, Copy)]
-pub enum Free {
-    Cell(u16),
-    Full,
+// The same with the layout of the store.
+#[derive(Clone, Copy, Debug, PartialEq, Eq)]
+pub struct Look {
+    pub layout: Layout,
+    pub site: Site,
 }
 
 // The first and the last of the cells for several records, in order of use.
-#[derive(Clone, Copy)]
-pub enum Ends {
-    Cells(u16, u16),
-    Refused(u16),
+#[derive(Clone, Copy, Debug, PartialEq, Eq)]
+pub struct Ends {
+    pub first: u16,
+    pub last: u16,
 }
 
 // The node after node c, which after the last is the first.
@@ -86,35 +74,35 @@ pub fn list_of(q: Request) -> u16
     }
 }
 
-// Questions 7 to 9, of which the last is whether the size fits: the number of the first no, 0 for none.
-fn place_number(l: Layout, n: u16, p: u16, start: u16, fits: bool) -> u16
+// Questions 7 to 9, of which the last is whether the size fits.
+fn place_asked(l: Layout, n: u16, p: u16, start: u16, fits: bool) -> Result<(), Refusal>
     requires { InRange l }
-    ensures { result ≡ ask (leb p n) 7 (ask (is_node l start) 8 (ask fits 9 0)) }
+    ensures { result ≡ ask (leb p n) (Err NoPosition) (ask (is_node l start) (Err NoNode) (ask fits (Err RecordSize) (Ok tt))) }
 {
     if n < p {
-        return 7;
+        return Err(Refusal::NoPosition);
     }
     if !l.is_node(start) {
-        return 8;
+        return Err(Refusal::NoNode);
     }
     if !fits {
-        return 9;
+        return Err(Refusal::RecordSize);
     }
-    0
+    Ok(())
 }
 
 // Questions 7 to 9 of a record.
-pub fn gap_number(l: Layout, n: u16, p: u16, start: u16, size: usize) -> u16
+pub fn gap_asked(l: Layout, n: u16, p: u16, start: u16, size: usize) -> Result<(), Refusal>
     requires { InRange l }
-    ensures { result ≡ ask_gap l n p start size (λ x. x) 0 }
+    ensures { result ≡ ask_gap l n p start size Err (Ok tt) }
 {
-    place_number(l, n, p, start, size == l.width as usize)
+    place_asked(l, n, p, start, size == l.width as usize)
 }
 
 // Questions 7 to 9 of several records.
-pub fn gaps_number(l: Layout, n: u16, p: u16, start: u16, size: usize) -> u16
+pub fn gaps_asked(l: Layout, n: u16, p: u16, start: u16, size: usize) -> Result<(), Refusal>
     requires { InRange l }
-    ensures { result ≡ ask_gaps l n p start size (λ x. x) 0 }
+    ensures { result ≡ ask_gaps l n p start size Err (Ok tt) }
 {
-    place_number(l, n, p, start, 0 < size && size % l.width as usize == 0)
+    place_asked(l, n, p, start, 0 < size && size % l.width as usize == 0)
 }

@@ -1,4 +1,5 @@
 -- "Show that a budget of half the list's length, rounded up, always arrives." The shorter way round the ring has at most so many links.
+use Rattle.std.specs.Prelude.{Some, None}
 use Prim.Native.Nat.{ℕ, suc, ◌+◌, ◌-◌, ◌<◌, ◌≤◌}
 use mathlib.Core.Path.{◌≡◌, refl, ap, ◌∙◌, sym, subst, subst⁻¹}
 use mathlib.Core.List.{List, ◌∷◌}
@@ -15,7 +16,6 @@ use Rattle.lists.proofs.Ring.{held-count, ring-node, ring-ahead, ring-behind}
 use Rattle.layout.specs.declared.Cell.{Cell}
 use Rattle.spans.specs.Spans.{cell_in}
 use Rattle.seeks.specs.declared.Seek.{Seek}
-use Rattle.seeks.specs.declared.Sought.TheVariants.{At, Spent}
 use Rattle.seeks.specs.Seeks.{nearer, stepped, run_with, half, Reached, Inside}
 use Rattle.seeks.proofs.Walk.{nearer-ahead, nearer-behind, walk-arrives, walk-spent}
 
@@ -33,13 +33,13 @@ module _ {l : Layout} {v : View} {k n : ℕ} (h : HeldList l v k n) (q : ℕ) (p
   members = sequence_in l v k
 
   -- a budget that is enough for the way it takes
-  enough : (b : ℕ) → (q ≤ n - q → q ≤ b) → (n - q < q → n + 1 - q ≤ b) → run_with v b (nearer k n q) ≡ At (get_or (k ∷ members) q 0)
+  enough : (b : ℕ) → (q ≤ n - q → q ≤ b) → (n - q < q → n + 1 - q ≤ b) → run_with v b (nearer k n q) ≡ Some (get_or (k ∷ members) q 0)
   enough b f g =
-      by_way k n q (λ t. run_with v b t ≡ At (get_or (k ∷ members) q 0))
-      (λ e. walk-arrives v true b q k (f e) ∙ ap At (ring-ahead h q p))
-      (λ e. walk-arrives v false b (n + 1 - q) k (g e) ∙ ap At (ring-behind h (n + 1 - q) q (omega arith) (omega arith) (omega arith)))
+      by_way k n q (λ t. run_with v b t ≡ Some (get_or (k ∷ members) q 0))
+      (λ e. walk-arrives v true b q k (f e) ∙ ap Some (ring-ahead h q p))
+      (λ e. walk-arrives v false b (n + 1 - q) k (g e) ∙ ap Some (ring-behind h (n + 1 - q) q (omega arith) (omega arith) (omega arith)))
 
-  pub half-arrives : {b : ℕ} → half n ≤ b → run_with v b (nearer k n q) ≡ At (get_or (k ∷ members) q 0)
+  pub half-arrives : {b : ℕ} → half n ≤ b → run_with v b (nearer k n q) ≡ Some (get_or (k ∷ members) q 0)
   half-arrives {b} g = enough b (λ e. omega arith) (λ e. omega arith)
 
   -- it begins at the header, and behind it it meets nodes
@@ -59,8 +59,8 @@ module _ {l : Layout} {v : View} {k n : ℕ} (h : HeldList l v k n) (q : ℕ) (p
       rw (e, f) (ap (cell_in v) (sym at), nearer-inside)
 
   -- a budget too small for either way
-  too_small : (b : ℕ) → b < q → b < n + 1 - q → run_with v b (nearer k n q) ≡ Spent
-  too_small b f g = by_way k n q (λ t. run_with v b t ≡ Spent) (λ e. walk-spent v true b q k f) (λ e. walk-spent v false b (n + 1 - q) k g)
+  too_small : (b : ℕ) → b < q → b < n + 1 - q → run_with v b (nearer k n q) ≡ None
+  too_small b f g = by_way k n q (λ t. run_with v b t ≡ None) (λ e. walk-spent v true b q k f) (λ e. walk-spent v false b (n + 1 - q) k g)
 
 pub reached : {l : Layout} {v : View} {k n : ℕ} → HeldList l v k n → (q : ℕ) → q ≤ n → Reached v k (sequence_in l v k) q
 reached {l} {v} {k} h q p =

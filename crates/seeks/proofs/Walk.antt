@@ -1,4 +1,5 @@
 -- A walk arrives where its links lead, if the budget is enough for them.
+use Rattle.std.specs.Prelude.{Some, None}
 use Prim.Native.Nat.{ℕ, zero, suc, ◌+◌, ◌-◌, ◌<◌, ◌≤◌}
 use mathlib.Core.Path.{◌≡◌, refl, ap, ◌∙◌, sym, subst}
 use mathlib.Core.Bool.{Bool, true, false}
@@ -12,14 +13,13 @@ use Rattle.lists.specs.Decide.{View}
 use Rattle.layout.specs.declared.Cell.{Cell}
 use Rattle.spans.specs.Spans.{cell_in}
 use Rattle.seeks.specs.declared.Seek.{Seek}
-use Rattle.seeks.specs.declared.Sought.TheVariants.{At, Spent}
 use Rattle.seeks.specs.Seeks.{nearer, stepped, run_with, link_of, Inside}
 
 -- what a walk comes to is one cell, or spent
-pub at_same : {x y : ℕ} → At x ≡ At y → x ≡ y
+pub at_same : {x y : ℕ} → Some x ≡ Some y → x ≡ y
 at_same e = cc e
 
-pub at-spent : {x : ℕ} → At x ≡ Spent → ⊥
+pub at-spent : {x : ℕ} → Some x ≡ None → ⊥
 at-spent e = let z : ◌≡◌ {A = ℕ} 0 1 = cc in absurd (omega arith)
 
 -- the two ways round a ring
@@ -41,12 +41,12 @@ module _ (c : Cell) (t : Seek) {x : ℕ} where
 
 module _ (v : View) (t : Seek) where
   -- no link is left; one is, and no budget; or both are
-  pub run-arrived : (b : ℕ) → t.left ≡ 0 → run_with v b t ≡ At t.at
+  pub run-arrived : (b : ℕ) → t.left ≡ 0 → run_with v b t ≡ Some t.at
   unfolding run_with
   run-arrived zero e = rw (eq-eqb t.left 0 e)
   run-arrived (suc b) e = rw (eq-eqb t.left 0 e)
 
-  pub run-spent : (b : ℕ) → 0 < t.left → b ≡ 0 → run_with v b t ≡ Spent
+  pub run-spent : (b : ℕ) → 0 < t.left → b ≡ 0 → run_with v b t ≡ None
   unfolding run_with
   run-spent b h e = rw (e, ne_eqb t.left 0 (λ q. omega arith))
 
@@ -69,15 +69,15 @@ module _ (v : View) (ahead : Bool) where
   abbrev walk : ℕ → ℕ → Seek
   walk c n = record { at = c; left = n; ahead = ahead }
 
-  pub walk-arrives : (b n c : ℕ) → n ≤ b → run_with v b (walk c n) ≡ At (follow (link_of v ahead) n c)
-  walk-arrives b zero c h = run-arrived v (walk c zero) b refl ∙ ap At (sym (follow-none (link_of v ahead) 0 c refl))
+  pub walk-arrives : (b n c : ℕ) → n ≤ b → run_with v b (walk c n) ≡ Some (follow (link_of v ahead) n c)
+  walk-arrives b zero c h = run-arrived v (walk c zero) b refl ∙ ap Some (sym (follow-none (link_of v ahead) 0 c refl))
   walk-arrives b (suc n) c h =
       run_step v (walk c (suc n)) b (omega arith) (omega arith)
       ∙ ap (λ (x : ℕ). run_with v (b - 1) (walk (link_of v ahead c) x)) (omega arith)
       ∙ walk-arrives (b - 1) n (link_of v ahead c) (omega arith)
-      ∙ ap At (sym (follow-next (link_of v ahead) n c))
+      ∙ ap Some (sym (follow-next (link_of v ahead) n c))
 
-  pub walk-spent : (b n c : ℕ) → b < n → run_with v b (walk c n) ≡ Spent
+  pub walk-spent : (b n c : ℕ) → b < n → run_with v b (walk c n) ≡ None
   walk-spent zero n c h = run-spent v (walk c n) 0 h refl
   walk-spent (suc b) n c h =
       run_step v (walk c n) (suc b) (omega arith) (omega arith)

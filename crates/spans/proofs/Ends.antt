@@ -16,8 +16,7 @@ use Rattle.lists.proofs.Agree.{holds-true, true-holds}
 use Rattle.lists.proofs.Unique.{header-out, nodes-few, all-nodes}
 use Rattle.layout.specs.declared.Cell.{Cell}
 use Rattle.spans.specs.declared.Span.{Span}
-use Rattle.spans.specs.declared.Round.{Round}
-use Rattle.spans.specs.declared.Round.TheVariants.{Inner, Broken}
+use Rattle.std.specs.Prelude.{Option, Some, None}
 use Rattle.spans.specs.Spans.{Held, cell_in, whole_span, Narrowed, Closed, Single, Carries, Between, Spanned, Led, Outer, inner_in, Rounded}
 
 -- the steps through one cell more at the end
@@ -132,17 +131,17 @@ module _ {l : Layout} {v : View} {k : ℕ} {s : Span} (h : Led v s) where
       (last-between {m = s.count - 2} (omega arith) h.last (record { node = o.last; ident = o.right.last }) o.right.forward b)
 
 -- what a round says of two cells it says of the view in which they are the first and the last
-pub narrowed-rounded : (l : Layout) (v : View) (k : ℕ) (s : Span) {c d : Cell} (r : Round) → is_node l s.first ≡ true → is_node l s.last ≡ true
+pub narrowed-rounded : (l : Layout) (v : View) (k : ℕ) (s : Span) {c d : Cell} (r : Option Span) → is_node l s.first ≡ true → is_node l s.last ≡ true
     → c ≡ cell_in v s.first → d ≡ cell_in v s.last → Narrowed s k c d r → Rounded l v k s r
 narrowed-rounded l v k s {c} {d} r i j p q n =
     by r (subst (λ (x : Cell). Narrowed s k (cell_in v s.first) x r) q (subst (λ (x : Cell). Narrowed s k x d r) p n))
   where
-    by : (r : Round) → Narrowed s k (cell_in v s.first) (cell_in v s.last) r → Rounded l v k s r
-    by (Inner t) m = (record { first = i; last = j; right = m.0 }, m.1)
-    by Broken m = λ o. m o.right
+    by : (r : Option Span) → Narrowed s k (cell_in v s.first) (cell_in v s.last) r → Rounded l v k s r
+    by (Some t) m = (record { first = i; last = j; right = m.0 }, m.1)
+    by None m = λ o. m o.right
 
 -- a round leaves two cells less
-pub rounded-count : {l : Layout} {v : View} {k : ℕ} {s t : Span} → Rounded l v k s (Inner t) → t.count ≡ s.count - 2
+pub rounded-count : {l : Layout} {v : View} {k : ℕ} {s t : Span} → Rounded l v k s (Some t) → t.count ≡ s.count - 2
 rounded-count r = ap (λ (t : Span). t.count) r.1
 
 -- t is what rounds have left of s: it is spanned exactly if s is
@@ -156,11 +155,11 @@ reduced-first l v k s h = record { led = h; inward = λ b. b; outward = λ b. b 
 
 module _ {l : Layout} {v : View} {k : ℕ} {s t : Span} (h : Reduced l v k s t) (q : 1 < t.count) where
   -- a round finds something wrong: s is not spanned
-  pub reduced-broken : Rounded l v k t Broken → Spanned l v k s → ⊥
+  pub reduced-broken : Rounded l v k t None → Spanned l v k s → ⊥
   reduced-broken n b = n (round-in h.led q (h.inward b)).0
 
   -- or goes on
-  pub reduced-next : {u : Span} → Rounded l v k t (Inner u) → Reduced l v k s u
+  pub reduced-next : {u : Span} → Rounded l v k t (Some u) → Reduced l v k s u
   reduced-next r =
       subst (Reduced l v k s) (sym r.1) (record {
         led = record { first = refl; last = refl };

@@ -1,5 +1,5 @@
 -- A list walked from both ends at once: what lies between the two cells that the walks have come to.
-use Rattle.std.specs.Prelude.{ℕ, zero, suc, ◌+◌, ◌-◌, ◌≤◌, ◌≡◌, List, Bool, true, false, not, cond, length}
+use Rattle.std.specs.Prelude.{ℕ, zero, suc, ◌+◌, ◌-◌, ◌≤◌, ◌≡◌, List, Bool, true, false, not, cond, length, Option, Some, None}
 use Rattle.sequences.specs.Sequence.{All, Forward, Backward}
 use Rattle.layout.specs.declared.Layout.{Layout}
 use Rattle.layout.specs.Words.{most_nodes, is_node, ident_of, is_free, in_use}
@@ -7,8 +7,6 @@ use Rattle.lists.specs.Decide.{View, sequence_in, holds, used, unwiped}
 use Rattle.layout.specs.declared.Cell.{Cell}
 use Rattle.spans.specs.declared.Tally.{Tally}
 use Rattle.spans.specs.declared.Span.{Span}
-use Rattle.spans.specs.declared.Round.{Round}
-use Rattle.spans.specs.declared.Round.TheVariants.{Inner, Broken}
 
 -- how many of the n cells from a on are in use, and how many are free and have a record
 abbrev pub tally_of : View → ℕ → ℕ → Tally
@@ -65,9 +63,9 @@ abbrev pub inner_span : Span → Cell → Cell → Span
 inner_span s c d = record { count = s.count - 2; start = s.first; first = c.forward; last = d.back; end = s.last }
 
 -- what a round says
-abbrev pub Narrowed : Span → ℕ → Cell → Cell → Round → Type 0
-Narrowed s k c d (Inner t) = Right s k c d × (t ≡ inner_span s c d)
-Narrowed s k c d Broken = Right s k c d → ⊥
+abbrev pub Narrowed : Span → ℕ → Cell → Cell → Option Span → Type 0
+Narrowed s k c d (Some t) = Right s k c d × (t ≡ inner_span s c d)
+Narrowed s k c d None = Right s k c d → ⊥
 
 -- no cell is left, or one, c
 abbrev pub Closed : Span → Type 0
@@ -106,6 +104,6 @@ pub record Outer (l : Layout) (v : View) (k : ℕ) (s : Span) : Type 0 where
 abbrev pub inner_in : View → Span → Span
 inner_in v s = inner_span s (cell_in v s.first) (cell_in v s.last)
 
-abbrev pub Rounded : Layout → View → ℕ → Span → Round → Type 0
-Rounded l v k s (Inner t) = Outer l v k s × (t ≡ inner_in v s)
-Rounded l v k s Broken = Outer l v k s → ⊥
+abbrev pub Rounded : Layout → View → ℕ → Span → Option Span → Type 0
+Rounded l v k s (Some t) = Outer l v k s × (t ≡ inner_in v s)
+Rounded l v k s None = Outer l v k s → ⊥

@@ -1,17 +1,17 @@
 // A list walked from both ends at once. What the two walks have yet to meet is a span: so many cells between two cells. A round
 // takes its first and its last cell away, if they are right; in the middle nothing is left, or one cell. The nodes are tallied by
-// their identifiers, and the free ones by their records too. What stands here is what the walks in lent words and in lent bytes
-// share: they differ only in how they read a cell.
+// their identifiers, and the free ones by their records too. What stands here is decided
+// of values; crate walks reads the cells.
 #![tactic(auto)]
 
-ghost use Rattle.std.specs.Prelude.{◌≡◌, ◌<◌, cond};
+ghost use Rattle.std.specs.Prelude.{◌≡◌, ◌<◌};
 ghost use Rattle.layout.specs.Words.{most_lists};
 ghost use Rattle.spans.specs.Spans.{no_tally, with_free, with_other, FewIn, whole_span, Narrowed, Closed, Single, Decides};
 
 use layout::{Cell, Layout};
 
 // So many cells between the cells `start` and `end`, of which start leads to the first, and end back to the last.
-#[derive(Clone, Copy)]
+#[derive(Clone, Copy, Debug, PartialEq, Eq)]
 pub struct Span {
     pub count: u16,
     pub start: usize,
@@ -20,25 +20,11 @@ pub struct Span {
     pub end: usize,
 }
 
-// A round: the span without its first and its last cell, or one of them is wrong.
-#[derive(Clone, Copy)]
-pub enum Round {
-    Inner(Span),
-    Broken,
-}
-
 // How many nodes are in use, and how many are free and have a record that is not blank.
-#[derive(Clone, Copy)]
+#[derive(Clone, Copy, Debug, PartialEq, Eq)]
 pub struct Tally {
     pub used: u32,
     pub unwiped: u32,
-}
-
-// 1 for yes, 0 for no.
-pub fn one(yes: bool) -> u32
-    ensures { result ≡ cond yes 1 0 }
-{
-    if yes { 1 } else { 0 }
 }
 
 impl Tally {
@@ -57,10 +43,9 @@ impl Tally {
         requires { FewIn self }
         ensures { result ≡ with_free self blank }
     {
-        let unwiped = self.unwiped + one(!blank);
         Self {
-            used: self.used,
-            unwiped,
+            unwiped: self.unwiped + u32::from(!blank),
+            ..self
         }
     }
 
@@ -69,10 +54,9 @@ impl Tally {
         requires { FewIn self }
         ensures { result ≡ with_other self ident }
     {
-        let used = self.used + one(Layout::in_use(ident));
         Self {
-            used,
-            unwiped: self.unwiped,
+            used: self.used + u32::from(Layout::in_use(ident)),
+            ..self
         }
     }
 }
@@ -91,25 +75,25 @@ impl Span {
         }
     }
 
-    // One round: the first cell is c and the last is d.
-    pub fn round(self, k: u16, c: Cell, d: Cell) -> Round
+    // One round, whose first cell is c and whose last is d: the span without them, or one of them is wrong.
+    pub fn round(self, k: u16, c: Cell, d: Cell) -> Option<Span>
         requires { (k < most_lists) × (1 < self.count) }
         ensures { Narrowed self k c d result }
     {
         let id = Layout::ident(k);
         if c.ident != id {
-            return Round::Broken;
+            return None;
         }
         if c.back != self.start {
-            return Round::Broken;
+            return None;
         }
         if d.ident != id {
-            return Round::Broken;
+            return None;
         }
         if d.forward != self.end {
-            return Round::Broken;
+            return None;
         }
-        Round::Inner(Self {
+        Some(Self {
             count: self.count - 2,
             start: self.first,
             first: c.forward,

@@ -7,7 +7,8 @@ use native.Mathlib.Nat.{add-zero}
 use native.Mathlib.Numerals.{add-one}
 use lib.ListN.{length, get_or, drop, length-append}
 use lib.Seq.{drop-cons, drop-length, append_snoc, set_at}
-use Rattle.stores.specs.Stores.{Write, write, run, in_row}
+use Rattle.stores.specs.declared.Write.{Write}
+use Rattle.stores.specs.Stores.{write, run, in_row}
 use Rattle.layout.specs.declared.Layout.{Layout}
 use Rattle.layout.specs.Words.{head_words, header_words, header_at, nodes_at, size_of, head, empty_header, formatted}
 use Rattle.layout.proofs.Laws.{header-fits, length-formatted, formatted-head, formatted-header, formatted-node}

@@ -1,18 +1,17 @@
 -- Laws of runs of stores.
 use Prim.Native.Nat.{ℕ, suc, zero, ◌+◌, ◌≤◌, ◌<◌}
-use mathlib.Core.Path.{◌≡◌, refl, ap, ap₂, ◌∙◌, sym, subst}
-use mathlib.Core.List.{List, [], ◌∷◌, ◌++◌, append-nil, Memᴰ}
+use mathlib.Core.Path.{◌≡◌, refl, ap, ◌∙◌, sym, subst}
+use mathlib.Core.List.{List, [], ◌∷◌, ◌++◌, Memᴰ}
 use mathlib.Core.Logic.{◌⊎◌, inl, inr, ⊎_elim}
 use native.Mathlib.Decide.{ℕ_discrete, dec_lt}
 use native.Mathlib.Omega.{arith}
 use native.Mathlib.Numerals.{add-one}
 use native.Mathlib.Nat.{add-zero}
-use lib.ListN.{length, get_or, set, take, drop, length-set, length-append, take-append-drop}
-use lib.Seq.{take-suc, take_all, take-take, take-suc-set, length-take-le, set_out, get_or-set_same, get_or-set_other}
+use lib.ListN.{length, get_or, set, take, drop, length-set, take-append-drop}
+use lib.Seq.{take-suc, take_all, take-take, set_out, get_or-set_same, get_or-set_other}
 use Rattle.sequences.specs.Sequence.{All}
-use Rattle.sequences.proofs.Members.{all_in, all_append, all-nth}
-use Rattle.stores.specs.declared.Rows.{Rows}
-use Rattle.stores.specs.Stores.{Write, write, store, run, applied, Spares, writes_of, in_row, most_rows, no_rows, Planned, Listed, Held}
+use Rattle.sequences.proofs.Members.{all_in}
+use Rattle.stores.specs.Stores.{Write, write, store, run, applied, Spares, in_row}
 
 -- stores in a row one after the other
 pub run-append : (ps qs : List Write) (w : List ℕ) → run (ps ++ qs) w ≡ run qs (run ps w)
@@ -47,20 +46,6 @@ applied-through ps m n w h =
     ap (λ (qs : List Write). run qs w) (sym (take-append-drop m (take n ps)))
     ∙ run-append (take m (take n ps)) (drop m (take n ps)) w
     ∙ ap (λ (qs : List Write). run (drop m (take n ps)) (run qs w)) (take-take m n ps h)
-
--- the stores of two rows, one by one
-pub length-writes : (at vs : List ℕ) → length at ≡ length vs → length (writes_of at vs) ≡ length at
-unfolding writes_of
-length-writes [] vs e = refl
-length-writes (a ∷ at) [] e = absurd (omega arith)
-length-writes (a ∷ at) (v ∷ vs) e = ap suc (length-writes at vs (omega arith))
-
-pub writes_at : (at vs : List ℕ) (i : ℕ) → length at ≡ length vs → i < length at → get_or (writes_of at vs) i (write 0 0) ≡ write (get_or at i 0) (get_or vs i 0)
-unfolding writes_of
-writes_at [] vs i e h = absurd (omega arith)
-writes_at (a ∷ at) [] i e h = absurd (omega arith)
-writes_at (a ∷ at) (v ∷ vs) zero e h = refl
-writes_at (a ∷ at) (v ∷ vs) (suc i) e h = writes_at at vs i (omega arith) (omega arith)
 
 -- a word that no store goes to stays
 pub run_out : (ps : List Write) (w : List ℕ) (a : ℕ) → Spares a ps → get_or (run ps w) a 0 ≡ get_or w a 0
@@ -137,90 +122,3 @@ row_at b (v ∷ vs) w (suc j) h k =
     let e : b + suc j ≡ b + 1 + j = omega arith in
     ap (λ (n : ℕ). get_or (run (in_row (b + 1) vs) (set w b v)) n 0) e
     ∙ row_at (b + 1) vs (set w b v) j (omega (arith, length-set w b v)) (omega arith)
-
--- one store more at the end of two rows
-pub writes-snoc : (at vs : List ℕ) (a v : ℕ) → length at ≡ length vs → writes_of (at ++ a ∷ []) (vs ++ v ∷ []) ≡ writes_of at vs ++ write a v ∷ []
-unfolding writes_of
-writes-snoc [] [] a v e = refl
-writes-snoc [] (y ∷ vs) a v e = absurd (omega arith)
-writes-snoc (x ∷ at) [] a v e = absurd (omega arith)
-writes-snoc (x ∷ at) (y ∷ vs) a v e = ap (λ (t : List Write). write x y ∷ t) (writes-snoc at vs a v (omega arith))
-
--- rows that hold no store, and one store more
-pub held_none : (n : ℕ) → Held n no_rows []
-unfolding writes_of
-held_none n = record { at = refl; values = refl; len = refl; few = omega arith; same = refl; inside = tt }
-
-pub held_more
-    : (n : ℕ) (at vs : List ℕ) (len a v : ℕ) (ps : List Write) → len < most_rows → Held n (record { at = at; values = vs; len = len }) ps → a < n
-    → Held n (record { at = set at len a; values = set vs len v; len = len + 1 }) (ps ++ write a v ∷ [])
-held_more n at vs len a v ps few h g =
-    record {
-      at = length-set at len a ∙ h.at;
-      values = length-set vs len v ∙ h.values;
-      len = omega (arith, h.len, length-append ps (write a v ∷ []));
-      few = omega (arith, h.len, length-append ps (write a v ∷ []));
-      same =
-          ap₂ writes_of (ap (λ (m : ℕ). take m (set at len a)) (add-one len) ∙ take-suc-set at len a (omega (arith, h.at)))
-          (ap (λ (m : ℕ). take m (set vs len v)) (add-one len) ∙ take-suc-set vs len v (omega (arith, h.values)))
-          ∙ writes-snoc (take len at) (take len vs) a v
-          (length-take-le len at (omega (arith, h.at)) ∙ sym (length-take-le len vs (omega (arith, h.values))))
-          ∙ ap (λ (t : List Write). t ++ write a v ∷ []) h.same;
-      inside = all_append (λ (p : Write). p.at < n) ps (write a v ∷ []) h.inside (g, tt);
-    }
-
--- what is written behind the last store changes none
-take-set : (xs : List ℕ) (i v : ℕ) → take i (set xs i v) ≡ take i xs
-take-set [] zero v = refl
-take-set [] (suc i) v = refl
-take-set (x ∷ xs) zero v = refl
-take-set (x ∷ xs) (suc i) v = ap (λ (t : List ℕ). x ∷ t) (take-set xs i v)
-
--- one store more, or none
-pub held-maybe
-    : (n : ℕ) (at vs : List ℕ) (len a v m : ℕ) (ps qs : List Write) → len < most_rows → Held n (record { at = at; values = vs; len = len }) ps
-    → m ≤ 1 → take m (write a v ∷ []) ≡ qs → All (λ (p : Write). p.at < n) qs
-    → Held n (record { at = set at len a; values = set vs len v; len = len + m }) (ps ++ qs)
-held-maybe n at vs len a v zero ps qs few h one e i =
-    subst (λ (x : ℕ). Held n (record { at = set at len a; values = set vs len v; len = x }) (ps ++ qs)) (sym (add-zero len))
-    (subst (λ (x : List Write). Held n (record { at = set at len a; values = set vs len v; len = len }) (ps ++ x)) e
-    (subst (Held n (record { at = set at len a; values = set vs len v; len = len })) (sym (append-nil ps))
-    (record {
-      at = length-set at len a ∙ h.at;
-      values = length-set vs len v ∙ h.values;
-      len = h.len;
-      few = h.few;
-      same = ap₂ writes_of (take-set at len a) (take-set vs len v) ∙ h.same;
-      inside = h.inside;
-    })))
-held-maybe n at vs len a v (suc zero) ps qs few h one e i =
-    subst (λ (x : List Write). Held n (record { at = set at len a; values = set vs len v; len = len + 1 }) (ps ++ x)) e
-    (held_more n at vs len a v ps few h (rw (← e) at i).0)
-held-maybe n at vs len a v (suc (suc m)) ps qs few h one e i = absurd (omega arith)
-
--- rows of stores are a plan
-pub held-length : (n : ℕ) (r : Rows) (ps : List Write) → Held n r ps → (length (take r.len r.at) ≡ r.len) × (length (take r.len r.values) ≡ r.len)
-held-length n r ps h =
-    (length-take-le r.len r.at (omega (arith, h.at, h.len, h.few)), length-take-le r.len r.values (omega (arith, h.values, h.len, h.few)))
-
-pub rows-planned : (n : ℕ) (at vs : List ℕ) → length at ≡ length vs → All (λ (p : Write). p.at < n) (writes_of at vs) → Planned n at vs
-rows-planned n at vs e h =
-    record {
-      rows = e;
-      inside =
-          λ i k.
-          subst (λ (p : Write). p.at < n) (writes_at at vs i e k)
-          (all-nth (λ (p : Write). p.at < n) (writes_of at vs) i (write 0 0) h (omega (arith, length-writes at vs e)));
-    }
-
--- a list of stores in two rows is a plan
-pub listed-planned
-    : {n : ℕ} {at vs : List ℕ} {ps : List Write} → Listed n at vs ps → Planned n at vs × (length at ≡ length ps) × (length vs ≡ length ps)
-listed-planned {n} {at} {vs} {ps} h =
-    let e : length at ≡ length ps = sym (length-writes at vs h.rows) ∙ ap length h.same in
-    (rows-planned n at vs h.rows (subst (All (λ (p : Write). p.at < n)) (sym h.same) h.inside), e, sym h.rows ∙ e)
-
-pub held-planned : (n : ℕ) (r : Rows) (ps : List Write) → Held n r ps → Planned n (take r.len r.at) (take r.len r.values)
-held-planned n r ps h =
-    let l = held-length n r ps h in
-    rows-planned n _ _ (l.0 ∙ sym l.1) (subst (All (λ (p : Write). p.at < n)) (sym h.same) h.inside)

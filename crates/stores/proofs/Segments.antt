@@ -5,7 +5,8 @@ use mathlib.Core.List.{List, [], ◌∷◌, ◌++◌}
 use native.Mathlib.Omega.{arith}
 use lib.ListN.{length, take}
 use lib.Seq.{take-append-le}
-use Rattle.stores.specs.Stores.{Write, run, applied}
+use Rattle.stores.specs.declared.Write.{Write}
+use Rattle.stores.specs.Stores.{run, applied}
 use Rattle.stores.proofs.Laws.{run-append}
 
 -- the first m of both

@@ -1,13 +1,15 @@
 -- A call is a refusal or a list of word stores; an allowance cuts it short.
-use Rattle.std.specs.Prelude.{ℕ, ◌+◌, ◌*◌, ◌≤◌, ◌<◌, ◌≡◌, List, [], ◌∷◌, length, get_or, set, take, replicate}
+use Rattle.std.specs.Prelude.{ℕ, ◌+◌, ◌<◌, ◌≡◌, List, [], ◌∷◌, cond, ltb, length, set, take}
 use Rattle.sequences.specs.Sequence.{All}
-use Rattle.layout.specs.Words.{most_lists}
-use Rattle.stores.specs.declared.Rows.{Rows}
+use Rattle.layout.specs.declared.Refusal.{Refusal}
+use Rattle.layout.specs.Words.{number_of}
+use Rattle.stores.specs.declared.Write as D
+use Rattle.stores.specs.declared.Outcome.{Outcome}
+use Rattle.stores.specs.declared.Outcome.TheVariants.{Done, Stopped}
 
--- a word store: word `at` becomes `value`
-pub record Write : Type 0 where
-  pub at : ℕ
-  pub value : ℕ
+-- a word store, as the code has it
+abbrev pub Write : Type 0
+Write = D.Write
 
 abbrev pub write : ℕ → ℕ → Write
 write a v = record { at = a; value = v }
@@ -30,61 +32,54 @@ Spares a = All (λ (p : Write). a ≡ p.at → ⊥)
 
 -- what a call comes to, before any store is made
 pub data Plan : Type 0 where
-  refuse : ℕ → Plan
+  refuse : Refusal → Plan
   stores : List Write → Plan
 
--- "A refusal is its number, no store made."
+-- "A refusal is its number, no store made.": what a call leaves, where `after` makes stores in what is lent
+abbrev pub left_by : {A : Type 0} → (List Write → A → A) → Plan → ℕ → A → A
+left_by after (refuse n) m b = b
+left_by after (stores ps) m b = after (take m ps) b
+
+-- all stores of a plan
+abbrev pub whole_by : {A : Type 0} → (List Write → A → A) → Plan → A → A
+whole_by after (refuse n) b = b
+whole_by after (stores ps) b = after ps b
+
 abbrev pub words_after : Plan → ℕ → List ℕ → List ℕ
-words_after (refuse n) m w = w
-words_after (stores ps) m w = applied ps m w
+words_after p m w = left_by run p m w
 
 -- the number of a plan's refusal, 0 for none, and its stores that an allowance lets through
 abbrev pub plan_number : Plan → ℕ
-plan_number (refuse n) = n
+plan_number (refuse n) = number_of n
 plan_number (stores ps) = 0
 
 abbrev pub made_by : Plan → ℕ → List Write
 made_by (refuse n) m = []
 made_by (stores ps) m = take m ps
 
--- the stores whose addresses and values stand in two rows
-unfoldable pub writes_of : List ℕ → List ℕ → List Write
-writes_of [] vs = []
-writes_of (a ∷ at) [] = []
-writes_of (a ∷ at) (v ∷ vs) = write a v ∷ writes_of at vs
-
 -- the values vs, from address a on
 unfoldable pub in_row : ℕ → List ℕ → List Write
 in_row a [] = []
 in_row a (v ∷ vs) = write a v ∷ in_row (a + 1) vs
 
--- two rows of one length, whose addresses lie below n
-pub record Planned (n : ℕ) (at values : List ℕ) : Type 0 where
-  pub rows : length at ≡ length values
-  pub inside : (i : ℕ) → i < length at → get_or at i 0 < n
+-- all stores go to words below n
+abbrev pub Inside : ℕ → List Write → Type 0
+Inside n = All (λ (p : Write). p.at < n)
 
--- two rows list the stores ps, which go to words below n
-pub record Listed (n : ℕ) (at values : List ℕ) (ps : List Write) : Type 0 where
-  pub rows : length at ≡ length values
-  pub same : writes_of at values ≡ ps
-  pub inside : All (λ (p : Write). p.at < n) ps
+-- "The answer is done with the number of stores, or stopped with the number. Stopped is given if the allowance is below the
+-- whole number needed, and only then."
+abbrev pub outcome_at : ℕ → ℕ → Outcome
+outcome_at whole m = cond (ltb m whole) (Stopped m) (Done whole)
 
--- a short list of stores, kept in two arrays: two for each list have room
-abbrev pub most_rows : ℕ
-most_rows = 2 * most_lists
+abbrev pub outcome_of : List Write → ℕ → Outcome
+outcome_of ps m = outcome_at (length ps) m
 
-abbrev pub writes_in : Rows → List Write
-writes_in r = writes_of (take r.len r.at) (take r.len r.values)
+-- how many stores were made, by the outcome's cases
+abbrev pub made_in : Outcome → ℕ
+made_in (Done n) = n
+made_in (Stopped n) = n
 
--- no store
-abbrev pub no_rows : Rows
-no_rows = record { at = replicate most_rows 0; values = replicate most_rows 0; len = 0 }
-
--- the stores ps are in the rows, and go to words below n
-pub record Held (n : ℕ) (r : Rows) (ps : List Write) : Type 0 where
-  pub at : length r.at ≡ most_rows
-  pub values : length r.values ≡ most_rows
-  pub len : r.len ≡ length ps
-  pub few : length ps ≤ most_rows
-  pub same : writes_in r ≡ ps
-  pub inside : All (λ (p : Write). p.at < n) ps
+-- the outcome of stores that n were made before
+abbrev pub onward : ℕ → Outcome → Outcome
+onward n (Done k) = Done (n + k)
+onward n (Stopped k) = Stopped (n + k)

@@ -6,17 +6,17 @@
 -- `Sound` and `Ordered`, which is soundness without the zero records, stand in lists/specs/Lists.antt. Demand 3 starts from ordered stores
 -- (courses/specs/Demand3.antt), and those that the delete of older versions left, cut anywhere, are recovered as well (`bare`,
 -- courses/specs/Left.antt).
-use Rattle.std.specs.Prelude.{ℕ, ◌+◌, ◌%◌, ◌<◌, ◌≤◌, ◌≡◌, List, [], ◌∷◌, ◌++◌, ◌↔◌, length, get_or}
+use Rattle.std.specs.Prelude.{ℕ, ◌+◌, ◌%◌, ◌<◌, ◌≤◌, ◌≡◌, List, [], ◌∷◌, ◌++◌, ◌↔◌, length, get_or, Ok, Err}
 use Rattle.sequences.specs.Sequence.{◌∈◌, All}
-use Rattle.calls.specs.declared.Answer.TheVariants as A
 use Rattle.calls.specs.Answers.{answer_of}
+use Rattle.stores.specs.declared.Outcome.TheVariants.{Done}
 use Rattle.stores.specs.Stores.{Write, write, stores, run, words_after}
-use Rattle.byte_form.specs.Bytes.{words_in, bytes_after}
+use Rattle.encoding.specs.Bytes.{words_in, bytes_after}
 use Rattle.layout.specs.declared.Layout.{Layout}
+use Rattle.layout.specs.declared.Refusal.TheVariants.{Unsound}
 use Rattle.layout.specs.Words.{tail_words, Node, ident_at, record_at, worn_ident, layout_of}
 use Rattle.lists.specs.Lists.{Ordered, Sound, Blank, blank_asked, Wiped, SameCells, KeepsWorn}
 use Rattle.recovery.specs.Plan.{joined, most_stores, recover_plan}
-use Rattle.calls.specs.declared.Checked.TheVariants as C
 use Rattle.calls.specs.Calls.{check_answer, delete_plan}
 use Rattle.demands.specs.Demand2.{FreeNode}
 use Rattle.courses.specs.Course.{needed, edit_plan}
@@ -65,8 +65,8 @@ Whole w (recover m) = needed (recover_plan w) ≤ m
 pub record Wiping : Type 0 where
   -- Check tells ordered stores that are wiped from those that are not: these are answered 6.
   pub checks : (w : List ℕ) (s : Ordered w)
-      → ((check_answer w ≡ C.Sound) ↔ Wiped (layout_of w) w s.lists.sequence)
-      × ((Wiped (layout_of w) w s.lists.sequence → ⊥) → check_answer w ≡ C.Refused 6)
+      → ((check_answer w ≡ Ok tt) ↔ Wiped (layout_of w) w s.lists.sequence)
+      × ((Wiped (layout_of w) w s.lists.sequence → ⊥) → check_answer w ≡ Err Unsound)
   -- "Delete gains P further stores of 0 over the record words, after the identifier, first word first": behind four stores these
   pub deletes : (w : List ℕ) (s : Sound w) (k p : ℕ) → k < (layout_of w).lists → p < length (s.ordered.lists.sequence k)
       → (ps : List Write) × (length ps ≡ 4)
@@ -74,7 +74,7 @@ pub record Wiping : Type 0 where
   -- "older stores get so by recovery"
   pub older : (w : List ℕ) (s : Ordered w) → Older w s
   -- Whatever store recovery accepts, it leaves no record in a node that is free then ..
-  pub recovered : (w : List ℕ) (m n : ℕ) → answer_of (recover_plan w) m ≡ A.Done n
+  pub recovered : (w : List ℕ) (m n : ℕ) → answer_of (recover_plan w) m ≡ Ok (Done n)
       → Sound (words_after (recover_plan w) m w) × NoRemains (words_after (recover_plan w) m w)
   -- .. "recovery's bound grows by P × N"
   pub bound : (w : List ℕ) (ps : List Write) → recover_plan w ≡ stores ps
@@ -83,8 +83,8 @@ pub record Wiping : Type 0 where
   pub kept : (w : List ℕ) → Sound w → (c : Call) → Whole w c
       → Sound (words_by c w) × NoRemains (words_by c w)
   -- The same from C: after a done delete of a sound store, and after a done recovery of any.
-  pub deleted_bytes : (b : List ℕ) → Sound (words_in b) → length b % 2 ≡ 0 → (k p m n : ℕ) → answer_of (byte_delete b k p) m ≡ A.Done n
+  pub deleted_bytes : (b : List ℕ) → Sound (words_in b) → length b % 2 ≡ 0 → (k p m n : ℕ) → answer_of (byte_delete b k p) m ≡ Ok (Done n)
       → (n ≡ 4 + tail_words (layout_of (words_in b)))
       × Sound (words_in (bytes_after (byte_delete b k p) m b)) × NoRemains (words_in (bytes_after (byte_delete b k p) m b))
-  pub recovered_bytes : (b : List ℕ) (m n : ℕ) → answer_of (byte_recover b) m ≡ A.Done n
+  pub recovered_bytes : (b : List ℕ) (m n : ℕ) → answer_of (byte_recover b) m ≡ Ok (Done n)
       → Sound (words_in (bytes_after (byte_recover b) m b)) × NoRemains (words_in (bytes_after (byte_recover b) m b))

@@ -11,9 +11,8 @@ ghost use Rattle.word_exports.specs.Codes.{part_code};
 pub extern "C" fn words_read(words: &[u16], list: u16, position: u16) -> u32
     ensures { result ≡ part_code (read_words words.now list position) }
 {
-    let part = axle_store::read(words, list, position);
-    if part.len() == 0 {
-        return 0;
+    match axle_store::read(words, list, position) {
+        [] => 0,
+        [first, ..] => 65536 + *first as u32,
     }
-    65536 + part[0] as u32
 }

@@ -6,15 +6,15 @@ use lib.ListN.{length, set}
 use borrow.Author.Tests.{eq-eqb}
 use Rattle.calls.specs.Answers.{answer_of}
 use Rattle.stores.specs.Stores.{Plan, words_after}
-use Rattle.byte_form.specs.Bytes.{words_in, bytes_after}
-use Rattle.byte_form.proofs.Laws.{words-after, length-after}
+use Rattle.encoding.specs.Bytes.{words_in, bytes_after}
+use Rattle.encoding.proofs.Laws.{words-after, length-after}
 use Rattle.layout.specs.Words.{ident_at, worn_ident, layout_of}
 use Rattle.lists.specs.Lists.{Sound, KeepsWorn}
 use Rattle.edits.specs.Edits.{mark_stores}
 use Rattle.calls.specs.Calls.{mark_plan}
 use Rattle.demands.specs.Demand2.{FreeNode}
 use Rattle.byte_calls.specs.Plans.{byte_mark, byte_recover}
-use Rattle.axle.specs.Interface.{code_of}
+use Rattle.byte_calls.specs.Interface.{code_of}
 use Rattle.byte_courses.specs.ByteCourse.{byte_edit, in_words}
 use Rattle.byte_courses.proofs.ByteCourse.{edit-words, recover-words}
 use Rattle.worn.specs.Worn.{Call, edit, mark, recover, words_by, words_by_all, bytes_by, bytes_by_all}

@@ -2,21 +2,18 @@
 use Prim.Native.Nat.{ℕ}
 use mathlib.Core.Path.{◌≡◌, refl, ap, ◌∙◌, sym, subst}
 use mathlib.Core.List.{List, [], ◌∷◌}
-use mathlib.Core.Bool.{Bool, true, false}
-use lib.Dec.{eqb}
 use lib.ListN.{length, get_or}
-use borrow.Author.Tests.{eqb-true}
+use Rattle.std.specs.Prelude.{Option, Some, None, Result, Ok, Err}
 use Rattle.sequences.specs.Sequence.{◌∈◌}
 use Rattle.stores.specs.Stores.{Plan, refuse, stores, applied, words_after}
 use Rattle.layout.specs.declared.Layout.{Layout}
-use Rattle.layout.specs.declared.Opened.{Opened}
-use Rattle.layout.specs.declared.Opened.TheVariants as O
-use Rattle.layout.specs.Words.{Node, size_of, ident_at, worn_ident, layout_of, opened, after_open, ask}
+use Rattle.layout.specs.declared.Refusal.{Refusal}
+use Rattle.layout.specs.Words.{Node, size_of, ident_at, worn_ident, layout_of, opened, after_open}
 use Rattle.layout.proofs.Laws.{opened-open}
 use Rattle.lists.specs.Lists.{SameCells}
 use Rattle.edits.proofs.Worn.{spares-cell}
-use Rattle.recovery.specs.Plan.{joined, recover_stores, fitting_of, refusal_from, recover_of, recover_plan, Accepted}
-use Rattle.recovery.proofs.Whole.{number-accepted}
+use Rattle.recovery.specs.Plan.{joined, recover_stores, fitting_of, refusal_from, unless_refused, recover_of, recover_plan, Accepted}
+use Rattle.recovery.proofs.Whole.{unrefused-accepted}
 use Rattle.courses.proofs.Final.{worn-spares}
 use Rattle.worn.specs.Worn.{WornNode}
 
@@ -33,15 +30,15 @@ recovers w m i n o = by (opened w) refl
     P : Plan → Type 0
     P p = SameCells (layout_of w) w (words_after p m w) (i ∷ [])
 
-    asked : (b : Bool) → length w ≡ size_of (layout_of w) → eqb (refusal_from (layout_of w) w 0 (layout_of w).lists) 0 ≡ b
-        → P (ask b (refuse (refusal_from (layout_of w) w 0 (layout_of w).lists)) (stores (recover_stores (layout_of w) w (fitting_of (layout_of w) w))))
-    asked false e z = λ d f j g. refl
-    asked true e z =
-        cut-kept (layout_of w) w e (fitting_of (layout_of w) w) (number-accepted (layout_of w) w (eqb-true _ _ z)) i n.node o n.worn m
+    asked : (r : Option Refusal) → length w ≡ size_of (layout_of w) → refusal_from (layout_of w) w 0 (layout_of w).lists ≡ r
+        → P (unless_refused r (stores (recover_stores (layout_of w) w (fitting_of (layout_of w) w))))
+    asked (Some n) e z = λ d f j g. refl
+    asked None e z =
+        cut-kept (layout_of w) w e (fitting_of (layout_of w) w) (unrefused-accepted (layout_of w) w z) i n.node o n.worn m
 
-    by : (x : Opened) → opened w ≡ x → P (after_open x refuse (λ l. recover_of l w))
-    by (O.Refused k) e = λ d f j g. refl
-    by (O.Open l) e =
+    by : (x : Result Layout Refusal) → opened w ≡ x → P (after_open x refuse (λ l. recover_of l w))
+    by (Err k) e = λ d f j g. refl
+    by (Ok l) e =
         let q = opened-open w l e in
         subst (λ (a : Layout). P (recover_of a w)) (sym q.0)
-        (asked (eqb (refusal_from (layout_of w) w 0 (layout_of w).lists) 0) (q.3 ∙ ap size_of q.0) refl)
+        (asked (refusal_from (layout_of w) w 0 (layout_of w).lists) (q.3 ∙ ap size_of q.0) refl)

@@ -9,17 +9,18 @@ use native.Mathlib.Decide.{dec_lt}
 use native.Mathlib.Omega.{arith}
 use lib.Dec.{eqb}
 use lib.ListN.{length, get_or}
+use Rattle.std.specs.Prelude.{Result, Ok, Err}
 use Rattle.sequences.specs.Sequence.{◌∈◌}
 use Rattle.stores.specs.Stores.{Plan, applied, words_after}
 use Rattle.layout.specs.declared.Layout.{Layout}
-use Rattle.layout.specs.declared.Opened.TheVariants as O
+use Rattle.layout.specs.declared.Refusal.{Refusal}
+use Rattle.layout.specs.declared.Refusal.TheVariants.{NoList, Unsound}
 use Rattle.layout.specs.Words.{Node, ident_at, worn_ident, layout_of, opened}
 use Rattle.layout.proofs.Laws.{opened-open}
 use Rattle.lists.specs.Lists.{Ordered, Sound, KeepsWorn}
 use Rattle.lists.specs.Decide.{view_of, count_in, sound_of}
 use Rattle.lists.proofs.Same.{kept-worn}
-use Rattle.requests.specs.declared.Looked.TheVariants as K
-use Rattle.requests.specs.declared.Looked.{Looked}
+use Rattle.requests.specs.declared.Look.{Look}
 use Rattle.requests.specs.declared.Request.{Request}
 use Rattle.requests.specs.declared.Request.TheVariants.{Member, Gap, Gaps, Mark}
 use Rattle.requests.specs.Requests.{list_of, look_of}
@@ -137,13 +138,13 @@ mark-after y s c f =
     (subst (λ (a : Layout). After a v v) m.1 (sound-after v m.0))
 
 -- words that are not sound: every look is refused, so a call stores nothing
-module _ (y : List ℕ) (l : Layout) (o : opened y ≡ O.Open l) (u : sound_of l y ≡ false) where
-  unsound-look : (q : Request) → (n : ℕ) × (look_of y q ≡ K.Refused n)
+module _ (y : List ℕ) (l : Layout) (o : opened y ≡ Ok l) (u : sound_of l y ≡ false) where
+  unsound-look : (q : Request) → (n : Refusal) × (look_of y q ≡ Err n)
   unsound-look q = by (dec_lt (list_of q) l.lists)
     where
-      by : Dec (list_of q < l.lists) → (n : ℕ) × (look_of y q ≡ K.Refused n)
-      by (yes h) = (6, sym (look-refused y q o (sym (site-unsound l (view_of l y) (count_in l y) q h u))))
-      by (no h) = (5, sym (look-refused y q o (sym (site-unlisted l (view_of l y) (count_in l y) q (opened-open y l o).2 (omega arith)))))
+      by : Dec (list_of q < l.lists) → (n : Refusal) × (look_of y q ≡ Err n)
+      by (yes h) = (Unsound, sym (look-refused y q o (sym (site-unsound l (view_of l y) (count_in l y) q h u))))
+      by (no h) = (NoList, sym (look-refused y q o (sym (site-unlisted l (view_of l y) (count_in l y) q (opened-open y l o).2 (omega arith)))))
 
   unsound-edit : (e : Edit) (m : ℕ) → words_after (edit_plan y e) m y ≡ y
   unsound-edit (insert k p c words) m =
@@ -173,10 +174,12 @@ module _ (l : Layout) (w y : List ℕ) (a : After l w y) where
       by false q = subst (After l w) (sym (unsound-edit y l a.standing.opens q e m)) a
   call-after (mark c) = by (sound_of l y) refl (look_of y (Mark c)) refl
     where
-      by : (b : Bool) → sound_of l y ≡ b → (x : Looked) → look_of y (Mark c) ≡ x → After l w (words_after (mark_plan y c) mark_stores y)
+      by : (b : Bool) → sound_of l y ≡ b → (x : Result Look Refusal) → look_of y (Mark c) ≡ x → After l w (words_after (mark_plan y c) mark_stores y)
       by false q x e = subst (After l w) (sym (unsound-mark y l a.standing.opens q c)) a
-      by true q (K.Refused n) e = subst (λ (p : Plan). After l w (words_after p mark_stores y)) (sym (mark-refused y c e)) a
-      by true q (K.At j t) e =
+      by true q (Err n) e = subst (λ (p : Plan). After l w (words_after p mark_stores y)) (sym (mark-refused y c e)) a
+      by true q (Ok x) e =
+          let j = x.layout in
+          let t = x.site in
           let d = looked y (Mark c) j t e in
           let f = mark-facts j y c t d.1 in
           let o = (opened-open y j d.0).0 in

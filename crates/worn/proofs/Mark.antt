@@ -5,17 +5,18 @@ use mathlib.Core.List.{List, ◌∷◌}
 use mathlib.Core.Bool.{Bool, true, false}
 use lib.ListN.{get_or, set}
 use borrow.Author.Tests.{eq-eqb}
+use Rattle.std.specs.Prelude.{Ok, Err}
 use Rattle.sequences.specs.Sequence.{◌∈◌}
-use Rattle.calls.specs.declared.Answer.TheVariants as A
 use Rattle.calls.specs.Answers.{answer_of}
+use Rattle.stores.specs.declared.Outcome.TheVariants.{Done}
 use Rattle.stores.specs.Stores.{run, Plan, refuse, stores, words_after}
 use Rattle.layout.specs.declared.Layout.{Layout}
+use Rattle.layout.specs.declared.Refusal.TheVariants.{NoNode, NotFree}
 use Rattle.layout.specs.Words.{Node, is_node, ask, ident_at, worn_ident, worn, is_free, layout_of}
 use Rattle.layout.proofs.Laws.{node-is}
 use Rattle.lists.specs.Lists.{Wiped, Sound, SameCells}
 use Rattle.lists.specs.Decide.{view_of}
 use Rattle.lists.proofs.Unlisted.{given-ident, given-list, given-layout, given-ordered, given-wiped}
-use Rattle.requests.specs.declared.Sited.TheVariants as S
 use Rattle.requests.specs.declared.Request.TheVariants.{Mark}
 use Rattle.requests.specs.Requests.{mark_at, site_in, site_of}
 use Rattle.requests.proofs.Laws.{look-refused, look_at}
@@ -39,19 +40,19 @@ module _ (w : List ℕ) (s : Sound w) (c : ℕ) where
   unfolding site_in
   site = rw (sound-decided w s)
 
-  planned : mark_plan w c ≡ ask (is_node l c) (refuse 8) (ask (is_free (get_or w (ident_at l c) 0)) (refuse 13) (stores (mark_writes l c)))
+  planned : mark_plan w c ≡ ask (is_node l c) (refuse NoNode) (ask (is_free (get_or w (ident_at l c) 0)) (refuse NotFree) (stores (mark_writes l c)))
   planned = by (is_node l c) (is_free (get_or w (ident_at l c) 0)) site
     where
-      by : (a b : Bool) → site_of l w (Mark c) ≡ ask a (S.Refused 8) (ask b (S.Refused 13) (S.At (record { before = 0; cell = c; after = 0; count = 0 })))
-          → mark_plan w c ≡ ask a (refuse 8) (ask b (refuse 13) (stores (mark_writes l c)))
+      by : (a b : Bool) → site_of l w (Mark c) ≡ ask a (Err NoNode) (ask b (Err NotFree) (Ok (record { before = 0; cell = c; after = 0; count = 0 })))
+          → mark_plan w c ≡ ask a (refuse NoNode) (ask b (refuse NotFree) (stores (mark_writes l c)))
       by false b e = mark-refused w c (sym (look-refused w (Mark c) (sound-opened w s) e))
       by true false e = mark-refused w c (sym (look-refused w (Mark c) (sound-opened w s) e))
       by true true e = mark-at w c (sym (look_at w (Mark c) (sound-opened w s) e))
 
-  mark-answer : answer_of (mark_plan w c) mark_stores ≡ ask (is_node l c) (A.Refused 8) (ask (is_free (get_or w (ident_at l c) 0)) (A.Refused 13) (A.Done 1))
+  mark-answer : answer_of (mark_plan w c) mark_stores ≡ ask (is_node l c) (Err NoNode) (ask (is_free (get_or w (ident_at l c) 0)) (Err NotFree) (Ok (Done 1)))
   mark-answer = ap (λ (p : Plan). answer_of p mark_stores) planned ∙ by (is_node l c) (is_free (get_or w (ident_at l c) 0))
     where
-      by : (a b : Bool) → answer_of (ask a (refuse 8) (ask b (refuse 13) (stores (mark_writes l c)))) mark_stores ≡ ask a (A.Refused 8) (ask b (A.Refused 13) (A.Done 1))
+      by : (a b : Bool) → answer_of (ask a (refuse NoNode) (ask b (refuse NotFree) (stores (mark_writes l c)))) mark_stores ≡ ask a (Err NoNode) (ask b (Err NotFree) (Ok (Done 1)))
       by false b = refl
       by true false = refl
       by true true = refl

@@ -9,9 +9,12 @@ use native.Mathlib.Nat.{mul-div_left, mul-mod_left, suc-mul}
 use lib.ListN.{length, get_or, take}
 use lib.Seq.{length-take-le}
 use borrow.Author.Tests.{eq-eqb, lt-ltb, le-leb, lt-leb}
+use Rattle.std.specs.Prelude.{Option, Some, None, Err}
 use Rattle.sequences.specs.Sequence.{◌∈◌}
 use Rattle.stores.specs.Stores.{Write, refuse, stores}
 use Rattle.layout.specs.declared.Layout.{Layout}
+use Rattle.layout.specs.declared.Refusal.{Refusal}
+use Rattle.layout.specs.declared.Refusal.TheVariants.{Full}
 use Rattle.layout.specs.Words.{Node, first_node, ident_at, Unlisted, free, worn, layout_of}
 use Rattle.layout.proofs.Laws.{node-is}
 use Rattle.lists.specs.Lists.{Sound}
@@ -19,9 +22,6 @@ use Rattle.lists.specs.Decide.{View, view_of, count_in, sequence_in, sequence_of
 use Rattle.lists.proofs.Nodes.{unlisted-out, cells-sum}
 use Rattle.lists.proofs.Unique.{list-sequence}
 use Rattle.lists.proofs.Stepwise.{sound-number}
-use Rattle.requests.specs.declared.Free.{Free}
-use Rattle.requests.specs.declared.Free.TheVariants.{Cell, Full}
-use Rattle.requests.specs.declared.Sited.TheVariants.{Refused}
 use Rattle.requests.specs.declared.Request.TheVariants.{Gap, Gaps}
 use Rattle.requests.specs.Requests.{around, first_free, free_cells, gap_at, gaps_at, site_in, site_of}
 use Rattle.requests.proofs.Laws.{look-refused}
@@ -82,22 +82,22 @@ module _ (w : List ℕ) (s : Sound w) where
     its : sequence_of l w k ≡ s.ordered.lists.sequence k
     its = list-sequence l w k hk (s.ordered.lists.sequence k) (s.ordered.lists.lists k hk)
 
-    stores-refused : {ps : List Write} {n : ℕ} → stores ps ≡ refuse n → ⊥
+    stores-refused : {ps : List Write} {n : Refusal} → stores ps ≡ refuse n → ⊥
     stores-refused e = let z : ◌≡◌ {A = ℕ} 0 1 = cc in omega arith
 
     -- one record
     module _ (size : length words ≡ l.width) where
-      full-site : first_free (view_of l w).ident (around l c l.nodes) ≡ Full → site_of l w (Gap k p c (length words)) ≡ Refused 10
+      full-site : first_free (view_of l w).ident (around l c l.nodes) ≡ None → site_of l w (Gap k p c (length words)) ≡ Err Full
       unfolding site_in gap_at
       full-site e = rw (lt-ltb _ _ hk, sound-decided w s, its, le-leb _ _ hp, node-is l c hc, eq-eqb _ _ size, e)
 
-      pub full : (insert_plan w k p c words ≡ refuse 10) ↔ ((i : ℕ) → FreeNode w i → ⊥)
+      pub full : (insert_plan w k p c words ≡ refuse Full) ↔ ((i : ℕ) → FreeNode w i → ⊥)
       full = ((demand2.inserts w s k p c words).full, λ none. by none (first_free (view_of l w).ident (around l c l.nodes)) refl)
         where
-          by : ((i : ℕ) → FreeNode w i → ⊥) → (x : Free) → first_free (view_of l w).ident (around l c l.nodes) ≡ x
-              → insert_plan w k p c words ≡ refuse 10
-          by none Full e = insert-refused w k p c words (sym (look-refused w (Gap k p c (length words)) (sound-opened w s) (full-site e)))
-          by none (Cell i) e =
+          by : ((i : ℕ) → FreeNode w i → ⊥) → (x : Option ℕ) → first_free (view_of l w).ident (around l c l.nodes) ≡ x
+              → insert_plan w k p c words ≡ refuse Full
+          by none None e = insert-refused w k p c words (sym (look-refused w (Gap k p c (length words)) (sound-opened w s) (full-site e)))
+          by none (Some i) e =
               let f = first-free (view_of l w).ident (around l c l.nodes) i e in
               absurd (none i (record { node = first-node l w c i hc f; free = f.free }))
 
@@ -117,7 +117,7 @@ module _ (w : List ℕ) (s : Sound w) where
           by zero h e = absurd (omega arith)
           by (suc n) h e = omega (arith, e, suc-mul n l.width, s.ordered.in_range.some_width)
 
-      few-site : length (free_nodes w) < r → site_of l w (Gaps k p c (length words)) ≡ Refused 10
+      few-site : length (free_nodes w) < r → site_of l w (Gaps k p c (length words)) ≡ Err Full
       unfolding site_in gaps_at
       few-site h =
           rw (
@@ -131,7 +131,7 @@ module _ (w : List ℕ) (s : Sound w) where
             lt-leb (length words / l.width) (length (free_cells (view_of l w).ident (around l c l.nodes))) (omega (arith, number, met, h)),
           )
 
-      pub several-full : (several_plan w k p c words ≡ refuse 10) ↔ (length (free_nodes w) < r)
+      pub several-full : (several_plan w k p c words ≡ refuse Full) ↔ (length (free_nodes w) < r)
       several-full = (
         (λ e. by e (dec_lt (length (free_nodes w)) r)),
         λ h. several-refused w k p c words (sym (look-refused w (Gaps k p c (length words)) (sound-opened w s) (few-site h))),
@@ -140,7 +140,7 @@ module _ (w : List ℕ) (s : Sound w) where
           cells : List ℕ
           cells = take r (free_cells (view_of l w).ident (around l c l.nodes))
 
-          by : several_plan w k p c words ≡ refuse 10 → Dec (length (free_nodes w) < r) → length (free_nodes w) < r
+          by : several_plan w k p c words ≡ refuse Full → Dec (length (free_nodes w) < r) → length (free_nodes w) < r
           by e (yes h) = h
           by e (no h) =
               let n : length cells ≡ r = length-take-le r _ (omega (arith, met)) in

@@ -4,12 +4,13 @@
 --
 -- That the inserts keep worn nodes stands in their contracts too (axle_store/src/lib.rt, axle/src/lib.rt), and that a course of demand 3 does
 -- (courses/specs/Demand3.antt). A member whose identifier is altered to 65,535 is a member: `member_worn` (distance/specs/Distance.antt).
-use Rattle.std.specs.Prelude.{ℕ, ◌+◌, ◌*◌, ◌%◌, ◌<◌, ◌≤◌, ◌≡◌, List, [], ◌∷◌, ◌⊎◌, ◌↔◌, length, get_or, set}
+use Rattle.std.specs.Prelude.{ℕ, ◌+◌, ◌*◌, ◌%◌, ◌<◌, ◌≤◌, ◌≡◌, List, [], ◌∷◌, ◌⊎◌, ◌↔◌, length, get_or, set, Ok, Err}
 use Rattle.sequences.specs.Sequence.{◌∈◌}
-use Rattle.calls.specs.declared.Answer.TheVariants as A
 use Rattle.calls.specs.Answers.{answer_of}
+use Rattle.stores.specs.declared.Outcome.TheVariants.{Done}
 use Rattle.stores.specs.Stores.{refuse, words_after}
-use Rattle.byte_form.specs.Bytes.{words_in, bytes_after}
+use Rattle.encoding.specs.Bytes.{words_in, bytes_after}
+use Rattle.layout.specs.declared.Refusal.TheVariants.{NoNode, Full, NotFree}
 use Rattle.layout.specs.Words.{Node, first_node, is_node, ask, ident_at, worn_ident, is_free, is_worn, layout_of}
 use Rattle.lists.specs.Lists.{Sound, SameCells, KeepsWorn}
 use Rattle.lists.specs.Decide.{view_of, cells_with}
@@ -19,7 +20,7 @@ use Rattle.calls.specs.Calls.{insert_plan, several_plan, delete_plan, mark_plan}
 use Rattle.demands.specs.Demand2.{FreeNode}
 use Rattle.courses.specs.Course.{Edit, edit_plan}
 use Rattle.byte_calls.specs.Plans.{byte_mark, byte_recover}
-use Rattle.axle.specs.Interface.{code_of}
+use Rattle.byte_calls.specs.Interface.{code_of}
 use Rattle.byte_courses.specs.ByteCourse.{byte_edit}
 
 -- a node with identifier 65,535
@@ -38,7 +39,7 @@ worn_nodes w = cells_with is_worn (view_of (layout_of w) w) (first_node (layout_
 pub record Marks (w : List ℕ) (s : Sound w) (c : ℕ) : Type 0 where
   -- 8 and 13 in this order, or done with one store
   pub answer : answer_of (mark_plan w c) mark_stores
-      ≡ ask (is_node (layout_of w) c) (A.Refused 8) (ask (is_free (get_or w (ident_at (layout_of w) c) 0)) (A.Refused 13) (A.Done 1))
+      ≡ ask (is_node (layout_of w) c) (Err NoNode) (ask (is_free (get_or w (ident_at (layout_of w) c) 0)) (Err NotFree) (Ok (Done 1)))
   -- of a free node: its identifier is stored, and nothing else,
   pub words : FreeNode w c → words_after (mark_plan w c) mark_stores w ≡ set w (ident_at (layout_of w) c) worn_ident
   -- all lists are as they were, and the node is worn.
@@ -84,10 +85,10 @@ pub record Worn : Type 0 where
   -- identifier 0, and an insert of several records exactly if fewer have it than there are records.
   pub full : (w : List ℕ) (s : Sound w) (k p c : ℕ) (words : List ℕ) → k < (layout_of w).lists → p ≤ length (s.ordered.lists.sequence k)
       → Node (layout_of w) c → length words ≡ (layout_of w).width
-      → (insert_plan w k p c words ≡ refuse 10) ↔ ((i : ℕ) → FreeNode w i → ⊥)
+      → (insert_plan w k p c words ≡ refuse Full) ↔ ((i : ℕ) → FreeNode w i → ⊥)
   pub several_full : (w : List ℕ) (s : Sound w) (k p c r : ℕ) (words : List ℕ) → k < (layout_of w).lists → p ≤ length (s.ordered.lists.sequence k)
       → Node (layout_of w) c → 0 < r → length words ≡ r * (layout_of w).width
-      → (several_plan w k p c words ≡ refuse 10) ↔ (length (free_nodes w) < r)
+      → (several_plan w k p c words ≡ refuse Full) ↔ (length (free_nodes w) < r)
   -- "the search for a free cell passes over them": whatever words it is given, and wherever it is cut, an insert keeps all words of every node
   -- with identifier 65,535; and so does a delete.
   pub inserts : (w : List ℕ) (k p c : ℕ) (words : List ℕ) (m : ℕ) → KeepsWorn (layout_of w) w (words_after (insert_plan w k p c words) m w)

@@ -7,10 +7,11 @@ use native.Mathlib.Nat.{add-zero}
 use native.Mathlib.Numerals.{add-one}
 use native.Mathlib.Decide.{dec_lt}
 use lib.ListN.{length, get_or, set, drop, length-append, drop_of_length-le, get_or-append}
-use lib.Seq.{sets, length-sets, set_out, set-append_seam, take-nil, drop-cons}
+use lib.Seq.{sets, set_out, set-append_seam, take-nil, drop-cons}
 use borrow.Author.Tests.{lt-ltb, le-ltb}
 use Rattle.sequences.specs.Sequence.{All}
-use Rattle.writing.specs.Text.{codes, digit, digits, decimal, number_from, spaced, overwritten, Wrote, Room}
+use Rattle.writing.specs.Text.{codes, digit, digits, decimal, number_from, spaced, overwritten, Wrote, Writes, Room}
+use Rattle.writing.specs.declared.Cursor.{Cursor}
 
 -- one digit, or more
 digits-one : (k n : ℕ) → n < 10 → digits (suc k) n ≡ digit n ∷ []
@@ -122,11 +123,8 @@ sets-append o n (a ∷ s) t =
     let e : n + suc (length s) ≡ suc n + length s = omega arith in
     ap (λ (m : ℕ). sets (sets (set o n a) (suc n) s) m t) e ∙ sets-append (set o n a) (suc n) s t
 
-pub wrote_none : (o : List ℕ) (n : ℕ) → Wrote o n [] o n
-wrote_none o n = record { bytes = refl; next = sym (add-zero n) }
-
-pub wrote-append : {o o' o'' : List ℕ} {n m r : ℕ} {s t : List ℕ} → Wrote o n s o' m → Wrote o' m t o'' r → Wrote o n (s ++ t) o'' r
-wrote-append {o} {o'} {o''} {n} {m} {r} {s} {t} a b =
+joined : {o o' o'' : List ℕ} {n m r : ℕ} {s t : List ℕ} → Wrote o n s o' m → Wrote o' m t o'' r → Wrote o n (s ++ t) o'' r
+joined {o} {o'} {o''} {n} {m} {r} {s} {t} a b =
     record {
       bytes =
           b.bytes ∙ ap (λ (x : List ℕ). sets x m t) a.bytes ∙ ap (λ (x : ℕ). sets (sets o n s) x t) a.next
@@ -134,22 +132,15 @@ wrote-append {o} {o'} {o''} {n} {m} {r} {s} {t} a b =
       next = omega (arith, a.next, b.next, length-append s t);
     }
 
--- one character, in the buffer or behind it
-pub wrote_one : (o : List ℕ) (n b : ℕ) → Wrote o n (b ∷ []) (set o n b) (n + 1)
-wrote_one o n b = record { bytes = refl; next = refl }
-
-pub wrote-behind : (o : List ℕ) (n b : ℕ) → length o ≤ n → Wrote o n (b ∷ []) o (n + 1)
-wrote-behind o n b h = record { bytes = sym (set_out o n b h); next = refl }
-
-pub wrote-length : {o o' : List ℕ} {n m : ℕ} {t : List ℕ} → Wrote o n t o' m → length o' ≡ length o
-wrote-length {o} {o'} {n} {m} {t} h = ap length h.bytes ∙ length-sets o n t
+pub wrote-append : {c c' c'' : Cursor} {s t : List ℕ} → Writes c s c' → Writes c' t c'' → Writes c (s ++ t) c''
+wrote-append a b = record { wrote = joined a.wrote b.wrote; same_buffer = b.same_buffer ∙ a.same_buffer }
 
 -- room for two texts is room for the first, and then for the second
 pub room-first : {n : ℕ} (s t : List ℕ) → Room n (s ++ t) → Room n s
 room-first s t h = record { ends = omega (arith, h.ends, length-append s t) }
 
-pub room-rest : {o o' : List ℕ} {n m : ℕ} {s : List ℕ} (t : List ℕ) → Room n (s ++ t) → Wrote o n s o' m → Room m t
-room-rest {o} {o'} {n} {m} {s} t h a = record { ends = omega (arith, h.ends, length-append s t, a.next) }
+pub room-rest : {c c' : Cursor} {s : List ℕ} (t : List ℕ) → Room c.at (s ++ t) → Writes c s c' → Room c'.at t
+room-rest {s = s} t h a = record { ends = omega (arith, h.ends, length-append s t, a.wrote.next) }
 
 -- from the front of the buffer on
 sets-out : (o : List ℕ) (n : ℕ) (t : List ℕ) → length o ≤ n → sets o n t ≡ o
@@ -173,31 +164,28 @@ sets_over p (b ∷ o) (a ∷ t) =
 pub wrote-over : {o o' : List ℕ} {m : ℕ} {t : List ℕ} → Wrote o 0 t o' m → (m ≡ length t) × (o' ≡ overwritten t o)
 wrote-over {o} {o'} {m} {t} h = (omega (arith, h.next), h.bytes ∙ sets_over [] o t)
 
--- a text on its way: of the whole, to be written from place n of the buffer o on, the rest is still to be written, from place m of the buffer o' on
-pub record Writing (o : List ℕ) (n : ℕ) (whole : List ℕ) (o' : List ℕ) (m : ℕ) (rest : List ℕ) : Type 0 where
+-- a text on its way: of the whole, to be written from the cursor c on, the rest is still to be written, from c' on
+pub record Writing (c : Cursor) (whole : List ℕ) (c' : Cursor) (rest : List ℕ) : Type 0 where
   pub front : List ℕ
-  pub wrote : Wrote o n front o' m
+  pub wrote : Writes c front c'
   pub parts : front ++ rest ≡ whole
-  pub room : Room n whole
+  pub room : Room c.at whole
 
-pub writing_start : (o : List ℕ) (n : ℕ) (t : List ℕ) → Room n t → Writing o n t o n t
-writing_start o n t h = record { front = []; wrote = wrote_none o n; parts = refl; room = h }
+pub writing_start : (c : Cursor) (t : List ℕ) → Room c.at t → Writing c t c t
+writing_start c t h =
+    record { front = []; wrote = record { wrote = record { bytes = refl; next = sym (add-zero c.at) }; same_buffer = refl }; parts = refl; room = h }
 
-module _ {o : List ℕ} {n : ℕ} {whole : List ℕ} {o' : List ℕ} {m : ℕ} where
-  pub writing-room : (s t : List ℕ) → Writing o n whole o' m (s ++ t) → Room m s
+module _ {c : Cursor} {whole : List ℕ} {c' : Cursor} where
+  pub writing-room : (s t : List ℕ) → Writing c whole c' (s ++ t) → Room c'.at s
   writing-room s t h =
-      room-first s t (room-rest (s ++ t) (subst (λ (x : List ℕ). Room n x) (sym h.parts) h.room) h.wrote)
+      room-first s t (room-rest (s ++ t) (subst (λ (x : List ℕ). Room c.at x) (sym h.parts) h.room) h.wrote)
 
-  pub writing_step : {o'' : List ℕ} {r : ℕ} {s : List ℕ} (t : List ℕ) → Writing o n whole o' m (s ++ t) → Wrote o' m s o'' r
-      → Writing o n whole o'' r t
-  writing_step {o''} {r} {s} t h w =
+  pub writing_step : {c'' : Cursor} {s : List ℕ} (t : List ℕ) → Writing c whole c' (s ++ t) → Writes c' s c'' → Writing c whole c'' t
+  writing_step {c''} {s} t h w =
       record { front = h.front ++ s; wrote = wrote-append h.wrote w; parts = append_assoc h.front s t ∙ h.parts; room = h.room }
 
-  pub writing-done : Writing o n whole o' m [] → Wrote o n whole o' m
-  writing-done h = subst (λ (t : List ℕ). Wrote o n t o' m) (sym (append-nil h.front) ∙ h.parts) h.wrote
-
-  pub writing-length : {t : List ℕ} → Writing o n whole o' m t → length o' ≡ length o
-  writing-length h = wrote-length h.wrote
+  pub writing-done : Writing c whole c' [] → Writes c whole c'
+  writing-done h = subst (λ (t : List ℕ). Writes c t c') (sym (append-nil h.front) ∙ h.parts) h.wrote
 
 -- what is left of a list: one more member and the rest, or nothing
 pub drop-next : (t : List ℕ) (i : ℕ) → i < length t → drop i t ≡ get_or t i 0 ∷ drop (i + 1) t

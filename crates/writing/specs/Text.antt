@@ -3,6 +3,7 @@ use Rattle.std.specs.Prelude.{ℕ, zero, suc, ◌+◌, ◌*◌, ◌-◌, ◌/◌
 use Prim.Native.Char.{code}
 use Prim.Native.String.{String, [] as none, ◌∷◌ as ◌then◌}
 use Rattle.std.proofs.lemmas.List.Edits.{sets}
+use Rattle.writing.specs.declared.Cursor.{Cursor}
 
 -- the codes of a quoted text
 abbrev pub codes : String → List ℕ
@@ -39,6 +40,11 @@ overwritten text old = take (length old) text ++ drop (length text) old
 pub record Wrote (o : List ℕ) (n : ℕ) (text : List ℕ) (o' : List ℕ) (m : ℕ) : Type 0 where
   pub bytes : o' ≡ sets o n text
   pub next : m ≡ n + length text
+
+-- the same at the place of a cursor, in its buffer: c becomes c'
+pub record Writes (c : Cursor) (text : List ℕ) (c' : Cursor) : Type 0 where
+  pub wrote : Wrote c.out.now c.at text c'.out.now c'.at
+  pub same_buffer : c'.out.ghost_name ≡ c.out.ghost_name
 
 -- a text from place n on ends at a number of 32 bits, so no place wraps
 pub record Room (n : ℕ) (text : List ℕ) : Type 0 where

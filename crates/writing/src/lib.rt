@@ -1,76 +1,67 @@
-// Text in a lent buffer. Each function writes its text from place n of the buffer on, as far as it fits, and answers the place behind
-// it in any case.
+// Text in a lent buffer.
 #![tactic(auto)]
 
 ghost use Rattle.std.specs.Prelude.{[], ◌∷◌, ◌++◌};
-ghost use Rattle.writing.specs.Text.{codes, decimal, spaced, Wrote, Room};
+ghost use Rattle.writing.specs.Text.{decimal, spaced, Writes, Room};
 
-// One character.
-pub fn put(out: &mut [u8], n: usize, b: u8) -> usize
-    requires { Room n (b ∷ []) }
-    ensures { Wrote out.old n (b ∷ []) out.new result }
-{
-    if out.len() <= n {
-        return n + 1;
+// A place in a lent buffer. Each method writes its text there, as far as it fits, and moves behind it in any case.
+#[derive(Drop)]
+pub struct Cursor<'a> {
+    pub out: &'a mut [u8],
+    pub at: usize,
+}
+
+impl Cursor<'_> {
+    // One character.
+    pub fn put(&mut self, b: u8)
+        requires { Room self.old.at (b ∷ []) }
+        ensures { Writes self.old (b ∷ []) self.new }
+    {
+        if self.at < self.out.len() {
+            self.out[self.at] = b;
+        }
+        self.at += 1;
     }
-    out[n] = b;
-    n + 1
-}
 
-// A given text.
-pub fn text(out: &mut [u8], n: usize, t: &[u8]) -> usize
-    requires { Room n t.now }
-    ensures { Wrote out.old n t.now out.new result }
-{
-    let mut m = n;
-    let mut i: usize = 0;
-    while i < t.len() {
-        m = put(out, m, t[i]);
-        i += 1;
+    // A given text.
+    pub fn text(&mut self, t: &str)
+        requires { Room self.old.at t.now }
+        ensures { Writes self.old t.now self.new }
+    {
+        for b in t.as_bytes() {
+            self.put(*b);
+        }
     }
-    m
-}
 
-// A number in decimal.
-pub fn number(out: &mut [u8], n: usize, x: u16) -> usize
-    requires { Room n (decimal x) }
-    ensures { Wrote out.old n (decimal x) out.new result }
-{
-    if x < 10 {
-        return put(out, n, b'0' + x as u8);
+    // A number in decimal.
+    pub fn number(&mut self, x: u16)
+        requires { Room self.old.at (decimal x) }
+        ensures { Writes self.old (decimal x) self.new }
+    {
+        if x < 10 {
+            self.put(b'0' + x as u8);
+        } else {
+            self.number(x / 10);
+            self.put(b'0' + (x % 10) as u8);
+        }
     }
-    let m = number(out, n, x / 10);
-    put(out, m, b'0' + (x % 10) as u8)
-}
 
-// A given text, and a number.
-pub fn labelled(out: &mut [u8], n: usize, t: &[u8], x: u16) -> usize
-    requires { Room n (t.now ++ decimal x) }
-    ensures { Wrote out.old n (t.now ++ decimal x) out.new result }
-{
-    let m = text(out, n, t);
-    number(out, m, x)
-}
-
-// A number with a space in front.
-pub fn spaced_number(out: &mut [u8], n: usize, x: u16) -> usize
-    requires { Room n (codes " " ++ decimal x) }
-    ensures { Wrote out.old n (codes " " ++ decimal x) out.new result }
-{
-    let m = put(out, n, b' ');
-    number(out, m, x)
-}
-
-// Numbers, a space in front of each.
-pub fn spaced_numbers(out: &mut [u8], n: usize, row: &[u16]) -> usize
-    requires { Room n (spaced row.now) }
-    ensures { Wrote out.old n (spaced row.now) out.new result }
-{
-    let mut m = n;
-    let mut i: usize = 0;
-    while i < row.len() {
-        m = spaced_number(out, m, row[i]);
-        i += 1;
+    // A given text, and a number.
+    pub fn labelled(&mut self, t: &str, x: u16)
+        requires { Room self.old.at (t.now ++ decimal x) }
+        ensures { Writes self.old (t.now ++ decimal x) self.new }
+    {
+        self.text(t);
+        self.number(x);
     }
-    m
+
+    // Numbers, a space in front of each.
+    pub fn spaced(&mut self, row: &[u16])
+        requires { Room self.old.at (spaced row.now) }
+        ensures { Writes self.old (spaced row.now) self.new }
+    {
+        for x in row {
+            self.labelled(" ", *x);
+        }
+    }
 }

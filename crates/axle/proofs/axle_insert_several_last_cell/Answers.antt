@@ -1,16 +1,15 @@
--- `axle::axle_insert_several_last_cell`: the answer of crate byte_calls as a number.
+-- The answer of crate engine as a number.
 use mathlib.Core.Path.{ap, ◌∙◌, subst}
-use Rattle.byte_form.specs.Bytes.{words_in}
+use Rattle.encoding.specs.Bytes.{words_in}
 use Rattle.layout.specs.Words.{layout_of}
 use Rattle.calls.specs.Answers.{ForetoldUnworn}
-use Rattle.axle.specs.Interface.{last_code}
-use borrow.Author.Rules.{rules}
+use Rattle.byte_calls.specs.Plans.{byte_figures, record_words}
+use Rattle.byte_calls.specs.Interface.{last_code}
 use Rattle.axle.proofs.axle_insert_several_last_cell.Goals as goal
 
 pub returns : goal.returns
+unfolding byte_figures record_words
 returns c =
     let x = c.insert_several_figures.ensures in
-    let w = words_in c.args.store.now in record {
-      answer = c.last_code.ensures ∙ ap last_code x.figures;
-      worn = subst (ForetoldUnworn (layout_of w) w) x.figures x.worn;
-    }
+    let w = words_in c.args.store.now in
+    record { answer = c.last_code.ensures ∙ ap last_code x.figures; worn = subst (ForetoldUnworn (layout_of w) w) x.figures x.worn }

@@ -1,8 +1,9 @@
--- `axle::axle_recover_stores`: the answer of crate byte_calls as a number.
+-- The answer of crate engine as a number.
 use mathlib.Core.Path.{ap, ◌∙◌}
-use Rattle.axle.specs.Interface.{needed_code}
-use borrow.Author.Rules.{rules}
+use Rattle.byte_calls.specs.Plans.{byte_needed}
+use Rattle.byte_calls.specs.Interface.{needed_code}
 use Rattle.axle.proofs.axle_recover_stores.Goals as goal
 
 pub returns : goal.returns
-returns c = c.needed_code.ensures ∙ ap needed_code c.recover_stores.ensures
+unfolding byte_needed
+returns c = c.told_code.ensures.stores ∙ ap needed_code c.recover_stores.ensures

@@ -1,14 +1,11 @@
--- `insert_several` is that of crate word_calls. Its number and its stores are those of the plan.
+-- `insert_several` is that of crate engine. Its number and its stores are those of the plan.
 use Rattle.calls.specs.Calls.{several_plan}
 use Rattle.calls.proofs.Answers.{told}
-use borrow.Author.Rules.{rules}
-use Rattle.word_calls.specs.Plans.{word_several, record_words}
 use Rattle.axle_store.proofs.insert_several.Goals as goal
 
 pub returns : goal.returns
-unfolding word_several record_words
 returns c =
     let a = c.args in
     let e = c.insert_several.ensures in
     let n = told (several_plan a.words.now a.list a.position a.start a.records.now) a.allowance e.answer in
-    record { answer = e.answer; words = e.words; number = n.0; stores = n.1; worn = e.worn }
+    record { answer = e.answer; words = e.lent; number = n.0; stores = n.1; worn = e.worn }

@@ -1,11 +1,8 @@
--- `insert_several_figures` is that of crate word_calls. Its number and its stores are those of the plan.
-use Rattle.calls.proofs.Figures.{figures-number}
-use borrow.Author.Rules.{rules}
-use Rattle.word_calls.specs.Plans.{word_figures, record_words}
+-- `insert_several_figures` is that of crate engine. Its number and its stores are those of the plan.
+use Rattle.calls.proofs.Beforehand.{figures-number}
 use Rattle.axle_store.proofs.insert_several_figures.Goals as goal
 
 pub returns : goal.returns
-unfolding word_figures record_words
 returns c =
     let e = c.insert_several_figures.ensures in
     let n = figures-number _ _ _ _ _ e.figures in

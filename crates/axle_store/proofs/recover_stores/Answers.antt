@@ -1,12 +1,9 @@
--- `recover_stores` is that of crate word_calls. Its number is that of the plan.
+-- `recover_stores` is that of crate engine. Its number is that of the plan.
 use Rattle.recovery.specs.Plan.{recover_plan}
 use Rattle.calls.proofs.Numbers.{needed-number}
-use borrow.Author.Rules.{rules}
-use Rattle.word_calls.specs.Plans.{word_needed}
 use Rattle.axle_store.proofs.recover_stores.Goals as goal
 
 pub returns : goal.returns
-unfolding word_needed
 returns c = let e = c.recover_stores.ensures in record {
   stores = e;
   number = needed-number (recover_plan c.args.words.now) e;

@@ -1,15 +1,8 @@
-use Prim.Native.Nat.{ℕ, ◌*◌, ◌-◌, ◌≤◌}
-use mathlib.Core.Path.{◌≡◌, refl, ap₂, ◌∙◌}
-use mathlib.Core.List.{List}
-use native.Mathlib.Omega.{arith}
-use lib.ListN.{length, set, length-set}
-use Rattle.listing_text.proofs.Over.{over, over-next, over-all}
-use Rattle.byte_form.specs.Bytes.{words_in}
-use Rattle.byte_form.proofs.Laws.{length-words}
+-- `decode` decodes word by word: the words in front of the index are those of the bytes.
+use Rattle.std.proofs.Common.{◌≡◌}
+use Rattle.listing_text.proofs.Over.{over}
+use Rattle.encoding.specs.Bytes.{words_in}
 use Rattle.listing_text.proofs.decode.Given as goal
 
 abbrev pub invariant-loop-i : goal.invariant-loop-i
-invariant-loop-i l = (length l.bytes ≡ 2 * length l.initial.words) × (l.i ≤ length l.initial.words) × (length l.words ≡ length l.initial.words) × (l.words ≡ over (words_in l.bytes) l.initial.words l.i)
-
-abbrev pub decreases-loop-i : goal.decreases-loop-i
-decreases-loop-i l = length l.initial.words - l.i
+invariant-loop-i l = l.words ≡ over (words_in l.bytes) l.initial.words l.i

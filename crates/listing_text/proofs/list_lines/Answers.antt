@@ -1,38 +1,26 @@
 -- `list_lines` writes the first line of the list, which holds, and then its records.
-use borrow.Author.Rules.{rules}
-use mathlib.Core.Path.{refl}
-use Rattle.lists.specs.Decide.{view_of, count_in, HeldList}
+use Rattle.std.proofs.Common.{◌≡◌, ◌<◌, ℕ, List, true, refl}
+use Rattle.layout.specs.declared.Layout.{Layout}
+use Rattle.lists.specs.Decide.{view_of, count_in, sound_of, HeldList}
 use Rattle.lists.proofs.Ring.{sound-held}
 use Rattle.writing.proofs.Writing.{wrote-append, room-first, room-rest}
 use Rattle.listing_text.proofs.Lines.{list-parts}
-use Rattle.listing_text.proofs.list_lines.Lts.View as lts
-use Rattle.listing_text.proofs.list_lines.Goals.{After-count-count, Start}
 use Rattle.listing_text.proofs.list_lines.Goals as goal
 
-abbrev start : After-count-count → Start
-start c = c.before.before.before.before
+-- the list holds
+held : {l : Layout} (w : List ℕ) (k n : ℕ) → k < l.lists → sound_of l w ≡ true → n ≡ count_in l w k → HeldList l (view_of l w) k n
+held {l} w k n k-list sound e = sound-held l (view_of l w) (count_in l w) k k-list sound refl e
 
-held : (c : After-count-count) → let a = (start c).args in HeldList a.l (view_of a.l a.words.now) a.k c.count-count.result
-held c =
-    let s = (start c) in
-    let a = s.args in
-    sound-held a.l (view_of a.l a.words.now) (count_in a.l a.words.now) a.k s.requires.2 s.requires.3 refl c.count-count.ensures
+pub list_line-requires : goal.list_line-requires
+list_line-requires c = room-first _ _ (rw (list-parts c.args.s.now.lent.now (held c.args.s.now.lent.now c.args.k c.count-count.result c.requires.list c.requires.sound c.count-count.ensures)) at c.requires.room)
 
-pub list_line-m-requires : goal.list_line-m-requires
-list_line-m-requires c =
-    let n = c in
-    let s = (start (lts.up-After-count-count _ _ _ (n.before.before))) in
-    room-first _ _ (rw (list-parts s.args.words.now (held (lts.up-After-count-count _ _ _ (n.before.before)))) at s.requires.4)
+pub record_lines-requires-clause-held : goal.record_lines-requires-clause-held
+record_lines-requires-clause-held c = held c.args.s.now.lent.now c.args.k c.count-count.result c.requires.list c.requires.sound c.count-count.ensures
 
-pub record_lines-requires : goal.record_lines-requires
-record_lines-requires c =
-    let r = c in
-    let n = r in
-    let s = (start (lts.up-After-count-count _ _ _ (n.before.before.before.before.before.before))) in
-    (s.requires.0, s.requires.1, held (lts.up-After-count-count _ _ _ (n.before.before.before.before.before.before)), room-rest _ (rw (list-parts s.args.words.now (held (lts.up-After-count-count _ _ _ (n.before.before.before.before.before.before)))) at s.requires.4) r.list_line-m.ensures)
+pub record_lines-requires-clause-room : goal.record_lines-requires-clause-room
+record_lines-requires-clause-room c =
+    let h = held c.args.s.now.lent.now c.args.k c.count-count.result c.requires.list c.requires.sound c.count-count.ensures in
+    room-rest _ (rw (list-parts c.args.s.now.lent.now h) at c.requires.room) c.list_line.ensures
 
 pub returns : goal.returns
-returns c =
-    let r = c in
-    let n = r in
-    rw (list-parts (start (lts.up-After-count-count _ _ _ (n.before.before.before.before.before.before.before.before.before))).args.words.now (held (lts.up-After-count-count _ _ _ (n.before.before.before.before.before.before.before.before.before)))) (wrote-append r.list_line-m.ensures c.record_lines.ensures)
+returns c = rw (list-parts c.args.s.now.lent.now (held c.args.s.now.lent.now c.args.k c.count-count.result c.requires.list c.requires.sound c.count-count.ensures)) (wrote-append c.list_line.ensures c.record_lines.ensures)

@@ -1,17 +1,16 @@
 -- `refused_line` writes the labelled number and the end of the line.
-use borrow.Author.Rules.{rules}
 use Rattle.writing.proofs.Writing.{wrote-append, room-first, room-rest}
 use Rattle.listing_text.specs.Listing.{refused_line}
 use Rattle.listing_text.proofs.refused_line.Goals as goal
 
-pub labelled-a-requires : goal.labelled-a-requires
+pub labelled-requires : goal.labelled-requires
 unfolding refused_line
-labelled-a-requires c = room-first _ _ c.requires
+labelled-requires c = room-first _ _ (rw (← c.number.ensures) at c.requires)
 
 pub put-requires : goal.put-requires
 unfolding refused_line
-put-requires c = room-rest _ c.requires c.labelled-a.ensures
+put-requires c = room-rest _ (rw (← c.number.ensures) at c.requires) c.labelled.ensures
 
 pub returns : goal.returns
 unfolding refused_line
-returns c = wrote-append c.labelled-a.ensures c.put.ensures
+returns c = rw (← c.number.ensures) (wrote-append c.labelled.ensures c.put.ensures)

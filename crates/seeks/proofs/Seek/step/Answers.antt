@@ -1,5 +1,4 @@
 -- `seeks::Seek::step` meets its contract: the link is forward or back.
-use borrow.Author.Rules.{rules}
 use Rattle.seeks.proofs.Walk.{stepped-ahead, stepped-back}
 use Rattle.seeks.proofs.Seek.step.Goals.{then-self, else-self}
 use Rattle.seeks.proofs.Seek.step.Goals as goal

@@ -3,7 +3,6 @@ use Prim.Native.Nat.{ℕ}
 use mathlib.Core.Path.{ap, ◌∙◌, sym}
 use mathlib.Core.Bool.{false}
 use native.Mathlib.Omega.{arith}
-use borrow.Author.Rules.{rules}
 use Rattle.seeks.specs.declared.Seek.{Seek}
 use Rattle.seeks.proofs.Walk.{nearer-ahead, nearer-behind}
 use Rattle.seeks.proofs.Seek.toward.Goals as goal

@@ -1,8 +1,0 @@
--- `axle::stores_code`: what is told has its number.
-use mathlib.Core.Path.{ap, sym}
-use Rattle.axle.specs.Interface.{stores_code}
-use borrow.Author.Rules.{rules}
-use Rattle.axle.proofs.stores_code.Goals as goal
-
-pub returns-in-Figures : goal.returns-in-Figures
-returns-in-Figures c = sym (ap stores_code c.in-Figures.is)

@@ -1,0 +1,7 @@
+-- `word_buffer`: the length of so many zeros.
+use Rattle.std.proofs.Common.{ℕ, sym}
+use Rattle.std.proofs.lemmas.List.{length-replicate}
+use Rattle.cases.proofs.word_buffer.Goals as goal
+
+pub returns : goal.returns
+returns c = sym (length-replicate {A = ℕ} 524288 0)

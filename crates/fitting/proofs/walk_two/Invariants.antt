@@ -1,0 +1,12 @@
+use mathlib.Core.Path.{◌≡◌}
+use Rattle.lists.specs.Decide.{view_of}
+use Rattle.fitting.specs.Fitting.{Trailing}
+use Rattle.fitting.proofs.walk_two.Given as goal
+
+abbrev pub invariant-loop-t : goal.invariant-loop-t
+invariant-loop-t g l =
+    (Trailing l.s.layout (view_of l.s.layout (g.E.Form.words_in l.s.lent.now)) l.k l.t × (l.t.back ≡ l.back))
+    × (Trailing l.s.layout (view_of l.s.layout (g.E.Form.words_in l.s.lent.now)) l.j l.u × (l.u.back ≡ l.other))
+
+abbrev pub decreases-loop-t : goal.decreases-loop-t
+decreases-loop-t g l = l.t.left

@@ -1,8 +1,0 @@
--- `word_form::put`: the store of one word.
-use mathlib.Core.Path.{refl}
-use Rattle.stores.specs.Stores.{run}
-use Rattle.word_form.proofs.put.Goals as goal
-
-pub returns : goal.returns
-unfolding run
-returns c = refl
