@@ -281,12 +281,11 @@ fn recover_mixed(words: &mut [u16], allowance: u16, digest: &mut Digest) {
 }
 
 // The end of a course: recoveries cut after a and after b stores, and a whole one.
-fn recoveries(found: &[u16], a: u16, b: u16, digest: &mut Digest)
-    requires { length found.now ≤ 64 }
-{
-    let mut buffer = [0; FEW];
-    let words = &mut buffer[..found.len()];
-    words.copy_from_slice(found);
+fn recoveries(found: &[u16], a: u16, b: u16, digest: &mut Digest) {
+    let Ok(mut found) = ArrayVec::<u16, FEW>::try_from(found) else {
+        return;
+    };
+    let words = found.as_mut_slice();
     recover_mixed(words, a, digest);
     recover_mixed(words, b, digest);
     recover_mixed(words, u16::MAX, digest);
@@ -295,9 +294,7 @@ fn recoveries(found: &[u16], a: u16, b: u16, digest: &mut Digest)
 
 // All recoveries of the words found: a first one cut after any number of the stores that a whole one makes, a second one cut after any
 // number of the rest.
-fn all_recoveries(found: &[u16], digest: &mut Digest)
-    requires { length found.now ≤ 64 }
-{
+fn all_recoveries(found: &[u16], digest: &mut Digest) {
     let whole = calls::told(axle_store::recover_stores(found));
     for a in 0..=whole {
         for b in 0..=whole - a {
@@ -318,12 +315,18 @@ impl Course<'_> {
     }
 
     // The call cut after some stores, word b altered, and word `at`; then all recoveries.
-    fn altered_at(&self, store: &[u16], allowance: u16, at: usize, value: u16, digest: &mut Digest)
-        requires { length store.now ≤ 64 }
-    {
-        let mut buffer = [0; FEW];
-        let found = &mut buffer[..store.len()];
-        found.copy_from_slice(store);
+    fn altered_at(
+        &self,
+        store: &[u16],
+        allowance: u16,
+        at: usize,
+        value: u16,
+        digest: &mut Digest,
+    ) {
+        let Ok(mut found) = ArrayVec::<u16, FEW>::try_from(store) else {
+            return;
+        };
+        let found = found.as_mut_slice();
         digest.mix_answer(self.call(found, allowance));
         put(found, self.altered as usize, self.value);
         put(found, at, value);
@@ -331,9 +334,7 @@ impl Course<'_> {
     }
 
     // All courses on the store.
-    fn digest(&self, store: &[u16]) -> Digest
-        requires { length store.now ≤ 64 }
-    {
+    fn digest(&self, store: &[u16]) -> Digest {
         let mut digest = Digest(0);
         for allowance in 0..8 {
             for at in 8..store.len() {
