@@ -25,12 +25,14 @@ pub fn run<E: Form>(lent: &mut [E], writes: &[Write], allowance: u16) -> Outcome
     ensures outcome { result ≡ outcome_of writes.now allowance }
     ensures lent { lent.new ≡ E.after (take allowance writes.now) lent.old }
 {
-    let outcome = Outcome::of(writes.len() as u16, allowance);
-    let made = usize::from(outcome.stores());
-    for next in 0..made {
-        step(lent, writes, next);
+    let whole = writes.len() as u16;
+    for i in 0..whole {
+        if i == allowance {
+            return Outcome::Stopped(i);
+        }
+        step(lent, writes, usize::from(i));
     }
-    outcome
+    Outcome::Done(whole)
 }
 
 // Stores the words of the values, which may be lent in another form, in a row from word a on, up to the allowance.
@@ -40,10 +42,12 @@ pub fn put_row<E: Form, F: Form>(lent: &mut [E], a: usize, values: &[F], allowan
     ensures outcome { result ≡ outcome_of (in_row a (F.words_in values.now)) allowance }
     ensures lent { lent.new ≡ E.after (take allowance (in_row a (F.words_in values.now))) lent.old }
 {
-    let outcome = Outcome::of(F::size(values) as u16, allowance);
-    let made = usize::from(outcome.stores());
-    for i in 0..made {
-        E::put(lent, a + i, F::word(values, i));
+    let whole = F::size(values) as u16;
+    for n in 0..whole {
+        if n == allowance {
+            return Outcome::Stopped(n);
+        }
+        E::put(lent, a + usize::from(n), F::word(values, usize::from(n)));
     }
-    outcome
+    Outcome::Done(whole)
 }

@@ -19,8 +19,14 @@ const STEPPED: [(usize, usize, usize, usize); 4] = [(1, 4, 13, 21), (2, 3, 1, 21
 /// Of the states that a stepped call goes through, the recovery of one in so many is stepped too.
 const STRIDE: usize = 5;
 
+/// How many words differ.
+fn words_apart(a: &[u8], b: &[u8]) -> usize {
+    a.chunks(2).zip(b.chunks(2)).filter(|(a, b)| a != b).count()
+}
+
 /// Stops a child after each instruction of the call. The store goes through states that a kill may leave, in their order, and
-/// ends with every store made. Gives those that were met, or nothing if the system does not let a child be stepped.
+/// ends with every store made; no instruction stores more than one word. Gives those that were met, or nothing if the system does
+/// not let a child be stepped.
 fn stepped(
     counts: &mut Counts,
     store: &mut Mapped,
@@ -32,12 +38,15 @@ fn stepped(
     store.bytes().copy_from_slice(&bytes_of(before));
     log.clear();
     let child = Child::stepping(|| log.noted(0, || call.make(store.bytes(), call.records(), ENOUGH)))?;
-    let (mut at, mut met, mut steps) = (0, vec![possible[0].clone()], 0);
+    let (mut at, mut met, mut steps, mut most) = (0, vec![possible[0].clone()], 0, 0);
     while !log.first().1 && child.step() {
         steps += usize::from(log.first().0);
         if store.bytes() != &possible[at].bytes[..] {
             match possible[at..].iter().position(|state| store.bytes() == &state.bytes[..]) {
-                Some(further) => at += further,
+                Some(further) => {
+                    most = most.max(words_apart(&possible[at].bytes, &possible[at + further].bytes));
+                    at += further;
+                }
                 None => break,
             }
             met.push(possible[at].clone());
@@ -46,6 +55,7 @@ fn stepped(
     let ended = log.first().1 && at + 1 == possible.len();
     child.kill();
     counts.holds(ended, || format!("after {steps} instructions no state that a kill may leave: {call:?}"));
+    counts.holds(most <= 1, || format!("an instruction stored {most} words: {call:?}"));
     Some((steps, met))
 }
 
