@@ -48,11 +48,16 @@ pub trait Form: Copy {
         requires { a + n ≤ length (words_in lent.now) }
         ensures { words_in result.now ≡ take n (drop a (words_in lent.now)) };
 
+    // The elements of a word.
+    const ELEMENTS: usize;
+
     // What each form must prove of itself.
     ghost laws: { FormLaws words_in after };
 }
 
 impl Form for u16 {
+    const ELEMENTS: usize = 1;
+
     ghost words_in = { W.words_in };
 
     ghost whole = { W.whole };
@@ -87,10 +92,9 @@ impl Form for u16 {
     ghost laws = { word_laws };
 }
 
-// The bytes of a word.
-const WORD: usize = 2;
-
 impl Form for u8 {
+    const ELEMENTS: usize = 2;
+
     ghost words_in = { B.words_in };
 
     ghost whole = { B.whole };
@@ -98,11 +102,11 @@ impl Form for u8 {
     ghost after = { B.after };
 
     fn size(bytes: &[u8]) -> usize {
-        bytes.len() / WORD
+        bytes.len() / Self::ELEMENTS
     }
 
     fn is_whole(bytes: &[u8]) -> bool {
-        bytes.len() % WORD == 0
+        bytes.len() % Self::ELEMENTS == 0
     }
 
     fn word(bytes: &[u8], i: usize) -> u16 {
@@ -116,13 +120,13 @@ impl Form for u8 {
     }
 
     fn from(bytes: &[u8], a: usize) -> &[u8] {
-        let at = WORD * a;
+        let at = Self::ELEMENTS * a;
         &bytes[at..]
     }
 
     fn part(bytes: &[u8], a: usize, n: usize) -> &[u8] {
-        let at = WORD * a;
-        let e = at + WORD * n;
+        let at = Self::ELEMENTS * a;
+        let e = at + Self::ELEMENTS * n;
         &bytes[at..e]
     }
 
