@@ -6,13 +6,14 @@
 
 ghost use Rattle.std.specs.Prelude.{◌≡◌, ◌<◌, ◌≤◌, eqb, true};
 ghost use Rattle.layout.specs.Words.{most_lists, most_cells};
+ghost use Rattle.layout.specs.Cells.{Gridded};
 ghost use Rattle.lists.specs.Decide.{view_of, count_in};
 ghost use Rattle.spans.specs.Spans.{cell_in};
 ghost use Rattle.fitting.specs.declared.Faults.TheVariants as F;
 ghost use Rattle.fitting.specs.Fitting.{plus, fault, are_many, walk_with, decides, is_rival, ahead, behind, by_count, choose, way_of, fit_in, onward_word, backward_word, by_way, is_open, first_trail, next_trail, end_of, Trailing};
 
 use form::Form;
-use layout::{Cell, Layout, Refusal};
+use layout::{Cell, Grid, Layout, Refusal};
 use walks::Store;
 
 // The words of a cell, as a fault names them.
@@ -55,12 +56,12 @@ pub struct Fits {
 // Where a walk through a list stands: by the back links or the forward links, with the wrong words that it met; the last cell that it met,
 // the cell that it comes to, and how many nodes it may meet yet.
 #[derive(Clone, Copy)]
-struct Trail {
-    back: bool,
-    faults: Faults,
-    last: u16,
-    at: usize,
-    left: u16,
+pub struct Trail {
+    pub back: bool,
+    pub faults: Faults,
+    pub last: u16,
+    pub at: usize,
+    pub left: u16,
 }
 
 impl Faults {
@@ -140,7 +141,7 @@ fn seen(c: Cell, back: bool) -> Cell
 
 impl Trail {
     // At the header h of list k.
-    fn first(l: Layout, back: bool, k: u16, h: Cell) -> Self
+    pub fn first(l: Layout, back: bool, k: u16, h: Cell) -> Self
         requires { k < most_lists }
         ensures { result ≡ first_trail l back k h }
     {
@@ -154,17 +155,18 @@ impl Trail {
     }
 
     // Does it go on? Not with many faults, not behind N nodes, and not to a cell that is no node.
-    fn open<E: Form>(self, s: &Store<E>) -> bool
-        ensures { result ≡ is_open s.now.layout self }
+    pub fn open(self, l: Layout, g: Grid) -> bool
+        requires { Gridded l g }
+        ensures { result ≡ is_open l self }
     {
         if self.faults.are_many() {
             return false;
         }
-        self.left != 0 && s.is_node(self.at)
+        self.left != 0 && g.is_node(l, self.at)
     }
 
     // The cell that it comes to is c, of list k. Most often nothing is wrong.
-    fn step(self, k: u16, c: Cell) -> Self
+    pub fn step(self, k: u16, c: Cell) -> Self
         requires { (k < most_lists) × (self.at ≤ most_cells) × (0 < self.left) }
         ensures { result ≡ next_trail k c self }
     {
@@ -188,7 +190,7 @@ impl Trail {
     }
 
     // At the end of list k, whose header is h.
-    fn end(self, l: Layout, k: u16, h: Cell) -> Walk
+    pub fn end(self, l: Layout, k: u16, h: Cell) -> Walk
         requires { self.left ≤ l.nodes }
         ensures { result ≡ end_of l k h self }
     {
@@ -206,7 +208,7 @@ impl Trail {
 
 impl Walk {
     // A walk through a list that holds, whose count is n.
-    fn right(n: u16) -> Self
+    pub fn right(n: u16) -> Self
         ensures { result ≡ walk_with F.None n }
     {
         Self {
@@ -216,7 +218,7 @@ impl Walk {
     }
 
     // Does this walk, by the forward links, decide alone?
-    fn decides(self) -> bool
+    pub fn decides(self) -> bool
         ensures { result ≡ decides self.faults }
     {
         self.faults.decide()
@@ -258,7 +260,7 @@ fn by_count(x: Walk, y: Walk, n: u16) -> Result<Chosen, Refusal>
 
 // Of the forward walk x and the back walk y of a list, whose count is n, the one that is chosen. Where both fit and are two, the count
 // decides.
-fn choice(x: Walk, y: Walk, n: u16) -> Result<Chosen, Refusal>
+pub fn choice(x: Walk, y: Walk, n: u16) -> Result<Chosen, Refusal>
     ensures { result ≡ choose x y n }
 {
     if x.decides() {
@@ -290,7 +292,7 @@ fn rest<E: Form>(s: &Store<E>, k: u16, t: Trail) -> Walk
     ensures { result ≡ way_of s.now.layout (view_of s.now.layout (E.words_in s.now.lent.now)) t.back k }
 {
     let mut t = t;
-    while t.open(s) {
+    while t.open(s.layout, s.grid) {
         t = step(s, k, t);
     }
     t.end(s.layout, k, s.header(k))
@@ -303,7 +305,7 @@ fn walk_two<E: Form>(s: &Store<E>, k: u16, back: bool, j: u16, other: bool) -> (
 {
     let mut t = Trail::first(s.layout, back, k, s.header(k));
     let mut u = Trail::first(s.layout, other, j, s.header(j));
-    while t.open(s) && u.open(s) {
+    while t.open(s.layout, s.grid) && u.open(s.layout, s.grid) {
         t = step(s, k, t);
         u = step(s, j, u);
     }
