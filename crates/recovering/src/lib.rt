@@ -66,7 +66,7 @@ fn recover_left<E: Form>(lent: &mut [E], l: Layout, mends: &Mends, allowance: u1
     clears::read_nodes(&mut idents, &s);
     clears::erase_all(&mut idents, &s, &mends.back);
     let made = make(lent, &mends.writes, &idents, l, allowance);
-    wipes::go_on(lent, l, Grid::of(l), made, allowance)
+    wipes::follow(lent, l, Grid::of(l), made, allowance)
 }
 
 // Recovers a store where none is: the mends, and then the wipes.
@@ -78,7 +78,7 @@ fn recover_none_left<E: Form>(lent: &mut [E], l: Layout, mends: &[Write], allowa
     ensures lent { lent.new ≡ E.after (take allowance (mends.now ++ wipes l (run mends.now (E.words_in lent.old)))) lent.old }
 {
     let made = runs::run(lent, mends, allowance);
-    wipes::go_on(lent, l, Grid::of(l), made, allowance)
+    wipes::follow(lent, l, Grid::of(l), made, allowance)
 }
 
 // Recovers a store of this layout. Only where a node in no list may be in use is a column made.

@@ -190,48 +190,12 @@ impl<'a, E: Form> Store<'a, E> {
         self.both_spanned(k, s, j, t)
     }
 
-    // Two words from a on, as one number.
-    fn two(&self, a: usize) -> u32
-        requires { a + 2 ≤ length (E.words_in self.now.lent.now) }
-        ensures { result ≡ get_or (E.words_in self.now.lent.now) a 0 + 65536 * get_or (E.words_in self.now.lent.now) (a + 1) 0 }
-    {
-        u32::from(E::word(self.lent, a)) + 65536 * u32::from(E::word(self.lent, a + 1))
-    }
-
-    // Are the four words from a on all 0?
-    fn four_blank(&self, a: usize) -> bool
-        requires { a + 4 ≤ length (E.words_in self.now.lent.now) }
-        ensures { result ≡ blank_from (E.words_in self.now.lent.now) a 4 }
-    {
-        u64::from(self.two(a)) + u64::from(self.two(a + 2)) == 0
-    }
-
-    // Are the n words from a on all 0? They are added up, and the sum is asked once.
-    fn few_blank(&self, a: usize, n: u16) -> bool
-        requires { (n ≤ most_width) × (a + n ≤ length (E.words_in self.now.lent.now)) }
-        ensures { result ≡ blank_from (E.words_in self.now.lent.now) a n }
-    {
-        let mut sum: u32 = 0;
-        for i in 0..n {
-            sum += u32::from(E::word(self.lent, a + usize::from(i)));
-        }
-        sum == 0
-    }
-
-    // The same, four words at a time; the last four may begin among those already asked.
+    // Are the n words from a on all 0?
     pub fn blank(&self, a: usize, n: u16) -> bool
         requires { (n ≤ most_width) × (a + n ≤ length (E.words_in self.now.lent.now)) }
         ensures { result ≡ blank_from (E.words_in self.now.lent.now) a n }
     {
-        if n < 4 {
-            return self.few_blank(a, n);
-        }
-        for i in 0..(n - 1) / 4 {
-            if !self.four_blank(a + 4 * usize::from(i)) {
-                return false;
-            }
-        }
-        self.four_blank(a + usize::from(n) - 4)
+        blank(self.lent, a, n)
     }
 
     // The tally with one node more, whose words begin at a, n of them behind its links. Only a free node's record is read.
@@ -302,4 +266,48 @@ fn links_of<E: Form>(part: &[E]) -> Cell
         forward: usize::from(E::word(part, Layout::FORWARD)),
         back: usize::from(E::word(part, Layout::BACK)),
     }
+}
+
+// Two words from a on, as one number.
+fn two<E: Form>(lent: &[E], a: usize) -> u32
+    requires { a + 2 ≤ length (E.words_in lent.now) }
+    ensures { result ≡ get_or (E.words_in lent.now) a 0 + 65536 * get_or (E.words_in lent.now) (a + 1) 0 }
+{
+    u32::from(E::word(lent, a)) + 65536 * u32::from(E::word(lent, a + 1))
+}
+
+// Are the four words from a on all 0?
+fn four_blank<E: Form>(lent: &[E], a: usize) -> bool
+    requires { a + 4 ≤ length (E.words_in lent.now) }
+    ensures { result ≡ blank_from (E.words_in lent.now) a 4 }
+{
+    u64::from(two(lent, a)) + u64::from(two(lent, a + 2)) == 0
+}
+
+// Are the n words from a on all 0? They are added up, and the sum is asked once.
+fn few_blank<E: Form>(lent: &[E], a: usize, n: u16) -> bool
+    requires { (n ≤ most_width) × (a + n ≤ length (E.words_in lent.now)) }
+    ensures { result ≡ blank_from (E.words_in lent.now) a n }
+{
+    let mut sum: u32 = 0;
+    for i in 0..n {
+        sum += u32::from(E::word(lent, a + usize::from(i)));
+    }
+    sum == 0
+}
+
+// The same of any words lent, four at a time; the last four may begin among those already asked.
+pub fn blank<E: Form>(lent: &[E], a: usize, n: u16) -> bool
+    requires { (n ≤ most_width) × (a + n ≤ length (E.words_in lent.now)) }
+    ensures { result ≡ blank_from (E.words_in lent.now) a n }
+{
+    if n < 4 {
+        return few_blank(lent, a, n);
+    }
+    for i in 0..(n - 1) / 4 {
+        if !four_blank(lent, a + 4 * usize::from(i)) {
+            return false;
+        }
+    }
+    four_blank(lent, a + usize::from(n) - 4)
 }

@@ -2,16 +2,18 @@
 #![tactic(auto)]
 
 ghost use Rattle.std.specs.Prelude.{◌≡◌, ◌+◌, ◌≤◌, length, replicate, take};
+ghost use Rattle.calls.specs.Answers.{answer_stores};
 ghost use Rattle.stores.specs.Stores.{in_row, outcome_of, made_in};
 ghost use Rattle.layout.specs.Words.{Laid, Node};
 ghost use Rattle.layout.specs.Cells.{Gridded};
 ghost use Rattle.recovery.specs.Fits.{wrong};
 ghost use Rattle.mending.specs.Mending.{wipes_of, wipes, outcome_on, made_on};
+ghost use Rattle.wipes.specs.Following.{answer_on, lent_on};
 
+use calls::Answer;
 use form::Form;
 use layout::{Grid, Layout};
 use stores::Outcome;
-use walks::Store;
 
 // Stores 0 to each of the n words from a on that is not 0, lowest word first, up to the allowance.
 fn wipe_row<E: Form>(lent: &mut [E], a: usize, n: u16, allowance: u16) -> Outcome
@@ -32,24 +34,19 @@ fn wipe_row<E: Form>(lent: &mut [E], a: usize, n: u16, allowance: u16) -> Outcom
     Outcome::Done(made)
 }
 
-// Wipes node c if it is free, up to the allowance. (What is lent is written between the reads, so it comes apart from its layout and grid, and
-// a Store is made of them for each node.)
+// Wipes node c if it is free, up to the allowance.
 fn wipe_node<E: Form>(lent: &mut [E], l: Layout, g: Grid, c: usize, allowance: u16) -> Outcome
     requires { Gridded l g × Laid l (E.words_in lent.old) × Node l c }
     ensures outcome { result ≡ outcome_of (wipes_of l (E.words_in lent.old) c) allowance }
     ensures lent { lent.new ≡ E.after (take allowance (wipes_of l (E.words_in lent.old) c)) lent.old }
 {
-    let s = Store {
-        lent: &*lent,
-        layout: l,
-        grid: g,
-    };
-    if !Layout::is_free(s.node(c).ident) {
+    let place = g.place(l, c);
+    if !Layout::is_free(E::word(lent, place)) {
         return Outcome::Done(0);
     }
-    let a = g.place(l, c) + Layout::LINK_WORDS;
+    let a = place + Layout::LINK_WORDS;
     let n = g.tail(l);
-    if s.blank(a, n) {
+    if walks::blank(lent, a, n) {
         return Outcome::Done(0);
     }
     wipe_row(lent, a, n, allowance)
@@ -71,8 +68,8 @@ fn wipe<E: Form>(lent: &mut [E], l: Layout, g: Grid, allowance: u16) -> Outcome
     Outcome::Done(made)
 }
 
-// Goes on with the wipes where stores were made before, if all of them were: `before` is their outcome.
-pub fn go_on<E: Form>(
+// Makes the wipes after other stores, if all of these were made: `before` is their outcome.
+pub fn follow<E: Form>(
     lent: &mut [E],
     l: Layout,
     g: Grid,
@@ -90,4 +87,13 @@ pub fn go_on<E: Form>(
         return Outcome::Stopped(allowance);
     };
     Outcome::Done(n + m)
+}
+
+// Goes on with the wipes where a call made stores before, if all of them were made: `before` is its answer, and a refusal is handed on.
+pub fn go_on<E: Form>(lent: &mut [E], l: Layout, g: Grid, before: Answer, allowance: u16) -> Answer
+    requires { Gridded l g × Laid l (E.words_in lent.old) × (answer_stores before ≤ allowance) }
+    ensures answer { result ≡ answer_on before (wipes l (E.words_in lent.old)) allowance }
+    ensures lent { lent.new ≡ lent_on E.after before (wipes l (E.words_in lent.old)) allowance lent.old }
+{
+    Ok(follow(lent, l, g, before?, allowance))
 }

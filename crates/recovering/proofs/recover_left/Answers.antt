@@ -13,8 +13,8 @@ use Rattle.recovering.proofs.recover_left.Goals as goal
 pub make-made-requires-clause-inside : goal.make-made-requires-clause-inside
 make-made-requires-clause-inside g c = mended-inside c.requires.0.in_range c.requires.1 c.deref.ensures.0
 
-pub go_on-requires : goal.go_on-requires
-go_on-requires g c =
+pub follow-requires : goal.follow-requires
+follow-requires g c =
     let both = c.deref.result.now ++ clears c.args.l c.erase_all.new.idents in (
       c.of.ensures,
       laid_after g.met.E.Form.laws _ c.requires.0 c.make-made.ensures.lent,
@@ -30,7 +30,7 @@ returns-clause-outcome g c =
     subst₂ (Left a.mends.now c.erase_all.new.idents) c.of-s.ensures.1 (ap (λ b. f.words_in b.now) c.of-s.ensures.0)
     (c.read_nodes.new.idents, c.read_nodes.ensures.room, c.read_nodes.ensures.nodes, c.erase_all.ensures) in
     ap Ok
-    (c.go_on.ensures.outcome
+    (c.follow.ensures.outcome
     ∙ (λ i. outcome_on (e.outcome i) (wipes a.l (f.words_in (e.lent i))) a.allowance)
     ∙ (one_run g.met.E.Form.laws (c.deref.result.now ++ clears a.l c.erase_all.new.idents) (wipes a.l) a.allowance a.lent.now).0)
     ∙ ap (λ (p : Plan). answer_of p a.allowance) (left-planned c.requires.0 c.requires.1 left c.deref.ensures.0)
@@ -43,7 +43,7 @@ returns-clause-lent g c =
     let left : Left a.mends.now c.erase_all.new.idents a.l (f.words_in a.lent.now) =
     subst₂ (Left a.mends.now c.erase_all.new.idents) c.of-s.ensures.1 (ap (λ b. f.words_in b.now) c.of-s.ensures.0)
     (c.read_nodes.new.idents, c.read_nodes.ensures.room, c.read_nodes.ensures.nodes, c.erase_all.ensures) in
-    c.go_on.ensures.lent
+    c.follow.ensures.lent
     ∙ (λ i. f.after (made_on (e.outcome i) (wipes a.l (f.words_in (e.lent i))) a.allowance) (e.lent i))
     ∙ (one_run g.met.E.Form.laws (c.deref.result.now ++ clears a.l c.erase_all.new.idents) (wipes a.l) a.allowance a.lent.now).1
     ∙ ap (λ (p : Plan). left_by f.after p a.allowance a.lent.now) (left-planned c.requires.0 c.requires.1 left c.deref.ensures.0)

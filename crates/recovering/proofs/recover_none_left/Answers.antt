@@ -7,8 +7,8 @@ use Rattle.mending.proofs.Making.{one_run}
 use Rattle.recovering.proofs.Kept.{laid_after}
 use Rattle.recovering.proofs.recover_none_left.Goals as goal
 
-pub go_on-requires : goal.go_on-requires
-go_on-requires g c = (
+pub follow-requires : goal.follow-requires
+follow-requires g c = (
   c.of.ensures,
   laid_after g.met.E.Form.laws _ c.requires.laid c.run-made.ensures.lent,
   omega (arith, ap made_in c.run-made.ensures.outcome, made-allowed (length c.args.mends.now) c.args.allowance),
@@ -19,6 +19,6 @@ returns-clause-lent g c =
     let f = g.E.Form in
     let a = c.args in
     let e = c.run-made.ensures in
-    c.go_on.ensures.lent
+    c.follow.ensures.lent
     ∙ (λ i. f.after (made_on (e.outcome i) (wipes a.l (f.words_in (e.lent i))) a.allowance) (e.lent i))
     ∙ (one_run g.met.E.Form.laws a.mends.now (wipes a.l) a.allowance a.lent.now).1

@@ -1,7 +1,7 @@
--- `wipes::go_on`: the wipes follow on other stores, if these are all made.
+-- `wipes::follow`: the wipes follow on other stores, if these are all made.
 use Rattle.mending.specs.Mending.{wipes}
 use Rattle.mending.proofs.Making.{none-follow}
-use Rattle.wipes.proofs.go_on.Goals as goal
+use Rattle.wipes.proofs.follow.Goals as goal
 
 pub returns-in_default : goal.returns-in_default
 returns-in_default g c =
