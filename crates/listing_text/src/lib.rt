@@ -27,7 +27,7 @@ fn record_line(out: &mut Cursor<'_>, p: u16, c: u16, rec: &[u16])
     ensures { Writes out.old (record_line p c rec.now) out.new }
 {
     out.number(p);
-    out.labelled(" ", c);
+    out.labelled(b" ", c);
     out.spaced(rec);
     out.put(b'\n');
 }
@@ -37,8 +37,8 @@ fn list_line(out: &mut Cursor<'_>, k: u16, count: u16)
     requires { Room out.old.at (list_line k count) }
     ensures { Writes out.old (list_line k count) out.new }
 {
-    out.labelled("list ", k);
-    out.labelled(" count ", count);
+    out.labelled(b"list ", k);
+    out.labelled(b" count ", count);
     out.put(b'\n');
 }
 
@@ -47,7 +47,7 @@ fn refused_line(out: &mut Cursor<'_>, refusal: Refusal)
     requires { Room out.old.at (refused_line (number_of refusal)) }
     ensures { Writes out.old (refused_line (number_of refusal)) out.new }
 {
-    out.labelled("refused ", refusal.number());
+    out.labelled(b"refused ", refusal.number());
     out.put(b'\n');
 }
 
@@ -104,7 +104,7 @@ fn listing_in(out: &mut Cursor<'_>, s: &Store<u16>)
 {
     if s.is_sound() {
         all_lists(out, s);
-        out.text("sound\n");
+        out.text(b"sound\n");
     } else {
         refused_line(out, Refusal::Unsound);
     }

@@ -7,7 +7,7 @@ use native.Mathlib.Nat.{add-zero}
 use native.Mathlib.Numerals.{add-one}
 use native.Mathlib.Decide.{dec_lt}
 use lib.ListN.{length, get_or, set, drop, length-append, drop_of_length-le, get_or-append}
-use lib.Seq.{sets, set_out, set-append_seam, take-nil, drop-cons}
+use lib.Seq.{sets, length-sets, set_out, set-append_seam, take-nil, drop-cons}
 use borrow.Author.Tests.{lt-ltb, le-ltb}
 use Rattle.sequences.specs.Sequence.{All}
 use Rattle.writing.specs.Text.{codes, digit, digits, decimal, number_from, spaced, overwritten, Wrote, Writes, Room}
@@ -123,6 +123,9 @@ sets-append o n (a ∷ s) t =
     let e : n + suc (length s) ≡ suc n + length s = omega arith in
     ap (λ (m : ℕ). sets (sets (set o n a) (suc n) s) m t) e ∙ sets-append (set o n a) (suc n) s t
 
+pub wrote_none : (o : List ℕ) (n : ℕ) → Wrote o n [] o n
+wrote_none o n = record { bytes = refl; next = sym (add-zero n) }
+
 joined : {o o' o'' : List ℕ} {n m r : ℕ} {s t : List ℕ} → Wrote o n s o' m → Wrote o' m t o'' r → Wrote o n (s ++ t) o'' r
 joined {o} {o'} {o''} {n} {m} {r} {s} {t} a b =
     record {
@@ -134,6 +137,17 @@ joined {o} {o'} {o''} {n} {m} {r} {s} {t} a b =
 
 pub wrote-append : {c c' c'' : Cursor} {s t : List ℕ} → Writes c s c' → Writes c' t c'' → Writes c (s ++ t) c''
 wrote-append a b = record { wrote = joined a.wrote b.wrote; same_buffer = b.same_buffer ∙ a.same_buffer }
+
+-- one character, in the buffer or behind it
+pub wrote_one : (o : List ℕ) (n b : ℕ) → Wrote o n (b ∷ []) (set o n b) (n + 1)
+wrote_one o n b = record { bytes = refl; next = refl }
+
+pub wrote-behind : (o : List ℕ) (n b : ℕ) → length o ≤ n → Wrote o n (b ∷ []) o (n + 1)
+wrote-behind o n b h = record { bytes = sym (set_out o n b h); next = refl }
+
+-- the buffer keeps its length
+pub wrote-length : {o o' : List ℕ} {n m : ℕ} {t : List ℕ} → Wrote o n t o' m → length o' ≡ length o
+wrote-length {o} {o'} {n} {m} {t} h = ap length h.bytes ∙ length-sets o n t
 
 -- room for two texts is room for the first, and then for the second
 pub room-first : {n : ℕ} (s t : List ℕ) → Room n (s ++ t) → Room n s
@@ -173,7 +187,7 @@ pub record Writing (c : Cursor) (whole : List ℕ) (c' : Cursor) (rest : List �
 
 pub writing_start : (c : Cursor) (t : List ℕ) → Room c.at t → Writing c t c t
 writing_start c t h =
-    record { front = []; wrote = record { wrote = record { bytes = refl; next = sym (add-zero c.at) }; same_buffer = refl }; parts = refl; room = h }
+    record { front = []; wrote = record { wrote = wrote_none c.out.now c.at; same_buffer = refl }; parts = refl; room = h }
 
 module _ {c : Cursor} {whole : List ℕ} {c' : Cursor} where
   pub writing-room : (s t : List ℕ) → Writing c whole c' (s ++ t) → Room c'.at s
@@ -186,6 +200,9 @@ module _ {c : Cursor} {whole : List ℕ} {c' : Cursor} where
 
   pub writing-done : Writing c whole c' [] → Writes c whole c'
   writing-done h = subst (λ (t : List ℕ). Writes c t c') (sym (append-nil h.front) ∙ h.parts) h.wrote
+
+  pub writing-length : {t : List ℕ} → Writing c whole c' t → length c'.out.now ≡ length c.out.now
+  writing-length h = wrote-length h.wrote.wrote
 
 -- what is left of a list: one more member and the rest, or nothing
 pub drop-next : (t : List ℕ) (i : ℕ) → i < length t → drop i t ≡ get_or t i 0 ∷ drop (i + 1) t

@@ -24,11 +24,11 @@ impl Cursor<'_> {
     }
 
     // A given text.
-    pub fn text(&mut self, t: &str)
+    pub fn text(&mut self, t: &[u8])
         requires { Room self.old.at t.now }
         ensures { Writes self.old t.now self.new }
     {
-        for b in t.as_bytes() {
+        for b in t {
             self.put(*b);
         }
     }
@@ -47,7 +47,7 @@ impl Cursor<'_> {
     }
 
     // A given text, and a number.
-    pub fn labelled(&mut self, t: &str, x: u16)
+    pub fn labelled(&mut self, t: &[u8], x: u16)
         requires { Room self.old.at (t.now ++ decimal x) }
         ensures { Writes self.old (t.now ++ decimal x) self.new }
     {
@@ -61,7 +61,8 @@ impl Cursor<'_> {
         ensures { Writes self.old (spaced row.now) self.new }
     {
         for x in row {
-            self.labelled(" ", *x);
+            self.put(b' ');
+            self.number(*x);
         }
     }
 }
