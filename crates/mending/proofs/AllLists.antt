@@ -23,7 +23,7 @@ use Rattle.fitting.specs.declared.Faults.TheVariants as F
 use Rattle.fitting.specs.Fitting.{fit_in, mend_of, count_mend, is_backward, carries, members_by, FaultFits}
 use Rattle.fitting.proofs.Inside.{fit-fits}
 use Rattle.mending.specs.declared.Mends.{Mends}
-use Rattle.mending.specs.Mending.{refusal_in, walk_at, mends_in, total, Mended, MendsOf, erased, erased_from}
+use Rattle.mending.specs.Mending.{refusal_in, walk_at, mends_in, total, Mended, MendsOf, erased, erased_from, writes_in}
 
 -- a fault has one mend at most, and so has a count; each goes to a word of the store
 mend-few : (l : Layout) (f : Faults) → length (mend_of l f) ≤ 1
@@ -144,13 +144,13 @@ module _ (l : Layout) (r : InRange l) (v : View) (count : ℕ → ℕ) where
     searched-refused e = sym s.refusal ∙ rw (here, refusal_in, e)
 
   -- no list is left
-  pub searched_all : (m : Mends) (k : ℕ) → Searched m.members m.carried m.back m.writes.items k → k ≡ l.lists → Mended l v count m
+  pub searched_all : (m : Mends) (k : ℕ) → Searched m.members m.carried m.back (writes_in m.writes) k → k ≡ l.lists → Mended l v count m
   unfolding refusal_in mends_in
   searched_all m k s e =
       let z : l.lists - k ≡ 0 = omega arith in
       record {
         accepted = sym s.refusal ∙ rw z;
-        writes = sym (append-nil m.writes.items) ∙ (rw z at s.mends);
+        writes = sym (append-nil (writes_in m.writes)) ∙ (rw z at s.mends);
         back = λ j p. s.ways j (omega arith);
         members = s.members ∙ ap (total (λ j. (walk_at l v count j).members)) e;
         carried = λ c j p. s.carried c j (omega arith);

@@ -24,7 +24,7 @@ use Rattle.recovery.specs.Plan.{joined, out_of, nodes_out, clears_asked, blanks_
 use Rattle.recovery.proofs.Required.{wrong-right, wrong-wrong, wrong-length}
 use Rattle.recovery.proofs.Joined.{joined-one, out-member, out-worn, out-other, out-told}
 use Rattle.mending.specs.declared.Mends.{Mends}
-use Rattle.mending.specs.Mending.{erased_from, wipes, outside_of, outside_from, refusal_in, Mended}
+use Rattle.mending.specs.Mending.{erased_from, wipes, outside_of, outside_from, refusal_in, Mended, writes_in}
 use Rattle.mending.proofs.Cleared.{Column}
 use Rattle.mending.proofs.Counting.{entry_free, entry-used}
 use Rattle.mending.proofs.LeftOver.{clears-nothing}
@@ -103,23 +103,23 @@ module _ (l : Layout) (w : List ℕ) (m : Mends) (told : Mended l (view_of l w) 
     abbrev s : ℕ → List ℕ
     s = fitting_of l w
 
-    parts : needed_of (recover_of l w) ≡ Ok (length (m.writes.items) + outside l w (nodes_out l w s))
+    parts : needed_of (recover_of l w) ≡ Ok (length (writes_in m.writes) + outside l w (nodes_out l w s))
     parts =
         ap needed_of (parts-told l w m told exact)
         ∙ ap Ok
         (omega (
           arith,
-          length-append (m.writes.items ++ wrong w (clears_asked l w s)) (wrong w (wipes_asked l w s)),
-          length-append (m.writes.items) (wrong w (clears_asked l w s)),
+          length-append (writes_in m.writes ++ wrong w (clears_asked l w s)) (wrong w (wipes_asked l w s)),
+          length-append (writes_in m.writes) (wrong w (clears_asked l w s)),
         ))
 
     -- .. by what is left of the nodes' identifiers
     pub needed-left : InRange l → (idents : List ℕ) → most_cells ≡ length idents → ((c : ℕ) → Node l c → get_or idents c 0 ≡ v.ident c)
         → let left = erased_from l v (λ k. get_or m.back k false) 0 l.lists idents in
-        needed_of (recover_of l w) ≡ Ok (length (m.writes.items) + outside_from l w left (first_node l) l.nodes)
+        needed_of (recover_of l w) ≡ Ok (length (writes_in m.writes) + outside_from l w left (first_node l) l.nodes)
     needed-left r idents room same =
         parts
-        ∙ ap (λ (n : ℕ). Ok (length (m.writes.items) + n))
+        ∙ ap (λ (n : ℕ). Ok (length (writes_in m.writes) + n))
         (sym (outside_told l w _ (joined s l.lists) (first_node l) l.nodes (column l w m told exact r idents room same)))
 
     -- .. which are the wipes of the free nodes, if nobody is left over; and the mends alone, if no free node has a record
@@ -134,11 +134,11 @@ module _ (l : Layout) (w : List ℕ) (m : Mends) (told : Mended l (view_of l w) 
           by x (free i) = rw i
           by x (worn i) = rw i
 
-      pub needed-wipes : needed_of (recover_of l w) ≡ Ok (length (m.writes.items) + length (wipes l w))
+      pub needed-wipes : needed_of (recover_of l w) ≡ Ok (length (writes_in m.writes) + length (wipes l w))
       needed-wipes =
           let none = ap length (clears-nothing l w s (unlisted l w m told exact r e)) in
           let same = ap (λ (cs : List ℕ). length (wrong w (blanks_asked l cs))) free-out in
           parts ∙ ap Ok (omega (arith, none, same))
 
-      pub needed-mends : length (unwiped v (first_node l) l.nodes) ≡ 0 → needed_of (recover_of l w) ≡ Ok (length (m.writes.items))
+      pub needed-mends : length (unwiped v (first_node l) l.nodes) ≡ 0 → needed_of (recover_of l w) ≡ Ok (length (writes_in m.writes))
       needed-mends q = ap needed_of (recover-mends l w m told exact r e q)

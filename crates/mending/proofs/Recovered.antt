@@ -28,7 +28,7 @@ use Rattle.fitting.specs.declared.Chosen.{Chosen}
 use Rattle.fitting.specs.Fitting.{fit_in, count_mend, members_by}
 use Rattle.fitting.proofs.Told.{Told, fit-told, chosen-told, members-told}
 use Rattle.mending.specs.declared.Mends.{Mends}
-use Rattle.mending.specs.Mending.{refusal_in, list_mends, mends_in, erased_from, clears, wipes, Mended}
+use Rattle.mending.specs.Mending.{refusal_in, list_mends, mends_in, erased_from, clears, wipes, Mended, writes_in}
 use Rattle.mending.proofs.Cleared.{Column, column-told, clears-told}
 use Rattle.mending.proofs.LeftOver.{all-carry, nothing_left, clears-nothing, wipes-nothing}
 use Rattle.mending.proofs.Wiping.{plan-parted, plan-told}
@@ -120,11 +120,11 @@ module _ (l : Layout) (w : List ℕ) (m : Mends) (told : Mended l (view_of l w) 
     fitted : (k : ℕ) → k < l.lists → result_err (fit_in l v k (count_in l w k)) ≡ None
     fitted k h = none-refused l v (count_in l w) 0 l.lists told.accepted k (omega arith) (omega arith)
 
-    mends : m.writes.items ≡ wrong w (lists_asked l s)
+    mends : writes_in m.writes ≡ wrong w (lists_asked l s)
     mends = told.writes ∙ mends-told l w fitted l.lists (omega arith)
 
     -- the stores in three parts, as they are required of the words
-    pub parts-told : recover_of l w ≡ stores ((m.writes.items ++ wrong w (clears_asked l w s)) ++ wrong w (wipes_asked l w s))
+    pub parts-told : recover_of l w ≡ stores ((writes_in m.writes ++ wrong w (clears_asked l w s)) ++ wrong w (wipes_asked l w s))
     unfolding recover_of
     parts-told =
         rw refusal
@@ -133,7 +133,7 @@ module _ (l : Layout) (w : List ℕ) (m : Mends) (told : Mended l (view_of l w) 
         ∙ ap (λ (ps : List Write). (ps ++ wrong w (clears_asked l w s)) ++ wrong w (wipes_asked l w s)) (sym mends)))
 
     -- as they are made: the mends, the clears, and the wipes of what these leave ..
-    stores-told : (cs : List Write) → cs ≡ wrong w (clears_asked l w s) → let ps = m.writes.items ++ cs in recover_of l w ≡ stores (ps ++ wipes l (run ps w))
+    stores-told : (cs : List Write) → cs ≡ wrong w (clears_asked l w s) → let ps = writes_in m.writes ++ cs in recover_of l w ≡ stores (ps ++ wipes l (run ps w))
     unfolding recover_of
     stores-told cs e =
         rw refusal
@@ -152,7 +152,7 @@ module _ (l : Layout) (w : List ℕ) (m : Mends) (told : Mended l (view_of l w) 
           (λ k h. subst (λ (b : Bool). (c : ℕ) → (c ∈ members_by l v b k → c ∈ s k) × (c ∈ s k → c ∈ members_by l v b k))
           (sym (told.back k h)) (members-told l w k h (fitted k h)))
 
-      pub recover-stores : let ps = m.writes.items ++ clears l left in recover_of l w ≡ stores (ps ++ wipes l (run ps w))
+      pub recover-stores : let ps = writes_in m.writes ++ clears l left in recover_of l w ≡ stores (ps ++ wipes l (run ps w))
       recover-stores = stores-told (clears l left) (clears-told l w left (joined s l.lists) (first_node l) l.nodes column)
 
     -- .. without clears, if nobody is left over; and the mends alone, if no free node has a record
@@ -166,15 +166,15 @@ module _ (l : Layout) (w : List ℕ) (m : Mends) (told : Mended l (view_of l w) 
       pub unlisted : (c : ℕ) → Node l c → (c ∈ joined s l.lists → ⊥) → Unlisted (get_or w (ident_at l c) 0)
       unlisted = nothing_left l r w fitted (told.carried both.0) (sym (told.members) ∙ eqb-true _ _ both.1)
 
-      pub recover-wipes : recover_of l w ≡ stores (m.writes.items ++ wipes l (run (m.writes.items) w))
+      pub recover-wipes : recover_of l w ≡ stores (writes_in m.writes ++ wipes l (run (writes_in m.writes) w))
       recover-wipes =
           stores-told [] (sym (clears-nothing l w s unlisted))
-          ∙ ap (λ (ps : List Write). stores (ps ++ wipes l (run ps w))) (append-nil (m.writes.items))
+          ∙ ap (λ (ps : List Write). stores (ps ++ wipes l (run ps w))) (append-nil (writes_in m.writes))
 
-      pub recover-mends : length (unwiped v (first_node l) l.nodes) ≡ 0 → recover_of l w ≡ stores (m.writes.items)
+      pub recover-mends : length (unwiped v (first_node l) l.nodes) ≡ 0 → recover_of l w ≡ stores (writes_in m.writes)
       recover-mends q =
           parts-told
           ∙ ap stores
-          (ap₂ (λ (a b : List Write). (m.writes.items ++ a) ++ b) (clears-nothing l w s unlisted) (wipes-nothing l w s unlisted q)
-          ∙ append-nil (m.writes.items ++ [])
-          ∙ append-nil (m.writes.items))
+          (ap₂ (λ (a b : List Write). (writes_in m.writes ++ a) ++ b) (clears-nothing l w s unlisted) (wipes-nothing l w s unlisted q)
+          ∙ append-nil (writes_in m.writes ++ [])
+          ∙ append-nil (writes_in m.writes))

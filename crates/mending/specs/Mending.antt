@@ -16,6 +16,7 @@ use Rattle.recovery.specs.Fits.{wrong}
 use Rattle.recovery.specs.Plan.{blanks_asked}
 use Rattle.fitting.specs.declared.Walk.{Walk}
 use Rattle.fitting.specs.Fitting.{fit_in, mend_of, count_mend, walk_in, is_backward, carries, members_by}
+use Rattle.mending.specs.declared.MendList.{MendList}
 use Rattle.mending.specs.declared.Mends.{Mends}
 use Rattle.mending.specs.declared.Found.{Found}
 
@@ -99,10 +100,14 @@ abbrev pub made_on : Outcome → List Write → ℕ → List Write
 made_on (Done n) qs m = take (m - n) qs
 made_on (Stopped n) qs m = []
 
+-- the mends that are kept
+abbrev pub writes_in : MendList → List Write
+writes_in m = take m.len m.writes
+
 -- what is found of all lists, where none is refused
 pub record Mended (l : Layout) (v : View) (count : ℕ → ℕ) (m : Mends) : Type 0 where
   pub accepted : refusal_in l v count 0 l.lists ≡ None
-  pub writes : m.writes.items ≡ mends_in l v count 0 l.lists
+  pub writes : writes_in m.writes ≡ mends_in l v count 0 l.lists
   pub back : (k : ℕ) → k < l.lists → get_or m.back k false ≡ is_backward (fit_in l v k (count k))
   pub members : m.members ≡ total (λ k. (walk_at l v count k).members) l.lists
   pub carried : m.carried ≡ true → (k : ℕ) → k < l.lists → carries v.ident (walk_at l v count k).faults ≡ true

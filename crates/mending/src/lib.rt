@@ -4,11 +4,11 @@
 // list, and the laws by which this is the plan of recovery.
 #![tactic(auto)]
 
-ghost use Rattle.std.specs.Prelude.{◌≡◌, ◌+◌, ◌<◌, cond, ◌&&◌, eqb, length, option_to_list};
+ghost use Rattle.std.specs.Prelude.{◌≡◌, ◌+◌, ◌<◌, ◌≤◌, ◌++◌, [], ◌∷◌, cond, ◌&&◌, eqb, length, option_to_list};
 ghost use Rattle.layout.specs.Words.{most_cells, InRange};
 ghost use Rattle.fitting.specs.Fitting.{mend_of, count_mend, FaultFits};
+ghost use Rattle.mending.specs.declared.TheConstants.{MOST_MENDS};
 
-use arrayvec::ArrayVec;
 use fitting::Faults;
 use layout::{Cell, Layout};
 use stores::Write;
@@ -16,11 +16,20 @@ use stores::Write;
 // The most mends: two of each list.
 pub const MOST_MENDS: usize = 2 * Layout::MAX_LISTS;
 
+// The mends of a store, in order: the first `len` of the array, which has room for the most.
+#[derive(Clone, Copy)]
+pub struct MendList {
+    writes: [Write; MOST_MENDS],
+    len: usize,
+    ghost few: { len ≤ MOST_MENDS },
+}
+
 // What is found of all lists, where none is refused: the mends, list 0 first; which lists go by their back links; how many members they have,
-// and whether each is in use by its identifier.
-#[derive(Drop)]
+// and whether each is in use by its identifier. No gap is left between the fields: behind one, the mends would be copied from an odd address,
+// which is slow.
+#[derive(Clone, Copy)]
 pub struct Mends {
-    pub writes: ArrayVec<Write, MOST_MENDS>,
+    pub writes: MendList,
     pub back: [bool; Layout::MAX_LISTS],
     pub members: u32,
     pub carried: bool,
@@ -28,7 +37,7 @@ pub struct Mends {
 
 // What recovery finds of a store before its first store: what it finds of the lists; may a node in no list be in use by its identifier; has a
 // free node a record?
-#[derive(Drop)]
+#[derive(Clone, Copy)]
 pub struct Found {
     pub mends: Mends,
     pub left: bool,
@@ -62,6 +71,45 @@ pub fn count_mend(l: Layout, k: u16, n: u16, m: u16) -> Option<Write>
         at: (l.header(k) + Layout::COUNT) as u16,
         value: m,
     })
+}
+
+impl MendList {
+    ghost use Rattle.mending.specs.Mending.{writes_in};
+
+    // No mend.
+    pub fn none() -> Self
+        ensures { writes_in result ≡ [] }
+    {
+        MendList {
+            writes: [Write { at: 0, value: 0 }; MOST_MENDS],
+            len: 0,
+        }
+    }
+
+    // A mend more, at the end.
+    pub fn push(&mut self, write: Write)
+        requires { length (writes_in self.old) < MOST_MENDS }
+        ensures { writes_in self.new ≡ writes_in self.old ++ write ∷ [] }
+    {
+        self.writes[self.len] = write;
+        self.len += 1;
+    }
+
+    // The mends, in order.
+    pub fn as_slice(&self) -> &[Write]
+        ensures value { result.now ≡ writes_in self.now }
+        ensures fits { length result.now ≤ MOST_MENDS }
+    {
+        &self.writes[..self.len]
+    }
+
+    // The number of mends.
+    pub fn len(&self) -> usize
+        ensures value { result ≡ length (writes_in self.now) }
+        ensures fits { result ≤ MOST_MENDS }
+    {
+        self.as_slice().len()
+    }
 }
 
 impl Mends {

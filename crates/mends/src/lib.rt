@@ -5,13 +5,12 @@
 ghost use Rattle.std.specs.Prelude.{◌≡◌, ◌+◌, ◌<◌, ◌++◌, length, None, IfSome, IsSome, option_to_list};
 ghost use Rattle.lists.specs.Decide.{view_of, count_in};
 ghost use Rattle.fitting.specs.Fitting.{fit_in, carries, FaultFits};
-ghost use Rattle.mending.specs.Mending.{MendsOf};
+ghost use Rattle.mending.specs.Mending.{writes_in, MendsOf};
 
-use arrayvec::ArrayVec;
 use fitting::{Chosen, Faults};
 use form::Form;
 use layout::{Layout, Refusal};
-use mending::{MOST_MENDS, Mends};
+use mending::{MendList, Mends};
 use stores::Write;
 use walks::Store;
 
@@ -52,9 +51,9 @@ fn fit_next<E: Form>(
 }
 
 // Keeps a mend, if there is one.
-fn keep(writes: &mut ArrayVec<Write, MOST_MENDS>, mend: Option<Write>)
-    requires { length writes.old.items < 16 }
-    ensures { writes.new.items ≡ writes.old.items ++ option_to_list mend }
+fn keep(writes: &mut MendList, mend: Option<Write>)
+    requires { length (writes_in writes.old) < 16 }
+    ensures { writes_in writes.new ≡ writes_in writes.old ++ option_to_list mend }
 {
     if let Some(write) = mend {
         writes.push(write);
@@ -65,7 +64,7 @@ fn keep(writes: &mut ArrayVec<Write, MOST_MENDS>, mend: Option<Write>)
 pub fn all_mends<E: Form>(s: &Store<E>) -> Result<Mends, Refusal>
     ensures { MendsOf s.now.layout (view_of s.now.layout (E.words_in s.now.lent.now)) (count_in s.now.layout (E.words_in s.now.lent.now)) result }
 {
-    let mut writes = ArrayVec::new();
+    let mut writes = MendList::none();
     let mut back = [false; Layout::MAX_LISTS];
     let mut members: u32 = 0;
     let mut whole = true;

@@ -17,7 +17,7 @@ use Rattle.encoding.specs.Form.{FormLaws}
 use Rattle.encoding.proofs.Runs.{length-after}
 use Rattle.mending.specs.declared.Mends.{Mends}
 use Rattle.mending.specs.declared.Found.{Found}
-use Rattle.mending.specs.Mending.{Mended, FoundIn, FoundOf, erased_from, clears, wipes}
+use Rattle.mending.specs.Mending.{Mended, FoundIn, FoundOf, erased_from, clears, wipes, writes_in}
 use Rattle.mending.proofs.AllLists.{mends-inside}
 use Rattle.mending.proofs.Recovered.{recover-stores, recover-wipes, recover-mends}
 use Rattle.mending.proofs.Finding.{none_left, none-unwiped}
@@ -27,7 +27,7 @@ pub laid_after : {A : Type 0} {words_in : List A → List ℕ} {after : List Wri
 laid_after {words_in = words_in} laws ps {b = b} h e =
     record { in_range = h.in_range; exact = ap (λ x. length (words_in x)) e ∙ length-after laws ps b ∙ h.exact }
 
-pub mended-inside : {l : Layout} {v : View} {count : ℕ → ℕ} {m : Mends} {ps : List Write} → InRange l → Mended l v count m → ps ≡ m.writes.items
+pub mended-inside : {l : Layout} {v : View} {count : ℕ → ℕ} {m : Mends} {ps : List Write} → InRange l → Mended l v count m → ps ≡ writes_in m.writes
     → Inside (size_of l) ps
 mended-inside {l = l} {v = v} {count = count} r t e =
     subst (Inside (size_of l)) (sym (e ∙ t.writes)) (mends-inside l r v count 0 l.lists (omega arith))
@@ -43,13 +43,13 @@ Left m xs l w =
     × (xs ≡ erased_from l (view_of l w) (λ k. get_or m.back k false) 0 l.lists idents)
 
 module _ {l : Layout} {w : List ℕ} (h : Laid l w) where
-  pub left-planned : {m : Mends} {xs : List ℕ} {ps : List Write} → Mended l (view_of l w) (count_in l w) m → Left m xs l w → ps ≡ m.writes.items
+  pub left-planned : {m : Mends} {xs : List ℕ} {ps : List Write} → Mended l (view_of l w) (count_in l w) m → Left m xs l w → ps ≡ writes_in m.writes
       → let qs = ps ++ clears l xs in stores (qs ++ wipes l (run qs w)) ≡ recover_of l w
   left-planned {m = m} t c e =
       (λ i. let qs = e i ++ clears l (c.3 i) in stores (qs ++ wipes l (run qs w)))
       ∙ sym (recover-stores l w m t h.exact h.in_range c.0 c.1 c.2)
 
-  module _ {f : Found} {ps : List Write} (t : FoundIn l w f) (n : f.left ≡ false) (e : ps ≡ f.mends.writes.items) where
+  module _ {f : Found} {ps : List Write} (t : FoundIn l w f) (n : f.left ≡ false) (e : ps ≡ writes_in f.mends.writes) where
     pub wipes-planned : stores (ps ++ wipes l (run ps w)) ≡ recover_of l w
     wipes-planned =
         (λ i. stores (e i ++ wipes l (run (e i) w))) ∙ sym (recover-wipes l w f.mends t.mends h.exact h.in_range (none_left l w f t n))

@@ -65,7 +65,7 @@ fn recover_left<E: Form>(lent: &mut [E], l: Layout, mends: &Mends, allowance: u1
     let s = Store::of(&*lent, l);
     clears::read_nodes(&mut idents, &s);
     clears::erase_all(&mut idents, &s, &mends.back);
-    let made = make(lent, &mends.writes, &idents, l, allowance);
+    let made = make(lent, mends.writes.as_slice(), &idents, l, allowance);
     wipes::follow(lent, l, Grid::of(l), made, allowance)
 }
 
@@ -93,9 +93,9 @@ pub fn recover_in<E: Form>(lent: &mut [E], l: Layout, allowance: u16) -> Answer
         return Ok(recover_left(lent, l, &found.mends, allowance));
     }
     if found.unwiped {
-        return Ok(recover_none_left(lent, l, &found.mends.writes, allowance));
+        return Ok(recover_none_left(lent, l, found.mends.writes.as_slice(), allowance));
     }
-    Ok(runs::run(lent, &found.mends.writes, allowance))
+    Ok(runs::run(lent, found.mends.writes.as_slice(), allowance))
 }
 
 // How many stores recovery will make of a store where a node in no list may be in use by its identifier.

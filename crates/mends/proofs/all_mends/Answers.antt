@@ -9,6 +9,7 @@ use Rattle.lists.specs.Decide.{View, view_of, count_in}
 use Rattle.fitting.specs.declared.Chosen.{Chosen}
 use Rattle.fitting.specs.Fitting.{fit_in, mend_of, count_mend, FaultFits}
 use Rattle.fitting.proofs.Inside.{fit-fits}
+use Rattle.mending.specs.Mending.{writes_in}
 use Rattle.mending.proofs.AllLists.{searched_none, searched-more, searched-refused, searched_all}
 use Rattle.mends.proofs.all_mends.Goals as goal
 
@@ -16,7 +17,7 @@ pub loop-k-init : goal.loop-k-init
 loop-k-init g c =
     let s = c.args.s.now in
     let w = g.E.Form.words_in s.lent.now in record {
-      searched = rw c.new-writes.ensures (searched_none s.layout s.laid.in_range (view_of s.layout w) (count_in s.layout w) _ refl);
+      searched = rw c.none-writes.ensures (searched_none s.layout s.laid.in_range (view_of s.layout w) (count_in s.layout w) _ refl);
       few = omega arith;
       known = λ h. tt;
     }
@@ -56,11 +57,11 @@ loop-k-preserved g c =
     let l = s.layout in
     let w = g.E.Form.words_in s.lent.now in
     let x = c.in_ok-chosen.chosen.walk in
-    let kept : c.keep-in-loop-k.new.writes.items
-    ≡ (c.loop-k.writes.items ++ mend_of l x.faults) ++ count_mend l c.loop-k.k (count_in l w c.loop-k.k) x.members =
+    let kept : writes_in c.keep-in-loop-k.new.writes
+    ≡ (writes_in c.loop-k.writes ++ mend_of l x.faults) ++ count_mend l c.loop-k.k (count_in l w c.loop-k.k) x.members =
     c.keep-in-loop-k.ensures
-    ∙ (λ i. (c.keep.ensures ∙ ap (λ (ps : List Write). c.loop-k.writes.items ++ ps) c.mend_of.ensures) i ++ c.count_mend.ensures i)
-    ∙ ap (λ n. (c.loop-k.writes.items ++ mend_of l x.faults) ++ count_mend l c.loop-k.k n x.members) c.count.ensures in record {
+    ∙ (λ i. (c.keep.ensures ∙ ap (λ (ps : List Write). writes_in c.loop-k.writes ++ ps) c.mend_of.ensures) i ++ c.count_mend.ensures i)
+    ∙ ap (λ n. (writes_in c.loop-k.writes ++ mend_of l x.faults) ++ count_mend l c.loop-k.k n x.members) c.count.ensures in record {
       searched = rw (kept, c.from-members.ensures, c.from.ensures)
           (searched-more l s.laid.in_range (view_of l w) (count_in l w) c.loop-k.invariant.searched c.loop-k-test.true
           (sym c.fit_next-fit.ensures.first ∙ c.in_ok-chosen.was) c.carried-whole.ensures);

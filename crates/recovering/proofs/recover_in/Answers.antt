@@ -24,36 +24,36 @@ returns-in_err-found-clause-lent g c =
 pub recover_none_left-requires-clause-inside : goal.recover_none_left-requires-clause-inside
 recover_none_left-requires-clause-inside g c =
     let t = found-of (Ok c.in_ok-found.found) c.of-store.ensures.1 (ap (λ b. g.E.Form.words_in b.now) c.of-store.ensures.0) c.in_ok-found.ensures in
-    mended-inside c.requires.in_range t.mends c.deref.ensures.0
+    mended-inside c.requires.in_range t.mends c.as_slice.ensures.value
 
 pub returns-then-found-2-clause-answer : goal.returns-then-found-2-clause-answer
 returns-then-found-2-clause-answer g c =
     let t = found-of (Ok c.in_ok-found.found) c.of-store.ensures.1 (ap (λ b. g.E.Form.words_in b.now) c.of-store.ensures.0) c.in_ok-found.ensures in
     ap Ok c.recover_none_left.ensures.outcome
-    ∙ ap (λ (p : Plan). answer_of p c.args.allowance) (wipes-planned c.requires t c.if-found.false c.deref.ensures.0)
+    ∙ ap (λ (p : Plan). answer_of p c.args.allowance) (wipes-planned c.requires t c.if-found.false c.as_slice.ensures.value)
 
 pub returns-then-found-2-clause-lent : goal.returns-then-found-2-clause-lent
 returns-then-found-2-clause-lent g c =
     let t = found-of (Ok c.in_ok-found.found) c.of-store.ensures.1 (ap (λ b. g.E.Form.words_in b.now) c.of-store.ensures.0) c.in_ok-found.ensures in
     c.recover_none_left.ensures.lent
     ∙ ap (λ (p : Plan). left_by g.E.Form.after p c.args.allowance c.args.lent.now)
-    (wipes-planned c.requires t c.if-found.false c.deref.ensures.0)
+    (wipes-planned c.requires t c.if-found.false c.as_slice.ensures.value)
 
 pub run-requires-clause-inside : goal.run-requires-clause-inside
 run-requires-clause-inside g c =
     let t = found-of (Ok c.in_ok-found.found) c.of-store.ensures.1 (ap (λ b. g.E.Form.words_in b.now) c.of-store.ensures.0) c.in_ok-found.ensures in
-    subst (λ (n : ℕ). Inside n c.deref-2.result.now) (sym c.requires.exact) (mended-inside c.requires.in_range t.mends c.deref-2.ensures.0)
+    subst (λ (n : ℕ). Inside n c.as_slice-2.result.now) (sym c.requires.exact) (mended-inside c.requires.in_range t.mends c.as_slice-2.ensures.value)
 
 pub returns-clause-answer : goal.returns-clause-answer
 returns-clause-answer g c =
     let t = found-of (Ok c.in_ok-found.found) c.of-store.ensures.1 (ap (λ b. g.E.Form.words_in b.now) c.of-store.ensures.0) c.in_ok-found.ensures in
     ap Ok c.run.ensures.outcome
     ∙ ap (λ (p : Plan). answer_of p c.args.allowance)
-    (mends-planned c.requires t c.if-found.false c.deref-2.ensures.0 c.if-found-2.false)
+    (mends-planned c.requires t c.if-found.false c.as_slice-2.ensures.value c.if-found-2.false)
 
 pub returns-clause-lent : goal.returns-clause-lent
 returns-clause-lent g c =
     let t = found-of (Ok c.in_ok-found.found) c.of-store.ensures.1 (ap (λ b. g.E.Form.words_in b.now) c.of-store.ensures.0) c.in_ok-found.ensures in
     c.run.ensures.lent
     ∙ ap (λ (p : Plan). left_by g.E.Form.after p c.args.allowance c.args.lent.now)
-    (mends-planned c.requires t c.if-found.false c.deref-2.ensures.0 c.if-found-2.false)
+    (mends-planned c.requires t c.if-found.false c.as_slice-2.ensures.value c.if-found-2.false)
