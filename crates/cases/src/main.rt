@@ -31,12 +31,11 @@
 // the line 'bad script'. The last line is 'end'.
 #![tactic(auto)]
 
-ghost use Rattle.std.specs.Prelude.{◌≡◌, ◌<◌, ◌≤◌, length, IfSome};
+ghost use Rattle.std.specs.Prelude.{◌≡◌, ◌*◌, ◌<◌, ◌≤◌, length, IfOk, IfSome};
 
-use arrayvec::ArrayVec;
 use calls::{Answer, Figures};
 use printing::{Ending, Row, read_full};
-use std::io::{self, Write};
+use std::io::{self, Read, Write};
 use stores::Outcome;
 
 // The most words of a store and of several records.
@@ -48,13 +47,10 @@ const FEW: usize = 64;
 // The most bytes of a script.
 const SCRIPT: usize = 1048576;
 
-// Room for a script, and for its words. With so many zeros in its own body `main` is not proved.
-fn script_buffer() -> [u8; SCRIPT]
-    ensures { 1048576 ≡ length result }
-{
-    [0; SCRIPT]
-}
+// The most bytes that are read of it at a time.
+const PIECE: usize = 16384;
 
+// Room for the words of a script. With so many zeros in its own body `main` is not proved.
 fn word_buffer() -> [u16; SCRIPT / 2]
     ensures { 524288 ≡ length result }
 {
@@ -280,12 +276,16 @@ fn recover_mixed(words: &mut [u16], allowance: u16, digest: &mut Digest) {
     digest.mix_answer(axle_store::recover(words, allowance));
 }
 
+// The words become a copy of others.
+fn copy(words: &mut [u16], others: &[u16]) {
+    for (word, other) in words.iter_mut().zip(others) {
+        *word = *other;
+    }
+}
+
 // The end of a course: recoveries cut after a and after b stores, and a whole one.
-fn recoveries(found: &[u16], a: u16, b: u16, digest: &mut Digest) {
-    let Ok(mut found) = ArrayVec::<u16, FEW>::try_from(found) else {
-        return;
-    };
-    let words = found.as_mut_slice();
+fn recoveries(found: &[u16], words: &mut [u16], a: u16, b: u16, digest: &mut Digest) {
+    copy(words, found);
     recover_mixed(words, a, digest);
     recover_mixed(words, b, digest);
     recover_mixed(words, u16::MAX, digest);
@@ -294,11 +294,11 @@ fn recoveries(found: &[u16], a: u16, b: u16, digest: &mut Digest) {
 
 // All recoveries of the words found: a first one cut after any number of the stores that a whole one makes, a second one cut after any
 // number of the rest.
-fn all_recoveries(found: &[u16], digest: &mut Digest) {
+fn all_recoveries(found: &[u16], words: &mut [u16], digest: &mut Digest) {
     let whole = calls::told(axle_store::recover_stores(found));
     for a in 0..=whole {
         for b in 0..=whole - a {
-            recoveries(found, a, b, digest);
+            recoveries(found, words, a, b, digest);
         }
     }
 }
@@ -314,32 +314,30 @@ impl Course<'_> {
         }
     }
 
-    // The call cut after some stores, word b altered, and word `at`; then all recoveries.
-    fn altered_at(
+    // The call cut after some stores, word b altered, and word `at`.
+    fn find(
         &self,
         store: &[u16],
+        found: &mut [u16],
         allowance: u16,
         at: usize,
         value: u16,
-        digest: &mut Digest,
-    ) {
-        let Ok(mut found) = ArrayVec::<u16, FEW>::try_from(store) else {
-            return;
-        };
-        let found = found.as_mut_slice();
-        digest.mix_answer(self.call(found, allowance));
+    ) -> Answer {
+        copy(found, store);
+        let answer = self.call(found, allowance);
         put(found, self.altered as usize, self.value);
         put(found, at, value);
-        all_recoveries(found, digest);
+        answer
     }
 
     // All courses on the store.
-    fn digest(&self, store: &[u16]) -> Digest {
+    fn digest(&self, store: &[u16], found: &mut [u16], words: &mut [u16]) -> Digest {
         let mut digest = Digest(0);
         for allowance in 0..8 {
             for at in 8..store.len() {
                 for value in self.values {
-                    self.altered_at(store, allowance, at, *value, &mut digest);
+                    digest.mix_answer(self.find(store, found, allowance, at, *value));
+                    all_recoveries(found, words, &mut digest);
                 }
             }
         }
@@ -347,7 +345,102 @@ impl Course<'_> {
     }
 }
 
+// Operation 1: so many words, or all if there are fewer, get the value. The answer is how many.
+fn fill(store: &mut [u16], words: usize, value: u16) -> usize
+    ensures { result ≤ length store.old }
+{
+    let n = store.len().min(words);
+    for word in &mut store[..n] {
+        *word = value;
+    }
+    n
+}
+
+// Operation 3.
+fn put_all(words: &mut [u16], at: usize, values: &[u16]) {
+    if let Some(part) = words.get_mut(at..) {
+        copy(part, values);
+    }
+}
+
+// Operation 4.
+#[inline(never)]
+fn format(
+    out: &mut impl Write,
+    words: &mut [u16],
+    lists: u16,
+    nodes: u16,
+    width: u16,
+) -> io::Result<()> {
+    let answer = axle_store::format(words, lists, nodes, width);
+    let number = calls::number(&answer);
+    writeln!(out, "format {lists} {nodes} {width} = {number}")?;
+    print_store(out, words)
+}
+
+// Operation 5.
+#[inline(never)]
+fn check(out: &mut impl Write, words: &[u16]) -> io::Result<()> {
+    let number = calls::number(&axle_store::check(words));
+    writeln!(out, "check = {number}")
+}
+
+// Operation 6.
+#[inline(never)]
+fn length_of(out: &mut impl Write, words: &[u16], list: u16) -> io::Result<()> {
+    let answer = axle_store::length(words, list);
+    let number = calls::number(&answer);
+    writeln!(out, "length {list} = {number} {}", calls::told(answer))
+}
+
+// Operation 7.
+#[inline(never)]
+fn read(out: &mut impl Write, words: &[u16], place: Place) -> io::Result<()> {
+    let Place { list, position } = place;
+    let answer = axle_store::read_number(words, list, position);
+    let record = Row(axle_store::read(words, list, position));
+    writeln!(out, "read {list} {position} = {answer}:{record}")
+}
+
+// Operation 8.
+#[inline(never)]
+fn insert(
+    out: &mut impl Write,
+    words: &mut [u16],
+    place: Place,
+    start: u16,
+    record: &[u16],
+    allowance: u16,
+) -> io::Result<()> {
+    let Place { list, position } = place;
+    let m = record.len();
+    write!(out, "insert {list} {position} {start} {m} {allowance}")?;
+    let answer = axle_store::insert(words, list, position, start, record, allowance);
+    print_ending(out, answer, words)
+}
+
+// Operation 9.
+#[inline(never)]
+fn delete(out: &mut impl Write, words: &mut [u16], place: Place, allowance: u16) -> io::Result<()> {
+    let Place { list, position } = place;
+    write!(out, "delete {list} {position} {allowance}")?;
+    let answer = axle_store::delete(words, list, position, allowance);
+    print_ending(out, answer, words)
+}
+
+// Operation 10.
+#[inline(never)]
+fn recover(out: &mut impl Write, words: &mut [u16], allowance: u16) -> io::Result<()> {
+    let needed = axle_store::recover_stores(words);
+    let number = calls::number(&needed);
+    writeln!(out, "told = {number} {}", calls::told(needed))?;
+    write!(out, "recover {allowance}")?;
+    let answer = axle_store::recover(words, allowance);
+    print_ending(out, answer, words)
+}
+
 // Operation 11.
+#[inline(never)]
 fn courses(out: &mut impl Write, store: &[u16], course: Course<'_>) -> io::Result<()> {
     if store.len() > FEW {
         return Ok(());
@@ -362,129 +455,110 @@ fn courses(out: &mut impl Write, store: &[u16], course: Course<'_>) -> io::Resul
     } = course;
     let Place { list, position } = place;
     let n = values.len();
-    let digest = course.digest(store).0;
+    let mut found = [0; FEW];
+    let mut words = [0; FEW];
+    let digest = course
+        .digest(store, &mut found[..store.len()], &mut words[..store.len()])
+        .0;
     writeln!(
         out,
         "courses {list} {position} {start} {record} {altered} {value} {n} = {digest}"
     )
 }
 
-// As many of the words as are asked for, over and over.
-fn repeated(given: &[u16], words: u16) -> ArrayVec<u16, MOST> {
-    let mut all = [0; MOST];
-    for (word, next) in all.iter_mut().zip(given.iter().cycle()) {
+// The words become those that are given, over and over.
+fn repeat(words: &mut [u16], given: &[u16]) {
+    for (word, next) in words.iter_mut().zip(given.iter().cycle()) {
         *word = *next;
     }
-    let mut records = ArrayVec::from(all);
-    records.truncate(words as usize);
-    records
 }
 
-// What the entry does to the store, and what it prints.
-fn perform(
+// Operation 12.
+#[inline(never)]
+fn insert_several(
     out: &mut impl Write,
-    entry: Entry<'_>,
-    store: &mut ArrayVec<u16, MOST>,
+    words: &mut [u16],
+    place: Place,
+    start: u16,
+    m: u16,
+    given: &[u16],
+    allowance: u16,
 ) -> io::Result<()> {
-    let words = store.as_mut_slice();
-    match entry {
-        Entry::Fill { words, value } => {
-            *store = ArrayVec::from([value; MOST]);
-            store.truncate(words as usize);
+    let Place { list, position } = place;
+    let mut room = [0; MOST];
+    let Some(records) = room.get_mut(..m as usize) else {
+        return Ok(());
+    };
+    repeat(records, given);
+    let told = axle_store::insert_several_figures(words, list, position, start, records);
+    let number = calls::number(&told);
+    let Figures {
+        first,
+        last,
+        stores,
+    } = calls::foretold(told);
+    writeln!(out, "told = {number} {first} {last} {stores}")?;
+    write!(
+        out,
+        "insert_several {list} {position} {start} {m} {allowance}"
+    )?;
+    let answer = axle_store::insert_several(words, list, position, start, records, allowance);
+    print_ending(out, answer, words)
+}
+
+// Operation 13.
+#[inline(never)]
+fn mark_worn(out: &mut impl Write, words: &mut [u16], cell: u16) -> io::Result<()> {
+    write!(out, "mark_worn {cell}")?;
+    let answer = axle_store::mark_worn(words, cell);
+    print_ending(out, answer, words)
+}
+
+// What the entry does to the store, which has the first n words, and what it prints. The answer is how many words the store has then.
+// (What prints is not inlined here, where its locals would be zeroed for each entry.)
+fn perform(out: &mut impl Write, entry: Entry<'_>, store: &mut [u16], n: usize) -> io::Result<usize>
+    requires { n ≤ length store.old }
+    ensures { IfOk result (λ m. m ≤ length store.old) }
+{
+    let words = &mut store[..n];
+    let printed = match entry {
+        Entry::Fill { words, value } => return Ok(fill(store, words as usize, value)),
+        Entry::Put { at, value } => {
+            put(words, at as usize, value);
+            return Ok(n);
         }
-        Entry::Put { at, value } => put(words, at as usize, value),
         Entry::PutAll { at, values } => {
-            for (word, value) in words.iter_mut().skip(at as usize).zip(values) {
-                *word = *value;
-            }
+            put_all(words, at as usize, values);
+            return Ok(n);
         }
         Entry::Format {
             lists,
             nodes,
             width,
-        } => {
-            let answer = axle_store::format(words, lists, nodes, width);
-            let number = calls::number(&answer);
-            writeln!(out, "format {lists} {nodes} {width} = {number}")?;
-            print_store(out, words)?;
-        }
-        Entry::Check => {
-            let number = calls::number(&axle_store::check(words));
-            writeln!(out, "check = {number}")?;
-        }
-        Entry::Length { list } => {
-            let answer = axle_store::length(words, list);
-            let number = calls::number(&answer);
-            writeln!(out, "length {list} = {number} {}", calls::told(answer))?;
-        }
-        Entry::Read {
-            place: Place { list, position },
-        } => {
-            let answer = axle_store::read_number(words, list, position);
-            let record = Row(axle_store::read(words, list, position));
-            writeln!(out, "read {list} {position} = {answer}:{record}")?;
-        }
+        } => format(out, words, lists, nodes, width),
+        Entry::Check => check(out, words),
+        Entry::Length { list } => length_of(out, words, list),
+        Entry::Read { place } => read(out, words, place),
         Entry::Insert {
-            place: Place { list, position },
+            place,
             start,
             record,
             allowance,
-        } => {
-            let m = record.len();
-            write!(out, "insert {list} {position} {start} {m} {allowance}")?;
-            let answer = axle_store::insert(words, list, position, start, record, allowance);
-            print_ending(out, answer, words)?;
-        }
-        Entry::Delete {
-            place: Place { list, position },
-            allowance,
-        } => {
-            write!(out, "delete {list} {position} {allowance}")?;
-            let answer = axle_store::delete(words, list, position, allowance);
-            print_ending(out, answer, words)?;
-        }
-        Entry::Recover { allowance } => {
-            let needed = axle_store::recover_stores(words);
-            let number = calls::number(&needed);
-            writeln!(out, "told = {number} {}", calls::told(needed))?;
-            write!(out, "recover {allowance}")?;
-            let answer = axle_store::recover(words, allowance);
-            print_ending(out, answer, words)?;
-        }
-        Entry::Courses(course) => courses(out, words, course)?,
+        } => insert(out, words, place, start, record, allowance),
+        Entry::Delete { place, allowance } => delete(out, words, place, allowance),
+        Entry::Recover { allowance } => recover(out, words, allowance),
+        Entry::Courses(course) => courses(out, words, course),
         Entry::InsertSeveral {
-            place: Place { list, position },
+            place,
             start,
             words: m,
             given,
             allowance,
-        } => {
-            let records = repeated(given, m);
-            let records = records.as_slice();
-            let told = axle_store::insert_several_figures(words, list, position, start, records);
-            let number = calls::number(&told);
-            let Figures {
-                first,
-                last,
-                stores,
-            } = calls::foretold(told);
-            writeln!(out, "told = {number} {first} {last} {stores}")?;
-            write!(
-                out,
-                "insert_several {list} {position} {start} {m} {allowance}"
-            )?;
-            let answer = axle_store::insert_several(
-                words, list, position, start, records, allowance,
-            );
-            print_ending(out, answer, words)?;
-        }
-        Entry::MarkWorn { cell } => {
-            write!(out, "mark_worn {cell}")?;
-            let answer = axle_store::mark_worn(words, cell);
-            print_ending(out, answer, words)?;
-        }
-    }
-    Ok(())
+        } => insert_several(out, words, place, start, m, given, allowance),
+        Entry::MarkWorn { cell } => mark_worn(out, words, cell),
+    };
+    printed?;
+    Ok(n)
 }
 
 // The words of the bytes, low byte first.
@@ -494,22 +568,40 @@ fn decode(bytes: &[u8], words: &mut [u16]) {
     }
 }
 
+// Reads words, low byte first, until there is room for no more or the input ends; the answer is how many bytes were read.
+fn read_words(input: &mut impl Read, words: &mut [u16]) -> io::Result<usize>
+    ensures { IfOk result (λ n. n ≤ 2 * length words.old) }
+{
+    let mut bytes = [0; PIECE];
+    let mut at = 0;
+    while at < words.len() {
+        let part = &mut words[at..];
+        let some = part.len().min(PIECE / 2);
+        let got = read_full(input, &mut bytes[..2 * some])?;
+        decode(&bytes[..got], part);
+        if got < 2 * some {
+            return Ok(2 * at + got);
+        }
+        at += some;
+    }
+    Ok(2 * at)
+}
+
 // The entries, one after the other, on a store that has no words at first. The answer is whether they are all there is.
 fn run(out: &mut impl Write, script: &[u16]) -> io::Result<bool> {
     let mut script = script;
-    let mut store = ArrayVec::new();
+    let mut store = [0; MOST];
+    let mut n = 0;
     while let Some((entry, rest)) = parse(script) {
-        perform(out, entry, &mut store)?;
+        n = perform(out, entry, &mut store, n)?;
         script = rest;
     }
     Ok(script.is_empty())
 }
 
 fn main(rt: HostRuntime) -> io::Result<()> {
-    let mut bytes = script_buffer();
-    let n = read_full(&mut rt.stdin(), &mut bytes)?;
     let mut words = word_buffer();
-    decode(&bytes[..n], &mut words);
+    let n = read_words(&mut rt.stdin(), &mut words)?;
     let out = &mut io::writer(&rt);
     if !run(out, &words[..n / 2])? || n % 2 != 0 {
         writeln!(out, "bad script")?;

@@ -1,7 +1,0 @@
--- `script_buffer`: the length of so many zeros.
-use Rattle.std.proofs.Common.{ℕ, sym}
-use Rattle.std.proofs.lemmas.List.{length-replicate}
-use Rattle.cases.proofs.script_buffer.Goals as goal
-
-pub returns : goal.returns
-returns c = sym (length-replicate {A = ℕ} 1048576 0)
