@@ -121,7 +121,8 @@ impl<'a, E: Form> Store<'a, E> {
         s.is_single(k, self.node(s.first))
     }
 
-    // Round after round: do the cells of the span lie between its ends?
+    // Round after round: do the cells of the span lie between its ends? (Inlined, so that no span lies in memory while two lists are walked.)
+    #[inline(always)]
     fn spanned(&self, k: u16, s: Span) -> bool
         requires { (k < self.now.layout.lists) × Led (view_of self.now.layout (E.words_in self.now.lent.now)) s }
         ensures { Decides result (Spanned self.now.layout (view_of self.now.layout (E.words_in self.now.lent.now)) k s) }
