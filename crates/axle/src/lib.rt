@@ -30,13 +30,23 @@ fn code(answer: Answer) -> u32
     }
 }
 
-// The number of a length, or of the stores of a recovery, told beforehand.
+// The number of a length, or of what is told beforehand.
 fn told_code(told: Result<u16, Refusal>) -> u32
     ensures length { result ≡ counted_code told }
     ensures stores { result ≡ needed_code told }
 {
     match told {
         Ok(n) => DONE + u32::from(n),
+        Err(refusal) => u32::from(refusal.number()),
+    }
+}
+
+// The number of the stores of a recovery.
+fn needed_code(told: Result<u16, Refusal>) -> u32
+    ensures { result ≡ needed_code told }
+{
+    match told {
+        Ok(stores) => DONE + u32::from(stores),
         Err(refusal) => u32::from(refusal.number()),
     }
 }
@@ -185,5 +195,5 @@ pub fn axle_recover(store: &mut [u8], allowance: u16) -> u32
 pub fn axle_recover_stores(store: &[u8]) -> u32
     ensures { result ≡ needed_code (byte_needed store.now) }
 {
-    told_code(engine::recover_stores(store))
+    needed_code(engine::recover_stores(store))
 }

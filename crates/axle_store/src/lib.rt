@@ -46,7 +46,10 @@ pub fn length(words: &[u16], list: u16) -> Result<u16, Refusal>
 pub fn read_number(words: &[u16], list: u16, position: u16) -> u16
     ensures { result ≡ read_number words.now list position }
 {
-    calls::number(&sites::look(words, Request::Member(list, position)))
+    match sites::look(words, Request::Member(list, position)) {
+        Ok(_) => 0,
+        Err(refusal) => refusal.number(),
+    }
 }
 
 // The record of the list at the position, as a part of the lent words: empty if refused.

@@ -16,8 +16,10 @@ pub fn recover_each(words: &mut [u16], allowances: &[u16], last: u16) -> Answer
     ensures words { words.new ≡ words_through (allowances.now ++ last ∷ []) words.old }
     ensures course { Demanded words.old allowances.now last words.new result }
 {
-    for allowance in allowances {
-        let _ = axle_store::recover(words, *allowance);
+    let mut i: usize = 0;
+    while i < allowances.len() {
+        let _ = axle_store::recover(words, allowances[i]);
+        i += 1;
     }
     axle_store::recover(words, last)
 }

@@ -54,8 +54,10 @@ pub fn format<E: Form>(lent: &mut [E], lists: u16, nodes: u16, width: u16) -> Re
 pub fn check<E: Form>(lent: &[E]) -> Result<(), Refusal>
     ensures { result ≡ answered (E.whole lent.now) (check_answer (E.words_in lent.now)) }
 {
-    sites::look(lent, Request::Check)?;
-    Ok(())
+    match sites::look(lent, Request::Check) {
+        Ok(_) => Ok(()),
+        Err(refusal) => Err(refusal),
+    }
 }
 
 // How many records has the list?
@@ -117,7 +119,10 @@ pub fn insert_several_figures<E: Form>(
     let size = record_size(records);
     let look = sites::look(lent, Request::Whole(list))?;
     let s = Store::of(lent, look.layout);
-    let ends = sites::ends(&s, look.site.count, position, start, size)?;
+    let ends = match sites::ends(&s, look.site.count, position, start, size) {
+        Ok(ends) => ends,
+        Err(refusal) => return Err(refusal),
+    };
     Ok(Figures {
         first: ends.first,
         last: ends.last,
@@ -157,6 +162,8 @@ pub fn recover<E: Form>(lent: &mut [E], allowance: u16) -> Answer
 pub fn recover_stores<E: Form>(lent: &[E]) -> Result<u16, Refusal>
     ensures { result ≡ answered (E.whole lent.now) (recover_needed (E.words_in lent.now)) }
 {
-    let layout = sites::open(lent)?;
-    recovering::stores_in(&Store::of(lent, layout))
+    match sites::open(lent) {
+        Ok(layout) => recovering::stores_in(&Store::of(lent, layout)),
+        Err(shut) => Err(shut),
+    }
 }

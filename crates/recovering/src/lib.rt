@@ -113,7 +113,10 @@ fn stores_left<E: Form>(s: &Store<E>, mends: &Mends) -> u16
 pub fn stores_in<E: Form>(s: &Store<E>) -> Result<u16, Refusal>
     ensures { result ≡ needed_of (recover_of s.now.layout (E.words_in s.now.lent.now)) }
 {
-    let found = decide(s)?;
+    let found = match decide(s) {
+        Ok(found) => found,
+        Err(refusal) => return Err(refusal),
+    };
     if found.left {
         return Ok(stores_left(s, &found.mends));
     }

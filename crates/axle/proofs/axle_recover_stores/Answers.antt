@@ -6,4 +6,4 @@ use Rattle.axle.proofs.axle_recover_stores.Goals as goal
 
 pub returns : goal.returns
 unfolding byte_needed
-returns c = c.told_code.ensures.stores ∙ ap needed_code c.recover_stores.ensures
+returns c = c.needed_code.ensures ∙ ap needed_code c.recover_stores.ensures

@@ -1,18 +1,12 @@
 -- The number is that of the look.
-use Rattle.std.proofs.Common.{◌≡◌, ap, ◌∙◌, refl, Ok, Err}
-use Rattle.std.specs.Prelude.{Result}
-use Rattle.layout.specs.declared.Refusal.{Refusal}
-use Rattle.requests.specs.declared.Look.{Look}
-use Rattle.requests.specs.declared.Request.TheVariants.{Member}
-use Rattle.requests.specs.Requests.{look_of}
-use Rattle.calls.specs.Answers.{refusal_number}
-use Rattle.calls.specs.Calls.{look_number, read_number}
+use Rattle.std.proofs.Common.{arith, sym, ◌∙◌}
+use Rattle.calls.proofs.Cases.{number-refused, number_at}
 use Rattle.axle_store.proofs.read_number.Goals as goal
 
-number-look : (x : Result Look Refusal) → refusal_number x ≡ look_number x
-number-look (Ok o) = refl
-number-look (Err n) = refl
+pub returns-in-Ok : goal.returns-in-Ok
+returns-in-Ok c = number_at _ _ _ (sym c.look.ensures.outcome ∙ c.in-Ok.is)
 
-pub returns : goal.returns
-unfolding read_number
-returns c = c.number.ensures ∙ ap refusal_number c.look.ensures.outcome ∙ number-look (look_of c.args.words.now (Member c.args.list c.args.position))
+pub returns-in-Err : goal.returns-in-Err
+returns-in-Err c =
+    let a = c.args in
+    omega (arith, c.number.ensures, number-refused a.words.now a.list a.position (sym c.look.ensures.outcome ∙ c.in-Err.is))

@@ -1,26 +1,26 @@
 -- `recover_each` recovers once with each allowance: after i turns the words are those after the first i recoveries.
-use Rattle.std.proofs.Common.{◌≡◌, ℕ, List, ap, ◌∙◌}
+use Rattle.std.proofs.Common.{◌≡◌, ℕ, List, arith, ap, ◌∙◌}
 use Rattle.calls.specs.Answers.{answer_of}
 use Rattle.recovery.specs.Plan.{recover_plan}
 use Rattle.courses.specs.Course.{words_through}
 use Rattle.courses.proofs.Each.{each_none, each_more, each_all, each_last, each-demanded}
 use Rattle.courses.proofs.recover_each.Goals as goal
 
-pub loop-allowance-init : goal.loop-allowance-init
-loop-allowance-init c = each_none c.args.allowances.now c.args.words.now
+pub loop-i-init : goal.loop-i-init
+loop-i-init c = each_none c.args.allowances.now c.args.words.now
 
-pub loop-allowance-preserved : goal.loop-allowance-preserved
-loop-allowance-preserved c =
-    let l = c.loop-allowance in
-    c.recover.ensures.words ∙ each_more c.args.allowances.now l.allowance-index c.args.words.now l.words c.loop-allowance-test.true l.invariant
+pub loop-i-preserved : goal.loop-i-preserved
+loop-i-preserved c =
+    let l = c.loop-i in
+    c.recover.ensures.words ∙ each_more c.args.allowances.now l.i c.args.words.now l.words (omega arith) l.invariant
 
 pub returns : goal.returns
 returns c =
     let r = c.recover-2 in
-    let l = c.loop-allowance in
+    let l = c.loop-i in
     let ms = c.args.allowances.now in
     let y = c.args.words.now in
-    let q : l.words ≡ words_through ms y = each_all ms l.allowance-index y l.words c.loop-allowance-test.false l.invariant in
+    let q : l.words ≡ words_through ms y = each_all ms l.i y l.words (omega arith) l.invariant in
     let answer = r.ensures.answer ∙ ap (λ (v : List ℕ). answer_of (recover_plan v) c.args.last) q in
     let ends = r.ensures.words ∙ each_last ms c.args.last y l.words q in record {
       answer = answer;

@@ -1,5 +1,5 @@
 -- What the look at the list and the ends of the cells give, of the records' words.
-use Rattle.std.proofs.Common.{◌≡◌, ℕ, ◌*◌, ◌/◌, ◌≤◌, List, length, Ok, Err, ap, sym, subst, ◌∙◌}
+use Rattle.std.proofs.Common.{◌≡◌, ◌*◌, ◌/◌, ◌≤◌, length, Ok, Err, ap, sym, subst, ◌∙◌}
 use Rattle.layout.specs.declared.Refusal.TheVariants.{Size}
 use Rattle.lists.specs.Decide.{view_of}
 use Rattle.requests.specs.Requests.{ends_at, EndsUnworn}
@@ -31,8 +31,8 @@ of-s-requires g c =
     let x = first-at (f.whole b) (sym c.look.ensures.outcome ∙ c.in_ok-look.was) in
     list-laid (f.words_in b) a.list a.position a.start records x.1
 
-pub returns-in_err-ends-clause-figures : goal.returns-in_err-ends-clause-figures
-returns-in_err-ends-clause-figures g c =
+pub returns-in-Err-clause-figures : goal.returns-in-Err-clause-figures
+returns-in-Err-clause-figures g c =
     let f = g.E.Form in
     let a = c.args in
     let b = a.lent.now in
@@ -43,8 +43,8 @@ returns-in_err-ends-clause-figures g c =
     let x = first-at (f.whole b) (sym c.look.ensures.outcome ∙ c.in_ok-look.was) in
     let ends : c.ends.result ≡ ends_at l (view_of l w).ident t.count a.position a.start (length records) =
     rw (c.of-s.ensures.0, c.of-s.ensures.1, c.record_size-size.ensures) at c.ends.ensures.cells in
-    let told = (figures-shut w a.list a.position a.start records x.1 (sym ends ∙ c.in_err-ends.was)).0 in
-    handed c.from_residual-in_err-ends.ensures.1 ∙ told ∙ sym (asked-yes (f.whole b) (Err Size) (several_figures w a.list a.position a.start records) x.0)
+    let told = (figures-shut w a.list a.position a.start records x.1 (sym ends ∙ c.in-Err.is)).0 in
+    told ∙ sym (asked-yes (f.whole b) (Err Size) (several_figures w a.list a.position a.start records) x.0)
 
 pub several_stores-requires : goal.several_stores-requires
 several_stores-requires g c =
@@ -58,7 +58,7 @@ several_stores-requires g c =
     let x = first-at (f.whole b) (sym c.look.ensures.outcome ∙ c.in_ok-look.was) in
     let ends : c.ends.result ≡ ends_at l (view_of l w).ident t.count a.position a.start (length records) =
     rw (c.of-s.ensures.0, c.of-s.ensures.1, c.record_size-size.ensures) at c.ends.ensures.cells in
-    let few = records-few w a.list a.position a.start records x.1 (sym ends ∙ c.in_ok-ends.was) in
+    let few = records-few w a.list a.position a.start records x.1 (sym ends ∙ c.in-Ok.is) in
     ((list-laid w a.list a.position a.start records x.1).in_range, subst (λ n. n / l.width ≤ l.nodes) (sym c.record_size-size.ensures) few)
 
 pub returns-clause-figures : goal.returns-clause-figures
@@ -73,11 +73,11 @@ returns-clause-figures g c =
     let x = first-at (f.whole b) (sym c.look.ensures.outcome ∙ c.in_ok-look.was) in
     let ends : c.ends.result ≡ ends_at l (view_of l w).ident t.count a.position a.start (length records) =
     rw (c.of-s.ensures.0, c.of-s.ensures.1, c.record_size-size.ensures) at c.ends.ensures.cells in
-    let unworn : EndsUnworn (view_of l w).ident (Ok c.in_ok-ends.ends) = rw (c.of-s.ensures.0, c.of-s.ensures.1, c.in_ok-ends.was) at c.ends.ensures.worn in
-    let told = (figures-told w a.list a.position a.start records x.1 (sym ends ∙ c.in_ok-ends.was) unworn).0 in
+    let unworn : EndsUnworn (view_of l w).ident (Ok c.in-Ok.ends) = rw (c.of-s.ensures.0, c.of-s.ensures.1, c.in-Ok.is) at c.ends.ensures.worn in
+    let told = (figures-told w a.list a.position a.start records x.1 (sym ends ∙ c.in-Ok.is) unworn).0 in
     let n : c.several_stores.result ≡ length records / l.width * insert_stores l =
     c.several_stores.ensures ∙ ap (λ n. n / l.width * insert_stores l) c.record_size-size.ensures in
-    ap (λ n. Ok (record { first = c.in_ok-ends.ends.first; last = c.in_ok-ends.ends.last; stores = n })) n
+    ap (λ n. Ok (record { first = c.in-Ok.ends.first; last = c.in-Ok.ends.last; stores = n })) n
     ∙ told
     ∙ sym (asked-yes (f.whole b) (Err Size) (several_figures w a.list a.position a.start records) x.0)
 
@@ -93,5 +93,5 @@ returns-clause-worn g c =
     let x = first-at (f.whole b) (sym c.look.ensures.outcome ∙ c.in_ok-look.was) in
     let ends : c.ends.result ≡ ends_at l (view_of l w).ident t.count a.position a.start (length records) =
     rw (c.of-s.ensures.0, c.of-s.ensures.1, c.record_size-size.ensures) at c.ends.ensures.cells in
-    let unworn : EndsUnworn (view_of l w).ident (Ok c.in_ok-ends.ends) = rw (c.of-s.ensures.0, c.of-s.ensures.1, c.in_ok-ends.was) at c.ends.ensures.worn in
-    (figures-told w a.list a.position a.start records x.1 (sym ends ∙ c.in_ok-ends.was) unworn).1.1.1
+    let unworn : EndsUnworn (view_of l w).ident (Ok c.in-Ok.ends) = rw (c.of-s.ensures.0, c.of-s.ensures.1, c.in-Ok.is) at c.ends.ensures.worn in
+    (figures-told w a.list a.position a.start records x.1 (sym ends ∙ c.in-Ok.is) unworn).1.1.1

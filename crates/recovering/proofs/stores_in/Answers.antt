@@ -1,25 +1,23 @@
 -- `recovering::stores_in`: what is found of the store tells a refusal, or how many stores recovery makes.
 use Rattle.std.proofs.Common.{Ok, ◌+◌, arith, ap, sym, ◌∙◌}
-use Rattle.std.proofs.lemmas.Result.{err_from_is_err_and}
 use Rattle.layout.specs.Words.{first_node}
 use Rattle.mending.proofs.Finding.{none_left, none-unwiped}
 use Rattle.mending.proofs.Counting.{wipes-few}
 use Rattle.mending.proofs.Counted.{needed-refused, needed-wipes, needed-mends}
 use Rattle.recovering.proofs.stores_in.Goals as goal
 
-pub returns-in_err-found : goal.returns-in_err-found
-returns-in_err-found g c =
+pub returns-in-Err : goal.returns-in-Err
+returns-in-Err g c =
     let s = c.args.s.now in
-    let p = err_from_is_err_and c.from_residual.result c.from_residual.ensures.1 in
-    rw (p.1, p.2) (sym (needed-refused s.layout (g.E.Form.words_in s.lent.now) _ c.in_err-found.ensures))
+    sym (needed-refused s.layout (g.E.Form.words_in s.lent.now) c.in-Err.refusal c.in-Err.ensures)
 
 pub returns-then-not-found : goal.returns-then-not-found
 returns-then-not-found g c =
     let s = c.args.s.now in
     let l = s.layout in
     let w = g.E.Form.words_in s.lent.now in
-    let f = c.in_ok-found.found in
-    let t = c.in_ok-found.ensures in
+    let f = c.in-Ok.found in
+    let t = c.in-Ok.ensures in
     ap Ok c.len-mends.ensures.value
     ∙ sym (needed-mends l w f.mends t.mends s.laid.exact s.laid.in_range (none_left l w f t c.if-found.false) (none-unwiped l w f t c.if-not-found.true))
 
@@ -34,7 +32,7 @@ returns g c =
     let s = c.args.s.now in
     let l = s.layout in
     let w = g.E.Form.words_in s.lent.now in
-    let f = c.in_ok-found.found in
-    let t = c.in_ok-found.ensures in
+    let f = c.in-Ok.found in
+    let t = c.in-Ok.ensures in
     (λ i. Ok (c.len-mends.ensures.value i + c.free_wipes.ensures i))
     ∙ sym (needed-wipes l w f.mends t.mends s.laid.exact s.laid.in_range (none_left l w f t c.if-found.false))
