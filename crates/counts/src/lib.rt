@@ -27,7 +27,7 @@ fn row_wipes<E: Form>(s: &Store<E>, a: usize, n: u16) -> u16
     count
 }
 
-// How many wipes the record of node c needs. (Inlined: with a call for each free node the loops below take a quarter longer.)
+// How many wipes the record of node c needs. (Inlined: with a call for each free node the loops below take a quarter longer, or more.)
 #[inline(always)]
 fn record_wipes<E: Form>(s: &Store<E>, c: usize) -> u16
     requires { Node s.now.layout c }
