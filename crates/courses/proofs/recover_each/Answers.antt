@@ -1,5 +1,5 @@
 -- `recover_each` recovers once with each allowance: after i turns the words are those after the first i recoveries.
-use Rattle.std.proofs.Common.{◌≡◌, ℕ, List, arith, ap, ◌∙◌}
+use Rattle.std.proofs.Common.{◌≡◌, ℕ, List, take, arith, ap, subst, ◌∙◌}
 use Rattle.calls.specs.Answers.{answer_of}
 use Rattle.recovery.specs.Plan.{recover_plan}
 use Rattle.courses.specs.Course.{words_through}
@@ -12,7 +12,10 @@ loop-i-init c = each_none c.args.allowances.now c.args.words.now
 pub loop-i-preserved : goal.loop-i-preserved
 loop-i-preserved c =
     let l = c.loop-i in
-    c.recover.ensures.words ∙ each_more c.args.allowances.now l.i c.args.words.now l.words (omega arith) l.invariant
+    let ms = c.args.allowances.now in
+    let y = c.args.words.now in
+    subst (λ (n : ℕ). c.recover.new.words ≡ words_through (take n ms) y) (omega arith)
+    (c.recover.ensures.words ∙ each_more ms l.i y l.words (omega arith) l.invariant)
 
 pub returns : goal.returns
 returns c =
