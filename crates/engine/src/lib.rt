@@ -1,5 +1,5 @@
 // The calls on what is lent, in either form. Each asks its questions, and answers and stores what crate calls says; what it stores, it stores
-// in what is lent.
+// in what is lent. (A refusal is handed on by `?`; where a must-fail edit answers otherwise, by an arm of its own.)
 #![tactic(auto)]
 
 ghost use Rattle.std.specs.Prelude.{◌≡◌, length};
