@@ -48,16 +48,14 @@ pub trait Form: Copy {
         requires { a + n ≤ length (words_in lent.now) }
         ensures { words_in result.now ≡ take n (drop a (words_in lent.now)) };
 
-    // The elements of a word.
-    const ELEMENTS: usize;
+    // The elements of a word: one, where a form gives no other number.
+    const ELEMENTS: usize = 1;
 
     // What each form must prove of itself.
     ghost laws: { FormLaws words_in after };
 }
 
 impl Form for u16 {
-    const ELEMENTS: usize = 1;
-
     ghost words_in = { W.words_in };
 
     ghost whole = { W.whole };
@@ -131,4 +129,16 @@ impl Form for u8 {
     }
 
     ghost laws = { byte_laws };
+}
+
+#[cfg(test)]
+mod tests {
+    use super::*;
+
+    // No contract speaks of that of u16, which the trait gives.
+    #[test]
+    fn elements_of_a_word(rt: HostRuntime) {
+        assert_eq!(rt; u16::ELEMENTS, 1);
+        assert_eq!(rt; u8::ELEMENTS, 2);
+    }
 }
