@@ -103,6 +103,21 @@ pub recover-refused : (l : Layout) (w : List ℕ) (n : Refusal) → refusal_in l
 unfolding recover_of
 recover-refused l w n e = rw (sym (refusal-told l w 0 l.lists (omega arith)) ∙ e)
 
+-- where none is refused, the stores in three parts, as they are required of the words; of any layout, also with more mends than a `Mends` keeps
+pub parts-accepted
+    : (l : Layout) (w : List ℕ) → refusal_in l (view_of l w) (count_in l w) 0 l.lists ≡ None → length w ≡ size_of l
+    → let s = fitting_of l w in
+    recover_of l w ≡ stores ((mends_in l (view_of l w) (count_in l w) 0 l.lists ++ wrong w (clears_asked l w s)) ++ wrong w (wipes_asked l w s))
+unfolding recover_of
+parts-accepted l w e exact =
+    let s = fitting_of l w in
+    let refusal = sym (refusal-told l w 0 l.lists (omega arith)) ∙ e in
+    let fitted = λ (k : ℕ) (h : k < l.lists). none-refused l (view_of l w) (count_in l w) 0 l.lists e k (omega arith) (omega arith) in
+    rw refusal
+    (ap stores
+    (plan-parted l w s exact (unrefused-accepted l w refusal)
+    ∙ ap (λ (ps : List Write). (ps ++ wrong w (clears_asked l w s)) ++ wrong w (wipes_asked l w s)) (sym (mends-told l w fitted l.lists (omega arith)))))
+
 module _ (l : Layout) (w : List ℕ) (m : Mends) (told : Mended l (view_of l w) (count_in l w) m) where
   abbrev v : View
   v = view_of l w
@@ -123,14 +138,11 @@ module _ (l : Layout) (w : List ℕ) (m : Mends) (told : Mended l (view_of l w) 
     mends : writes_in m.writes ≡ wrong w (lists_asked l s)
     mends = told.writes ∙ mends-told l w fitted l.lists (omega arith)
 
-    -- the stores in three parts, as they are required of the words
+    -- the stores in three parts
     pub parts-told : recover_of l w ≡ stores ((writes_in m.writes ++ wrong w (clears_asked l w s)) ++ wrong w (wipes_asked l w s))
-    unfolding recover_of
     parts-told =
-        rw refusal
-        (ap stores
-        (plan-parted l w s exact accepted
-        ∙ ap (λ (ps : List Write). (ps ++ wrong w (clears_asked l w s)) ++ wrong w (wipes_asked l w s)) (sym mends)))
+        parts-accepted l w told.accepted exact
+        ∙ ap (λ (ps : List Write). stores ((ps ++ wrong w (clears_asked l w s)) ++ wrong w (wipes_asked l w s))) (sym told.writes)
 
     -- as they are made: the mends, the clears, and the wipes of what these leave ..
     stores-told : (cs : List Write) → cs ≡ wrong w (clears_asked l w s) → let ps = writes_in m.writes ++ cs in recover_of l w ≡ stores (ps ++ wipes l (run ps w))
