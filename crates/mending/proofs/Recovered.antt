@@ -21,7 +21,7 @@ use Rattle.layout.specs.Words.{most_cells, first_node, Node, InRange, size_of, i
 use Rattle.lists.specs.Lists.{asked, others_asked, count_asked}
 use Rattle.lists.specs.Decide.{View, view_of, count_in, used, unwiped}
 use Rattle.recovery.specs.Fits.{wrong}
-use Rattle.recovery.specs.Plan.{joined, lists_asked, clears_asked, wipes_asked, fitting_of, refusal_from, recover_of, Accepted}
+use Rattle.recovery.specs.Plan.{joined, lists_asked, clears_asked, wipes_asked, fitting_of, refusal_from, recover_of}
 use Rattle.recovery.proofs.Required.{wrong-right, wrong-wrong, wrong-append}
 use Rattle.recovery.proofs.Whole.{unrefused-accepted}
 use Rattle.fitting.specs.declared.Chosen.{Chosen}
@@ -103,40 +103,37 @@ pub recover-refused : (l : Layout) (w : List ℕ) (n : Refusal) → refusal_in l
 unfolding recover_of
 recover-refused l w n e = rw (sym (refusal-told l w 0 l.lists (omega arith)) ∙ e)
 
--- where none is refused, the stores in three parts, as they are required of the words; of any layout, also with more mends than a `Mends` keeps
-pub parts-accepted
-    : (l : Layout) (w : List ℕ) → refusal_in l (view_of l w) (count_in l w) 0 l.lists ≡ None → length w ≡ size_of l
-    → let s = fitting_of l w in
-    recover_of l w ≡ stores ((mends_in l (view_of l w) (count_in l w) 0 l.lists ++ wrong w (clears_asked l w s)) ++ wrong w (wipes_asked l w s))
-unfolding recover_of
-parts-accepted l w e exact =
-    let s = fitting_of l w in
-    let refusal = sym (refusal-told l w 0 l.lists (omega arith)) ∙ e in
-    let fitted = λ (k : ℕ) (h : k < l.lists). none-refused l (view_of l w) (count_in l w) 0 l.lists e k (omega arith) (omega arith) in
-    rw refusal
-    (ap stores
-    (plan-parted l w s exact (unrefused-accepted l w refusal)
-    ∙ ap (λ (ps : List Write). (ps ++ wrong w (clears_asked l w s)) ++ wrong w (wipes_asked l w s)) (sym (mends-told l w fitted l.lists (omega arith)))))
+-- where none is refused ..
+module _ (l : Layout) (w : List ℕ) (none : refusal_in l (view_of l w) (count_in l w) 0 l.lists ≡ None) where
+  unrefused : refusal_from l w 0 l.lists ≡ None
+  unrefused = sym (refusal-told l w 0 l.lists (omega arith)) ∙ none
+
+  all-fit : (k : ℕ) → k < l.lists → result_err (fit_in l (view_of l w) k (count_in l w k)) ≡ None
+  all-fit k h = none-refused l (view_of l w) (count_in l w) 0 l.lists none k (omega arith) (omega arith)
+
+  all-mends : mends_in l (view_of l w) (count_in l w) 0 l.lists ≡ wrong w (lists_asked l (fitting_of l w))
+  all-mends = mends-told l w all-fit l.lists (omega arith)
+
+  -- .. the stores in three parts, as they are required of the words; of any layout, also with more mends than a `Mends` keeps
+  pub parts-accepted
+      : length w ≡ size_of l
+      → let s = fitting_of l w in
+      recover_of l w ≡ stores ((mends_in l (view_of l w) (count_in l w) 0 l.lists ++ wrong w (clears_asked l w s)) ++ wrong w (wipes_asked l w s))
+  unfolding recover_of
+  parts-accepted exact =
+      let s = fitting_of l w in
+      rw unrefused
+      (ap stores
+      (plan-parted l w s exact (unrefused-accepted l w unrefused)
+      ∙ ap (λ (ps : List Write). (ps ++ wrong w (clears_asked l w s)) ++ wrong w (wipes_asked l w s)) (sym all-mends)))
 
 module _ (l : Layout) (w : List ℕ) (m : Mends) (told : Mended l (view_of l w) (count_in l w) m) where
   abbrev v : View
   v = view_of l w
 
-  refusal : refusal_from l w 0 l.lists ≡ None
-  refusal = sym (refusal-told l w 0 l.lists (omega arith)) ∙ told.accepted
-
   module _ (exact : length w ≡ size_of l) where
     abbrev s : ℕ → List ℕ
     s = fitting_of l w
-
-    accepted : Accepted l w s
-    accepted = unrefused-accepted l w refusal
-
-    fitted : (k : ℕ) → k < l.lists → result_err (fit_in l v k (count_in l w k)) ≡ None
-    fitted k h = none-refused l v (count_in l w) 0 l.lists told.accepted k (omega arith) (omega arith)
-
-    mends : writes_in m.writes ≡ wrong w (lists_asked l s)
-    mends = told.writes ∙ mends-told l w fitted l.lists (omega arith)
 
     -- the stores in three parts
     pub parts-told : recover_of l w ≡ stores ((writes_in m.writes ++ wrong w (clears_asked l w s)) ++ wrong w (wipes_asked l w s))
@@ -148,10 +145,11 @@ module _ (l : Layout) (w : List ℕ) (m : Mends) (told : Mended l (view_of l w) 
     stores-told : (cs : List Write) → cs ≡ wrong w (clears_asked l w s) → let ps = writes_in m.writes ++ cs in recover_of l w ≡ stores (ps ++ wipes l (run ps w))
     unfolding recover_of
     stores-told cs e =
-        rw refusal
+        let u = unrefused l w told.accepted in
+        rw u
         (ap stores
-        (plan-told l w s exact accepted
-        ∙ ap₂ (λ (a b : List Write). (a ++ b) ++ wipes l (run (a ++ b) w)) (sym mends) (sym e)))
+        (plan-told l w s exact (unrefused-accepted l w u)
+        ∙ ap₂ (λ (a b : List Write). (a ++ b) ++ wipes l (run (a ++ b) w)) (sym (told.writes ∙ all-mends l w told.accepted)) (sym e)))
 
     -- .. by what is left of the nodes' identifiers
     module _ (r : InRange l) (idents : List ℕ) (room : most_cells ≡ length idents) (same : (c : ℕ) → Node l c → get_or idents c 0 ≡ v.ident c) where
@@ -162,7 +160,7 @@ module _ (l : Layout) (w : List ℕ) (m : Mends) (told : Mended l (view_of l w) 
       column =
           column-told l w idents v (λ k. get_or m.back k false) s (omega arith) same
           (λ k h. subst (λ (b : Bool). (c : ℕ) → (c ∈ members_by l v b k → c ∈ s k) × (c ∈ s k → c ∈ members_by l v b k))
-          (sym (told.back k h)) (members-told l w k h (fitted k h)))
+          (sym (told.back k h)) (members-told l w k h (all-fit l w told.accepted k h)))
 
       pub recover-stores : let ps = writes_in m.writes ++ clears l left in recover_of l w ≡ stores (ps ++ wipes l (run ps w))
       recover-stores = stores-told (clears l left) (clears-told l w left (joined s l.lists) (first_node l) l.nodes column)
@@ -173,10 +171,10 @@ module _ (l : Layout) (w : List ℕ) (m : Mends) (told : Mended l (view_of l w) 
       both = (and-eq-true_iff _ _).0 e
 
       pub listed : (k : ℕ) → k < l.lists → (c : ℕ) → c ∈ s k → Unlisted (get_or w (ident_at l c) 0) → ⊥
-      listed = all-carry l r w fitted (told.carried both.0)
+      listed = all-carry l r w (all-fit l w told.accepted) (told.carried both.0)
 
       pub unlisted : (c : ℕ) → Node l c → (c ∈ joined s l.lists → ⊥) → Unlisted (get_or w (ident_at l c) 0)
-      unlisted = nothing_left l r w fitted (told.carried both.0) (sym (told.members) ∙ eqb-true _ _ both.1)
+      unlisted = nothing_left l r w (all-fit l w told.accepted) (told.carried both.0) (sym (told.members) ∙ eqb-true _ _ both.1)
 
       pub recover-wipes : recover_of l w ≡ stores (writes_in m.writes ++ wipes l (run (writes_in m.writes) w))
       recover-wipes =
